@@ -4,7 +4,7 @@ ghost use Rattle.fs_layout.specs.declared.entry.Dirent.TheVariants.{Used};
 ghost use Rattle.fs_layout.specs.Name.{IsName};
 ghost use Rattle.fs_layout.specs.Entry.{spell_dirent};
 ghost use Rattle.fs_layout.specs.Widths.{bits_per_block};
-ghost use Rattle.atomic_programs.specs.Machines.{OnDone, Still, Left as LeftOf, stepped_at};
+ghost use Rattle.atomic_programs.specs.Machines.{Still, Left as LeftOf};
 ghost use Rattle.fs_tables.specs.declared.inodes.Inode.{Inode as InodeState};
 ghost use Rattle.sleep_lock.specs.SleepLock.{GuardState};
 ghost use Rattle.fs_machine.specs.Steps.{State, state_of};
@@ -12,13 +12,13 @@ ghost use Rattle.fs_machine.specs.Machines.{MayNext, Moves, Answers, CallsOnce};
 ghost use Rattle.fs_machine.specs.Tied.{LeavesTied};
 ghost use Rattle.inode_table.specs.Programs.{inode_block};
 ghost use Rattle.inode_data.specs.Beginnings.{begun_of, IfBegun};
-ghost use Rattle.inode_data.specs.Following.{Follows};
+ghost use Rattle.inode_data.specs.Following.{Follows, GoesOn};
 ghost use Rattle.inode_data.specs.PartWriting.{writer_of};
 ghost use Rattle.inode_data.specs.Records.{record_in, with_record};
-ghost use Rattle.inode_data.specs.declared.write_part.WritePart.TheVariants.{Gone};
 ghost use Rattle.directory.specs.Programs.{Unused, is_live_directory, most_slots};
 ghost use Rattle.directory.specs.Machines.{found_of, inode_of, search_of, SearchFits};
-ghost use Rattle.directory.specs.Entering.{enter, enter_at, enter_of, entered_of, enterer_of, in_entering, slot_for, slot_written, EnterFits, IsEntering};
+ghost use Rattle.directory.specs.Entering.{enter, enter_at, enter_of, entered_of, enterer_of, slot_for, slot_written, EnterFits, IsEntering};
+ghost use Rattle.directory.specs.declared.enter.Enter.TheVariants as enters;
 
 use crate::found::{Found, MOST_SLOTS, Sought, slot_count};
 use crate::search::{Search, Searched};
@@ -93,9 +93,10 @@ impl Enter {
             entry: entry_bytes(number, name),
             sizes: *sizes,
         };
+        // With `return` a result is copied once.
         match Search::begin(inode) {
-            Begun::Runs(search) => Begun::Runs(Enter::Searching(entering, search)),
-            Begun::Is(searched) => place(entering, searched),
+            Begun::Runs(search) => return Begun::Runs(Enter::Searching(entering, search)),
+            Begun::Is(searched) => return place(entering, searched),
         }
     }
 
@@ -120,15 +121,12 @@ impl Enter {
         ensures called { CallsOnce D.Called core.old.log.cache.device core.new.log.cache.device }
         ensures tables { core.new.tables ≡ core.old.tables }
     {
+        // With `return` a result is copied once.
         match self {
-            Enter::Searching(entering, search) => {
-                searching(entering, search.step(hart, Sought::Free, core))
-            }
-            Enter::Writing(entering, slot, part) => {
-                let mut part = part;
-                let came = part.step(hart, txn, &entering.entry, core);
-                writing(entering, slot, part, came)
-            }
+            Enter::Searching(entering, search) => return seek(entering, search, hart, core),
+            Enter::Writing(entering, slot, part) => return write(
+                entering, slot, part, hart, txn, core,
+            ),
         }
     }
 
@@ -180,11 +178,48 @@ fn place(entering: Entering, searched: Searched) -> Begun<Enter, Entered>
         });
     }
     let at = (DIRENT_LEN * slot) as u32;
-    let part = WritePart::begin(inode, &entering.sizes, at, DIRENT_LEN);
-    Begun::Runs(Enter::Writing(entering, slot, part))
+    Begun::Runs(Enter::Writing(
+        entering,
+        slot,
+        WritePart::begin(inode, &entering.sizes, at, DIRENT_LEN),
+    ))
 }
 
-// A step while a free slot is sought.
+// One operation while a free slot is sought.
+#[tactic(auto, unfolding(crate::specs::Entering::enter_of, crate::specs::Entering::EnterFits))]
+fn seek<D: Device>(
+    entering: Entering,
+    search: Search,
+    hart: u8,
+    core: &mut Core<D>,
+) -> Stepped<Enter, Entered, Kind>
+    requires may { MayNext hart (enter_of (enters.Searching entering search)) (state_of D.contents D.failures core.old) }
+    requires fits { EnterFits hart (state_of D.contents D.failures core.old) (enters.Searching entering search) }
+    ensures moves { Moves enter_of entered_of hart (enters.Searching entering search) result (state_of D.contents D.failures core.old) (state_of D.contents D.failures core.new) }
+    ensures honest { Answers enter_of hart (enters.Searching entering search) result (state_of D.contents D.failures core.old) (state_of D.contents D.failures core.new) }
+    ensures still { Still enter_of result (enters.Searching entering search) core.old core.new }
+    ensures inode { LeftOf (λ m. enterer_of m ≡ inode_of search) (λ r. r.inode ≡ with_record (record_in r.inode) (inode_of search)) result }
+    ensures fits { LeftOf (EnterFits hart (state_of D.contents D.failures core.new)) (λ _. Unit {0}) result }
+    ensures others { LeavesTied hart (state_of D.contents D.failures core.old) (state_of D.contents D.failures core.new) }
+    ensures called { CallsOnce D.Called core.old.log.cache.device core.new.log.cache.device }
+    ensures tables { core.new.tables ≡ core.old.tables }
+{
+    searching(entering, search.step(hart, Sought::Free, core))
+}
+
+// What the search's last step comes to.
+#[tactic(auto, unfolding(crate::specs::Entering::enter_of, crate::specs::Entering::EnterFits))]
+fn sought(entering: Entering, searched: Searched, kind: Kind) -> Stepped<Enter, Entered, Kind>
+    requires ready { IsEntering entering searched.inode.value.number }
+    requires loaded { IsSome searched.inode.value.content }
+    ensures goes { GoesOn enter_of entered_of kind (enter_at entering.sizes searched.inode.value.number (record_in searched.inode) entering.entry searched.found) result }
+    ensures inode { LeftOf (λ m. enterer_of m ≡ searched.inode) (λ r. r.inode ≡ searched.inode) result }
+    ensures fits { (hart : ℕ) (s : State) → LeftOf (EnterFits hart s) (λ _. Unit {0}) result }
+{
+    went_on(place(entering, searched), kind)
+}
+
+// What a step comes to while a free slot is sought.
 #[tactic(auto, unfolding(crate::specs::Entering::enter_of, crate::specs::Entering::EnterFits))]
 fn searching(
     entering: Entering,
@@ -196,36 +231,50 @@ fn searching(
     ensures inode { (guard : GuardState InodeState) → LeftOf (λ m. inode_of m ≡ guard) (λ r. r.inode ≡ guard) stepped → LeftOf (λ m. enterer_of m ≡ guard) (λ r. r.inode ≡ guard) result }
     ensures fits { (hart : ℕ) (s : State) → LeftOf (SearchFits hart s) (λ _. Unit {0}) stepped → LeftOf (EnterFits hart s) (λ _. Unit {0}) result }
 {
+    // With `return` a result is copied once.
     match stepped {
-        Stepped::Waits(search) => Stepped::Waits(Enter::Searching(entering, search)),
-        Stepped::Ran(search, kind) => Stepped::Ran(Enter::Searching(entering, search), kind),
-        Stepped::Done(searched, kind) => went_on(place(entering, searched), kind),
-        Stepped::Stopped(search) => Stepped::Stopped(Enter::Searching(entering, search)),
+        Stepped::Waits(search) => return Stepped::Waits(Enter::Searching(entering, search)),
+        Stepped::Ran(search, kind) => return Stepped::Ran(Enter::Searching(entering, search), kind),
+        Stepped::Done(searched, kind) => return sought(entering, searched, kind),
+        Stepped::Stopped(search) => return Stepped::Stopped(Enter::Searching(entering, search)),
     }
 }
 
-// A step while the slot is written.
-fn writing(
+// One operation while the slot is written.
+#[tactic(auto, unfolding(crate::specs::Entering::enter_of, crate::specs::Entering::EnterFits))]
+fn write<D: Device>(
     entering: Entering,
     slot: usize,
-    part: WritePart,
-    came: Came<PartWritten, Kind>,
+    mut part: WritePart,
+    hart: u8,
+    txn: &mut Txn,
+    core: &mut Core<D>,
 ) -> Stepped<Enter, Entered, Kind>
-    requires slot { slot < most_slots }
-    requires ended { OnDone came (part ≡ Gone) }
-    ensures { result ≡ in_entering entering slot (stepped_at part came) }
+    requires txn { txn.old ≡ hart }
+    requires may { MayNext hart (enter_of (enters.Writing entering slot part)) (state_of D.contents D.failures core.old) }
+    requires fits { EnterFits hart (state_of D.contents D.failures core.old) (enters.Writing entering slot part) }
+    ensures moves { Moves enter_of entered_of hart (enters.Writing entering slot part) result (state_of D.contents D.failures core.old) (state_of D.contents D.failures core.new) }
+    ensures honest { Answers enter_of hart (enters.Writing entering slot part) result (state_of D.contents D.failures core.old) (state_of D.contents D.failures core.new) }
+    ensures still { Still enter_of result (enters.Writing entering slot part) core.old core.new }
+    ensures kept { txn.new ≡ txn.old }
+    ensures inode { LeftOf (λ m. enterer_of m ≡ writer_of part) (λ r. r.inode ≡ with_record (record_in r.inode) (writer_of part)) result }
+    ensures fits { LeftOf (EnterFits hart (state_of D.contents D.failures core.new)) (λ _. Unit {0}) result }
+    ensures others { LeavesTied hart (state_of D.contents D.failures core.old) (state_of D.contents D.failures core.new) }
+    ensures called { CallsOnce D.Called core.old.log.cache.device core.new.log.cache.device }
+    ensures tables { core.new.tables ≡ core.old.tables }
 {
-    match came {
-        Came::Waits => Stepped::Waits(Enter::Writing(entering, slot, part)),
-        Came::Ran(kind) => Stepped::Ran(Enter::Writing(entering, slot, part), kind),
+    // With `return` a result is copied once.
+    match part.step(hart, txn, &entering.entry, core) {
+        Came::Waits => return Stepped::Waits(Enter::Writing(entering, slot, part)),
+        Came::Ran(kind) => return Stepped::Ran(Enter::Writing(entering, slot, part), kind),
         Came::Done(written, kind) => {
             match part {
                 WritePart::Gone => {}
                 _ => unreachable!(),
             }
-            Stepped::Done(slot_written(slot, written), kind)
+            return Stepped::Done(slot_written(slot, written), kind);
         }
-        Came::Stopped => Stepped::Stopped(Enter::Writing(entering, slot, part)),
+        Came::Stopped => return Stepped::Stopped(Enter::Writing(entering, slot, part)),
     }
 }
 

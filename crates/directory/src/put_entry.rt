@@ -15,6 +15,7 @@ ghost use Rattle.inode_table.specs.Programs.{inode_block};
 ghost use Rattle.inode_data.specs.Records.{record_in, with_record};
 ghost use Rattle.directory.specs.Programs.{most_slots, put_entry, with_dirent};
 ghost use Rattle.directory.specs.Putting.{entry_of, in_put_fetch, in_put_store, put_of, putter_of, slotted, IsPutting, PutFits};
+ghost use Rattle.directory.specs.declared.put_entry.PutEntry.TheVariants as putting;
 
 use atomic_programs::machines::Stepped;
 use block_device::Device;
@@ -110,14 +111,11 @@ impl PutEntry {
         ensures called { CallsOnce D.Called core.old.log.cache.device core.new.log.cache.device }
         ensures tables { core.new.tables ≡ core.old.tables }
     {
+        // With `return` a result is copied once.
         match self {
-            PutEntry::Fetching(at, fetch) => fetching(at, fetch.step(hart, core)),
-            PutEntry::There(at, guard) => {
-                put(at.slot % DIRENTS_PER_BLOCK, change, guard, hart, txn, core);
-                let store = StoreInode::new(at.inodestart, at.inode.value().number, slotted(&at));
-                Stepped::Ran(PutEntry::Storing(at, store), Kind::Put)
-            }
-            PutEntry::Storing(at, store) => storing(at, store.step(hart, txn, core)),
+            PutEntry::Fetching(at, fetch) => return fetching(at, fetch.step(hart, core)),
+            PutEntry::There(at, guard) => return write(at, guard, hart, txn, change, core),
+            PutEntry::Storing(at, store) => return storing(at, store.step(hart, txn, core)),
         }
     }
 
@@ -140,6 +138,35 @@ impl PutEntry {
     }
 }
 
+// The slot is written, and the store begins.
+#[tactic(auto, unfolding(crate::specs::Putting::put_of, crate::specs::Putting::PutFits, fs_machine::specs::Premises::Honest))]
+fn write<D: Device>(
+    at: Putting,
+    guard: Guard<Buffer>,
+    hart: u8,
+    txn: &mut Txn,
+    change: Change,
+    core: &mut Core<D>,
+) -> Stepped<PutEntry, Guard<Inode>, Kind>
+    requires txn { txn.old ≡ hart }
+    requires entry { IsDirent (entry_of change) }
+    requires may { MayNext hart (put_of (entry_of change) (putting.There at guard)) (state_of D.contents D.failures core.old) }
+    requires fits { PutFits hart (state_of D.contents D.failures core.old) (putting.There at guard) }
+    ensures moves { Moves (put_of (entry_of change.entry)) record_in hart (putting.There at guard) result (state_of D.contents D.failures core.old) (state_of D.contents D.failures core.new) }
+    ensures honest { Answers (put_of (entry_of change.entry)) hart (putting.There at guard) result (state_of D.contents D.failures core.old) (state_of D.contents D.failures core.new) }
+    ensures still { Still (put_of (entry_of change.entry)) result (putting.There at guard) core.old core.new }
+    ensures kept { txn.new ≡ txn.old }
+    ensures inode { LeftOf (λ m. putter_of m ≡ at.inode) (λ guard. guard ≡ with_record (record_in guard) at.inode) result }
+    ensures fits { LeftOf (PutFits hart (state_of D.contents D.failures core.new)) (λ _. Unit {0}) result }
+    ensures others { LeavesTied hart (state_of D.contents D.failures core.old) (state_of D.contents D.failures core.new) }
+    ensures called { CallsOnce D.Called core.old.log.cache.device core.new.log.cache.device }
+    ensures tables { core.new.tables ≡ core.old.tables }
+{
+    put(at.slot % DIRENTS_PER_BLOCK, change, guard, hart, txn, core);
+    let store = StoreInode::new(at.inodestart, at.inode.value().number, slotted(&at));
+    Stepped::Ran(PutEntry::Storing(at, store), Kind::Put)
+}
+
 // The directory's record with the slot.
 fn slotted(at: &Putting) -> Dinode
     requires { IsPutting at.now }
@@ -153,18 +180,19 @@ fn slotted(at: &Putting) -> Dinode
     }
 }
 
-// A fetch's step, while the slot's block is fetched.
+// What a fetch's step comes to, while the slot's block is fetched.
 fn fetching(
     at: Putting,
     stepped: Stepped<FetchBlock, Guard<Buffer>, Kind>,
 ) -> Stepped<PutEntry, Guard<Inode>, Kind>
     ensures { result ≡ in_put_fetch at stepped }
 {
+    // With `return` a result is copied once.
     match stepped {
-        Stepped::Waits(fetch) => Stepped::Waits(PutEntry::Fetching(at, fetch)),
-        Stepped::Ran(fetch, kind) => Stepped::Ran(PutEntry::Fetching(at, fetch), kind),
-        Stepped::Done(guard, kind) => Stepped::Ran(PutEntry::There(at, guard), kind),
-        Stepped::Stopped(fetch) => Stepped::Stopped(PutEntry::Fetching(at, fetch)),
+        Stepped::Waits(fetch) => return Stepped::Waits(PutEntry::Fetching(at, fetch)),
+        Stepped::Ran(fetch, kind) => return Stepped::Ran(PutEntry::Fetching(at, fetch), kind),
+        Stepped::Done(guard, kind) => return Stepped::Ran(PutEntry::There(at, guard), kind),
+        Stepped::Stopped(fetch) => return Stepped::Stopped(PutEntry::Fetching(at, fetch)),
     }
 }
 
@@ -176,20 +204,27 @@ fn storing(
     requires { IsPutting at }
     ensures { result ≡ in_put_store at stepped }
 {
+    // With `return` a result is copied once.
     match stepped {
-        Stepped::Waits(store) => Stepped::Waits(PutEntry::Storing(at, store)),
-        Stepped::Ran(store, kind) => Stepped::Ran(PutEntry::Storing(at, store), kind),
-        Stepped::Done(_, kind) => {
-            let record = slotted(&at);
-            let Putting {
-                inode,
-                inodestart: _,
-                slot: _,
-            } = at;
-            Stepped::Done(with_record(inode, record), kind)
-        }
-        Stepped::Stopped(store) => Stepped::Stopped(PutEntry::Storing(at, store)),
+        Stepped::Waits(store) => return Stepped::Waits(PutEntry::Storing(at, store)),
+        Stepped::Ran(store, kind) => return Stepped::Ran(PutEntry::Storing(at, store), kind),
+        Stepped::Done(_, kind) => return Stepped::Done(stored(at), kind),
+        Stepped::Stopped(store) => return Stepped::Stopped(PutEntry::Storing(at, store)),
     }
+}
+
+// The directory's guard after the store.
+fn stored(at: Putting) -> Guard<Inode>
+    requires { IsPutting at }
+    ensures { result ≡ with_record (slotted at) at.inode }
+{
+    let record = slotted(&at);
+    let Putting {
+        inode,
+        inodestart: _,
+        slot: _,
+    } = at;
+    with_record(inode, record)
 }
 
 // The guard with another record.

@@ -9,6 +9,7 @@ ghost use Rattle.inode_data.specs.Beginnings.{begun_of, IfBegun};
 ghost use Rattle.inode_data.specs.Widths.{most_blocks};
 ghost use Rattle.directory.specs.Programs.{Aim, Named, is_directory, is_live_directory, lookup, search, search_from};
 ghost use Rattle.directory.specs.Machines.{aim_of, found_of, in_search, inode_of, search_of, IsSlot, IsSought, SearchFits};
+ghost use Rattle.directory.specs.declared.search.Search.TheVariants as searching;
 
 use crate::found::{Found, Sought, block_count, found_in};
 use atomic_programs::machines::Stepped;
@@ -107,23 +108,10 @@ impl Search {
         ensures called { CallsOnce D.Called core.old.log.cache.device core.new.log.cache.device }
         ensures tables { core.new.tables ≡ core.old.tables }
     {
+        // With `return` a result is copied once.
         match self {
-            Search::Fetching(at, fetch) => fetching(at, fetch.step(hart, core)),
-            Search::There(at, guard) => {
-                let Searching { inode, block, left } = at;
-                let found = found_in(guard.value().bytes(), &record(&inode), block, sought);
-                core.put_back(hart, guard);
-                match found {
-                    Some(found) => Stepped::Done(
-                        Searched {
-                            inode,
-                            found: Some(found),
-                        },
-                        Kind::Put,
-                    ),
-                    None => went_on(next(inode, block + 1, left), Kind::Put),
-                }
-            }
+            Search::Fetching(at, fetch) => return fetching(at, fetch.step(hart, core)),
+            Search::There(at, guard) => return look(at, guard, hart, sought, core),
         }
     }
 
@@ -156,6 +144,44 @@ pub fn is_live_directory(inode: &Dinode) -> bool
     is_directory(inode) && inode.nlink > 0
 }
 
+// The block is looked at, and its buffer put back.
+#[tactic(auto, unfolding(crate::specs::Machines::search_of, crate::specs::Machines::SearchFits, fs_machine::specs::Premises::Honest))]
+fn look<D: Device>(
+    at: Searching,
+    guard: Guard<Buffer>,
+    hart: u8,
+    sought: Sought,
+    core: &mut Core<D>,
+) -> Stepped<Search, Searched, Kind>
+    requires sought { IsSought sought }
+    requires may { MayNext hart (search_of (aim_of sought) (searching.There at guard)) (state_of D.contents D.failures core.old) }
+    requires fits { SearchFits hart (state_of D.contents D.failures core.old) (searching.There at guard) }
+    ensures moves { Moves (search_of (aim_of sought.entry)) found_of hart (searching.There at guard) result (state_of D.contents D.failures core.old) (state_of D.contents D.failures core.new) }
+    ensures honest { Answers (search_of (aim_of sought.entry)) hart (searching.There at guard) result (state_of D.contents D.failures core.old) (state_of D.contents D.failures core.new) }
+    ensures still { Still (search_of (aim_of sought.entry)) result (searching.There at guard) core.old core.new }
+    ensures inode { LeftOf (λ m. inode_of m ≡ at.inode) (λ r. r.inode ≡ at.inode) result }
+    ensures slot { LeftOf (λ _. Unit {0}) (λ r. IsSlot r.found) result }
+    ensures fits { LeftOf (SearchFits hart (state_of D.contents D.failures core.new)) (λ _. Unit {0}) result }
+    ensures others { LeavesTied hart (state_of D.contents D.failures core.old) (state_of D.contents D.failures core.new) }
+    ensures called { CallsOnce D.Called core.old.log.cache.device core.new.log.cache.device }
+    ensures tables { core.new.tables ≡ core.old.tables }
+{
+    let Searching { inode, block, left } = at;
+    let found = found_in(guard.value().bytes(), &record(&inode), block, sought);
+    core.put_back(hart, guard);
+    // With `return` a result is copied once.
+    match found {
+        Some(found) => return Stepped::Done(
+            Searched {
+                inode,
+                found: Some(found),
+            },
+            Kind::Put,
+        ),
+        None => return went_on(next(inode, block + 1, left), Kind::Put),
+    }
+}
+
 // So many blocks from one on.
 #[tactic(auto, unfolding(crate::specs::Machines::search_of, crate::specs::Machines::SearchFits, crate::specs::Programs::search_from))]
 fn next(inode: Guard<Inode>, block: usize, left: usize) -> Begun<Search, Searched>
@@ -178,17 +204,18 @@ fn next(inode: Guard<Inode>, block: usize, left: usize) -> Begun<Search, Searche
     Begun::Runs(Search::Fetching(at, fetch))
 }
 
-// A fetch's step, while the next block is fetched.
+// What a fetch's step comes to, while the next block is fetched.
 fn fetching(
     at: Searching,
     stepped: Stepped<FetchBlock, Guard<Buffer>, Kind>,
 ) -> Stepped<Search, Searched, Kind>
     ensures { result ≡ in_search at stepped }
 {
+    // With `return` a result is copied once.
     match stepped {
-        Stepped::Waits(fetch) => Stepped::Waits(Search::Fetching(at, fetch)),
-        Stepped::Ran(fetch, kind) => Stepped::Ran(Search::Fetching(at, fetch), kind),
-        Stepped::Done(guard, kind) => Stepped::Ran(Search::There(at, guard), kind),
-        Stepped::Stopped(fetch) => Stepped::Stopped(Search::Fetching(at, fetch)),
+        Stepped::Waits(fetch) => return Stepped::Waits(Search::Fetching(at, fetch)),
+        Stepped::Ran(fetch, kind) => return Stepped::Ran(Search::Fetching(at, fetch), kind),
+        Stepped::Done(guard, kind) => return Stepped::Ran(Search::There(at, guard), kind),
+        Stepped::Stopped(fetch) => return Stepped::Stopped(Search::Fetching(at, fetch)),
     }
 }

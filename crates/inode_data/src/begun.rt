@@ -16,8 +16,9 @@ pub enum Begun<M, R> {
 pub fn went_on<M, R, K>(begun: Begun<M, R>, kind: K) -> Stepped<M, R, K>
     ensures { result ≡ went_on_as begun kind }
 {
+    // With `return` a result is copied once.
     match begun {
-        Begun::Runs(machine) => Stepped::Ran(machine, kind),
-        Begun::Is(outcome) => Stepped::Done(outcome, kind),
+        Begun::Runs(machine) => return Stepped::Ran(machine, kind),
+        Begun::Is(outcome) => return Stepped::Done(outcome, kind),
     }
 }

@@ -10,6 +10,7 @@ ghost use Rattle.fs_machine.specs.Fetching.{IsFetched};
 ghost use Rattle.inode_data.specs.Widths.{most_blocks};
 ghost use Rattle.inode_data.specs.Programs.{fetch_block, fetch_number};
 ghost use Rattle.inode_data.specs.Machines.{block_fetch_of, fetched_in, BlockFetchFits, in_table_fetch, in_block_fetch};
+ghost use Rattle.inode_data.specs.declared.fetch_block.FetchBlock.TheVariants as fetching;
 
 use crate::addresses::{Address, DIRECT, address_of};
 use atomic_programs::machines::Stepped;
@@ -61,14 +62,11 @@ impl FetchBlock {
         ensures called { CallsOnce D.Called core.old.log.cache.device core.new.log.cache.device }
         ensures tables { core.new.tables ≡ core.old.tables }
     {
+        // With `return` a result is copied once.
         match self {
-            FetchBlock::Table(i, fetch) => in_table(i, fetch.step(hart, core)),
-            FetchBlock::Number(i, guard) => {
-                let number = number_in(&guard, i);
-                core.put_back(hart, guard);
-                Stepped::Ran(fetch_numbered(number), Kind::Put)
-            }
-            FetchBlock::Block(fetch) => in_block(fetch.step(hart, core)),
+            FetchBlock::Table(i, fetch) => return fetch_table(i, fetch, hart, core),
+            FetchBlock::Number(i, guard) => return take_number(i, guard, hart, core),
+            FetchBlock::Block(fetch) => return fetch_itself(fetch, hart, core),
         }
     }
 
@@ -80,6 +78,70 @@ impl FetchBlock {
             FetchBlock::Block(fetch) => fetch.retire(retired),
         }
     }
+}
+
+// One operation while the indirect block is fetched.
+#[tactic(auto, unfolding(crate::specs::Machines::block_fetch_of, crate::specs::Machines::BlockFetchFits, fs_machine::specs::Premises::Honest))]
+fn fetch_table<D: Device>(
+    place: usize,
+    fetch: Fetch,
+    hart: u8,
+    core: &mut Core<D>,
+) -> Stepped<FetchBlock, Guard<Buffer>, Kind>
+    requires may { MayNext hart (block_fetch_of (fetching.Table place fetch)) (state_of D.contents D.failures core.old) }
+    requires fits { BlockFetchFits hart (state_of D.contents D.failures core.old) (fetching.Table place fetch) }
+    ensures moves { Moves block_fetch_of fetched_in hart (fetching.Table place fetch) result (state_of D.contents D.failures core.old) (state_of D.contents D.failures core.new) }
+    ensures honest { Answers block_fetch_of hart (fetching.Table place fetch) result (state_of D.contents D.failures core.old) (state_of D.contents D.failures core.new) }
+    ensures still { Still block_fetch_of result (fetching.Table place fetch) core.old core.new }
+    ensures fits { LeftOf (BlockFetchFits hart (state_of D.contents D.failures core.new)) (λ guard. IsFetched hart guard.value.block guard (state_of D.contents D.failures core.new)) result }
+    ensures others { LeavesTied hart (state_of D.contents D.failures core.old) (state_of D.contents D.failures core.new) }
+    ensures called { CallsOnce D.Called core.old.log.cache.device core.new.log.cache.device }
+    ensures tables { core.new.tables ≡ core.old.tables }
+{
+    in_table(place, fetch.step(hart, core))
+}
+
+// The number is taken from the indirect block, whose buffer is put back.
+#[tactic(auto, unfolding(crate::specs::Machines::block_fetch_of, crate::specs::Machines::BlockFetchFits, fs_machine::specs::Premises::Honest))]
+fn take_number<D: Device>(
+    place: usize,
+    guard: Guard<Buffer>,
+    hart: u8,
+    core: &mut Core<D>,
+) -> Stepped<FetchBlock, Guard<Buffer>, Kind>
+    requires may { MayNext hart (block_fetch_of (fetching.Number place guard)) (state_of D.contents D.failures core.old) }
+    requires fits { BlockFetchFits hart (state_of D.contents D.failures core.old) (fetching.Number place guard) }
+    ensures moves { Moves block_fetch_of fetched_in hart (fetching.Number place guard) result (state_of D.contents D.failures core.old) (state_of D.contents D.failures core.new) }
+    ensures honest { Answers block_fetch_of hart (fetching.Number place guard) result (state_of D.contents D.failures core.old) (state_of D.contents D.failures core.new) }
+    ensures still { Still block_fetch_of result (fetching.Number place guard) core.old core.new }
+    ensures fits { LeftOf (BlockFetchFits hart (state_of D.contents D.failures core.new)) (λ guard. IsFetched hart guard.value.block guard (state_of D.contents D.failures core.new)) result }
+    ensures others { LeavesTied hart (state_of D.contents D.failures core.old) (state_of D.contents D.failures core.new) }
+    ensures called { CallsOnce D.Called core.old.log.cache.device core.new.log.cache.device }
+    ensures tables { core.new.tables ≡ core.old.tables }
+{
+    let number = number_in(&guard, place);
+    core.put_back(hart, guard);
+    Stepped::Ran(fetch_numbered(number), Kind::Put)
+}
+
+// One operation while the block is fetched.
+#[tactic(auto, unfolding(crate::specs::Machines::block_fetch_of, crate::specs::Machines::BlockFetchFits, fs_machine::specs::Premises::Honest))]
+fn fetch_itself<D: Device>(
+    fetch: Fetch,
+    hart: u8,
+    core: &mut Core<D>,
+) -> Stepped<FetchBlock, Guard<Buffer>, Kind>
+    requires may { MayNext hart (block_fetch_of (fetching.Block fetch)) (state_of D.contents D.failures core.old) }
+    requires fits { BlockFetchFits hart (state_of D.contents D.failures core.old) (fetching.Block fetch) }
+    ensures moves { Moves block_fetch_of fetched_in hart (fetching.Block fetch) result (state_of D.contents D.failures core.old) (state_of D.contents D.failures core.new) }
+    ensures honest { Answers block_fetch_of hart (fetching.Block fetch) result (state_of D.contents D.failures core.old) (state_of D.contents D.failures core.new) }
+    ensures still { Still block_fetch_of result (fetching.Block fetch) core.old core.new }
+    ensures fits { LeftOf (BlockFetchFits hart (state_of D.contents D.failures core.new)) (λ guard. IsFetched hart guard.value.block guard (state_of D.contents D.failures core.new)) result }
+    ensures others { LeavesTied hart (state_of D.contents D.failures core.old) (state_of D.contents D.failures core.new) }
+    ensures called { CallsOnce D.Called core.old.log.cache.device core.new.log.cache.device }
+    ensures tables { core.new.tables ≡ core.old.tables }
+{
+    in_block(fetch.step(hart, core))
 }
 
 // The block of this number.
@@ -100,31 +162,33 @@ fn number_in(guard: &Guard<Buffer>, place: usize) -> u32
     read_number(guard.value().bytes(), place)
 }
 
-// A fetch's step, while the indirect block is fetched.
+// What a fetch's step comes to, while the indirect block is fetched.
 fn in_table(
     place: usize,
     stepped: Stepped<Fetch, Guard<Buffer>, Kind>,
 ) -> Stepped<FetchBlock, Guard<Buffer>, Kind>
     ensures { result ≡ in_table_fetch place stepped }
 {
+    // With `return` a result is copied once.
     match stepped {
-        Stepped::Waits(fetch) => Stepped::Waits(FetchBlock::Table(place, fetch)),
-        Stepped::Ran(fetch, kind) => Stepped::Ran(FetchBlock::Table(place, fetch), kind),
-        Stepped::Done(guard, kind) => Stepped::Ran(FetchBlock::Number(place, guard), kind),
-        Stepped::Stopped(fetch) => Stepped::Stopped(FetchBlock::Table(place, fetch)),
+        Stepped::Waits(fetch) => return Stepped::Waits(FetchBlock::Table(place, fetch)),
+        Stepped::Ran(fetch, kind) => return Stepped::Ran(FetchBlock::Table(place, fetch), kind),
+        Stepped::Done(guard, kind) => return Stepped::Ran(FetchBlock::Number(place, guard), kind),
+        Stepped::Stopped(fetch) => return Stepped::Stopped(FetchBlock::Table(place, fetch)),
     }
 }
 
-// A fetch's step, while the block is fetched.
+// What a fetch's step comes to, while the block is fetched.
 fn in_block(
     stepped: Stepped<Fetch, Guard<Buffer>, Kind>,
 ) -> Stepped<FetchBlock, Guard<Buffer>, Kind>
     ensures { result ≡ in_block_fetch stepped }
 {
+    // With `return` a result is copied once.
     match stepped {
-        Stepped::Waits(fetch) => Stepped::Waits(FetchBlock::Block(fetch)),
-        Stepped::Ran(fetch, kind) => Stepped::Ran(FetchBlock::Block(fetch), kind),
-        Stepped::Done(guard, kind) => Stepped::Done(guard, kind),
-        Stepped::Stopped(fetch) => Stepped::Stopped(FetchBlock::Block(fetch)),
+        Stepped::Waits(fetch) => return Stepped::Waits(FetchBlock::Block(fetch)),
+        Stepped::Ran(fetch, kind) => return Stepped::Ran(FetchBlock::Block(fetch), kind),
+        Stepped::Done(guard, kind) => return Stepped::Done(guard, kind),
+        Stepped::Stopped(fetch) => return Stepped::Stopped(FetchBlock::Block(fetch)),
     }
 }

@@ -9,6 +9,7 @@ ghost use Rattle.inode_table.specs.Programs.{inode_block};
 ghost use Rattle.inode_data.specs.Records.{record_in};
 ghost use Rattle.inode_data.specs.Freeing.{freed, free_inode};
 ghost use Rattle.inode_data.specs.Dropping.{free_inode_of, FreeInodeFits, FreeApart, in_truncating, in_freed_storing, unloaded};
+ghost use Rattle.inode_data.specs.declared.freeing.FreeInode.TheVariants as freeing;
 
 use crate::records::record;
 use crate::truncation::Truncate;
@@ -70,30 +71,19 @@ impl FreeInode {
         ensures called { CallsOnce D.Called core.old.log.cache.device core.new.log.cache.device }
         ensures rest { LeavesApart FreeApart (λ _ _. Unit {0}) (IsOwnInode hart) self result (state_of D.contents D.failures core.old) (state_of D.contents D.failures core.new) }
     {
+        // With `return` a result is copied once.
         match self {
-            FreeInode::Truncating(reference, inodestart, truncate) => truncating(
-                reference,
-                inodestart,
-                truncate.step(hart, txn, core),
+            FreeInode::Truncating(reference, inodestart, m) => return truncate(
+                reference, inodestart, m, hart, txn, core,
             ),
-            FreeInode::Emptied(reference, inodestart, guard) => {
-                let inode = free(record(&guard));
-                let store = StoreInode::new(inodestart, reference.number(), inode);
-                storing(reference, guard, store.step(hart, txn, core))
-            }
-            FreeInode::Storing(reference, guard, store) => storing(
-                reference,
-                guard,
-                store.step(hart, txn, core),
+            FreeInode::Emptied(reference, inodestart, guard) => return begin_store(
+                reference, inodestart, guard, hart, txn, core,
             ),
-            FreeInode::Unlocking(reference, guard) => {
-                core.unlock(hart, guard);
-                Stepped::Ran(FreeInode::Dropping(reference), Kind::Unlock)
-            }
-            FreeInode::Dropping(reference) => {
-                core.drop_freed(hart, reference);
-                Stepped::Done((), Kind::Down)
-            }
+            FreeInode::Storing(reference, guard, m) => return store(
+                reference, guard, m, hart, txn, core,
+            ),
+            FreeInode::Unlocking(reference, guard) => return unlock(reference, guard, hart, core),
+            FreeInode::Dropping(reference) => return go_down(reference, hart, core),
         }
     }
 
@@ -122,6 +112,126 @@ impl FreeInode {
     }
 }
 
+// One operation while the inode is emptied.
+#[tactic(auto, unfolding(crate::specs::Dropping::free_inode_of, crate::specs::Dropping::FreeInodeFits, fs_machine::specs::Premises::Honest))]
+fn truncate<D: Device>(
+    reference: Reference,
+    inodestart: u32,
+    m: Truncate,
+    hart: u8,
+    txn: &mut Txn,
+    core: &mut Core<D>,
+) -> Stepped<FreeInode, (), Kind>
+    requires txn { txn.old ≡ hart }
+    requires may { MayNext hart (free_inode_of (freeing.Truncating reference inodestart m)) (state_of D.contents D.failures core.old) }
+    requires fits { FreeInodeFits hart (state_of D.contents D.failures core.old) (freeing.Truncating reference inodestart m) }
+    ensures moves { Moves free_inode_of (λ x. x) hart (freeing.Truncating reference inodestart m) result (state_of D.contents D.failures core.old) (state_of D.contents D.failures core.new) }
+    ensures honest { Answers free_inode_of hart (freeing.Truncating reference inodestart m) result (state_of D.contents D.failures core.old) (state_of D.contents D.failures core.new) }
+    ensures still { Still free_inode_of result (freeing.Truncating reference inodestart m) core.old core.new }
+    ensures kept { txn.new ≡ txn.old }
+    ensures fits { LeftOf (FreeInodeFits hart (state_of D.contents D.failures core.new)) (λ _. Unit {0}) result }
+    ensures others { LeavesTied hart (state_of D.contents D.failures core.old) (state_of D.contents D.failures core.new) }
+    ensures called { CallsOnce D.Called core.old.log.cache.device core.new.log.cache.device }
+    ensures rest { LeavesApart FreeApart (λ _ _. Unit {0}) (IsOwnInode hart) (freeing.Truncating reference inodestart m) result (state_of D.contents D.failures core.old) (state_of D.contents D.failures core.new) }
+{
+    truncating(reference, inodestart, m.step(hart, txn, core))
+}
+
+// The first operation of its store, after it was emptied.
+#[tactic(auto, unfolding(crate::specs::Dropping::free_inode_of, crate::specs::Dropping::FreeInodeFits, fs_machine::specs::Premises::Honest))]
+fn begin_store<D: Device>(
+    reference: Reference,
+    inodestart: u32,
+    guard: Guard<Inode>,
+    hart: u8,
+    txn: &mut Txn,
+    core: &mut Core<D>,
+) -> Stepped<FreeInode, (), Kind>
+    requires txn { txn.old ≡ hart }
+    requires may { MayNext hart (free_inode_of (freeing.Emptied reference inodestart guard)) (state_of D.contents D.failures core.old) }
+    requires fits { FreeInodeFits hart (state_of D.contents D.failures core.old) (freeing.Emptied reference inodestart guard) }
+    ensures moves { Moves free_inode_of (λ x. x) hart (freeing.Emptied reference inodestart guard) result (state_of D.contents D.failures core.old) (state_of D.contents D.failures core.new) }
+    ensures honest { Answers free_inode_of hart (freeing.Emptied reference inodestart guard) result (state_of D.contents D.failures core.old) (state_of D.contents D.failures core.new) }
+    ensures still { Still free_inode_of result (freeing.Emptied reference inodestart guard) core.old core.new }
+    ensures kept { txn.new ≡ txn.old }
+    ensures fits { LeftOf (FreeInodeFits hart (state_of D.contents D.failures core.new)) (λ _. Unit {0}) result }
+    ensures others { LeavesTied hart (state_of D.contents D.failures core.old) (state_of D.contents D.failures core.new) }
+    ensures called { CallsOnce D.Called core.old.log.cache.device core.new.log.cache.device }
+    ensures rest { LeavesApart FreeApart (λ _ _. Unit {0}) (IsOwnInode hart) (freeing.Emptied reference inodestart guard) result (state_of D.contents D.failures core.old) (state_of D.contents D.failures core.new) }
+{
+    let inode = free(record(&guard));
+    let store = StoreInode::new(inodestart, reference.number(), inode);
+    storing(reference, guard, store.step(hart, txn, core))
+}
+
+// One operation while the inode is stored.
+#[tactic(auto, unfolding(crate::specs::Dropping::free_inode_of, crate::specs::Dropping::FreeInodeFits, fs_machine::specs::Premises::Honest))]
+fn store<D: Device>(
+    reference: Reference,
+    guard: Guard<Inode>,
+    m: StoreInode,
+    hart: u8,
+    txn: &mut Txn,
+    core: &mut Core<D>,
+) -> Stepped<FreeInode, (), Kind>
+    requires txn { txn.old ≡ hart }
+    requires may { MayNext hart (free_inode_of (freeing.Storing reference guard m)) (state_of D.contents D.failures core.old) }
+    requires fits { FreeInodeFits hart (state_of D.contents D.failures core.old) (freeing.Storing reference guard m) }
+    ensures moves { Moves free_inode_of (λ x. x) hart (freeing.Storing reference guard m) result (state_of D.contents D.failures core.old) (state_of D.contents D.failures core.new) }
+    ensures honest { Answers free_inode_of hart (freeing.Storing reference guard m) result (state_of D.contents D.failures core.old) (state_of D.contents D.failures core.new) }
+    ensures still { Still free_inode_of result (freeing.Storing reference guard m) core.old core.new }
+    ensures kept { txn.new ≡ txn.old }
+    ensures fits { LeftOf (FreeInodeFits hart (state_of D.contents D.failures core.new)) (λ _. Unit {0}) result }
+    ensures others { LeavesTied hart (state_of D.contents D.failures core.old) (state_of D.contents D.failures core.new) }
+    ensures called { CallsOnce D.Called core.old.log.cache.device core.new.log.cache.device }
+    ensures rest { LeavesApart FreeApart (λ _ _. Unit {0}) (IsOwnInode hart) (freeing.Storing reference guard m) result (state_of D.contents D.failures core.old) (state_of D.contents D.failures core.new) }
+{
+    storing(reference, guard, m.step(hart, txn, core))
+}
+
+// The lock is given back.
+#[tactic(auto, unfolding(crate::specs::Dropping::free_inode_of, crate::specs::Dropping::FreeInodeFits, fs_machine::specs::Premises::Honest))]
+fn unlock<D: Device>(
+    reference: Reference,
+    guard: Guard<Inode>,
+    hart: u8,
+    core: &mut Core<D>,
+) -> Stepped<FreeInode, (), Kind>
+    requires may { MayNext hart (free_inode_of (freeing.Unlocking reference guard)) (state_of D.contents D.failures core.old) }
+    requires fits { FreeInodeFits hart (state_of D.contents D.failures core.old) (freeing.Unlocking reference guard) }
+    ensures moves { Moves free_inode_of (λ x. x) hart (freeing.Unlocking reference guard) result (state_of D.contents D.failures core.old) (state_of D.contents D.failures core.new) }
+    ensures honest { Answers free_inode_of hart (freeing.Unlocking reference guard) result (state_of D.contents D.failures core.old) (state_of D.contents D.failures core.new) }
+    ensures still { Still free_inode_of result (freeing.Unlocking reference guard) core.old core.new }
+    ensures fits { LeftOf (FreeInodeFits hart (state_of D.contents D.failures core.new)) (λ _. Unit {0}) result }
+    ensures others { LeavesTied hart (state_of D.contents D.failures core.old) (state_of D.contents D.failures core.new) }
+    ensures called { CallsOnce D.Called core.old.log.cache.device core.new.log.cache.device }
+    ensures rest { LeavesApart FreeApart (λ _ _. Unit {0}) (IsOwnInode hart) (freeing.Unlocking reference guard) result (state_of D.contents D.failures core.old) (state_of D.contents D.failures core.new) }
+{
+    core.unlock(hart, guard);
+    Stepped::Ran(FreeInode::Dropping(reference), Kind::Unlock)
+}
+
+// The reference goes.
+#[tactic(auto, unfolding(crate::specs::Dropping::free_inode_of, crate::specs::Dropping::FreeInodeFits, fs_machine::specs::Premises::Honest))]
+fn go_down<D: Device>(
+    reference: Reference,
+    hart: u8,
+    core: &mut Core<D>,
+) -> Stepped<FreeInode, (), Kind>
+    requires may { MayNext hart (free_inode_of (freeing.Dropping reference)) (state_of D.contents D.failures core.old) }
+    requires fits { FreeInodeFits hart (state_of D.contents D.failures core.old) (freeing.Dropping reference) }
+    ensures moves { Moves free_inode_of (λ x. x) hart (freeing.Dropping reference) result (state_of D.contents D.failures core.old) (state_of D.contents D.failures core.new) }
+    ensures honest { Answers free_inode_of hart (freeing.Dropping reference) result (state_of D.contents D.failures core.old) (state_of D.contents D.failures core.new) }
+    ensures still { Still free_inode_of result (freeing.Dropping reference) core.old core.new }
+    ensures fits { LeftOf (FreeInodeFits hart (state_of D.contents D.failures core.new)) (λ _. Unit {0}) result }
+    ensures others { LeavesTied hart (state_of D.contents D.failures core.old) (state_of D.contents D.failures core.new) }
+    ensures called { CallsOnce D.Called core.old.log.cache.device core.new.log.cache.device }
+    ensures rest { LeavesApart FreeApart (λ _ _. Unit {0}) (IsOwnInode hart) (freeing.Dropping reference) result (state_of D.contents D.failures core.old) (state_of D.contents D.failures core.new) }
+{
+    core.drop_freed(hart, reference);
+    Stepped::Done((), Kind::Down)
+}
+
 // The record of an inode that may be taken.
 fn free(inode: Dinode) -> Dinode
     ensures { result ≡ freed inode }
@@ -129,7 +239,7 @@ fn free(inode: Dinode) -> Dinode
     Dinode { kind: 0, ..inode }
 }
 
-// A step while the inode is emptied.
+// What a step comes to while the inode is emptied.
 fn truncating(
     reference: Reference,
     inodestart: u32,
@@ -137,21 +247,24 @@ fn truncating(
 ) -> Stepped<FreeInode, (), Kind>
     ensures { result ≡ in_truncating reference inodestart stepped }
 {
+    // With `return` a result is copied once.
     match stepped {
-        Stepped::Waits(m) => Stepped::Waits(FreeInode::Truncating(reference, inodestart, m)),
-        Stepped::Ran(m, kind) => Stepped::Ran(
+        Stepped::Waits(m) => return Stepped::Waits(FreeInode::Truncating(reference, inodestart, m)),
+        Stepped::Ran(m, kind) => return Stepped::Ran(
             FreeInode::Truncating(reference, inodestart, m),
             kind,
         ),
-        Stepped::Done(guard, kind) => Stepped::Ran(
+        Stepped::Done(guard, kind) => return Stepped::Ran(
             FreeInode::Emptied(reference, inodestart, guard),
             kind,
         ),
-        Stepped::Stopped(m) => Stepped::Stopped(FreeInode::Truncating(reference, inodestart, m)),
+        Stepped::Stopped(m) => return Stepped::Stopped(FreeInode::Truncating(
+            reference, inodestart, m,
+        )),
     }
 }
 
-// A step while the inode is stored.
+// What a step comes to while the inode is stored.
 fn storing(
     reference: Reference,
     guard: Guard<Inode>,
@@ -159,14 +272,15 @@ fn storing(
 ) -> Stepped<FreeInode, (), Kind>
     ensures { result ≡ in_freed_storing reference guard stepped }
 {
+    // With `return` a result is copied once.
     match stepped {
-        Stepped::Waits(m) => Stepped::Waits(FreeInode::Storing(reference, guard, m)),
-        Stepped::Ran(m, kind) => Stepped::Ran(FreeInode::Storing(reference, guard, m), kind),
-        Stepped::Done((), kind) => Stepped::Ran(
+        Stepped::Waits(m) => return Stepped::Waits(FreeInode::Storing(reference, guard, m)),
+        Stepped::Ran(m, kind) => return Stepped::Ran(FreeInode::Storing(reference, guard, m), kind),
+        Stepped::Done((), kind) => return Stepped::Ran(
             FreeInode::Unlocking(reference, unload(guard)),
             kind,
         ),
-        Stepped::Stopped(m) => Stepped::Stopped(FreeInode::Storing(reference, guard, m)),
+        Stepped::Stopped(m) => return Stepped::Stopped(FreeInode::Storing(reference, guard, m)),
     }
 }
 

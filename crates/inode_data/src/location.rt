@@ -113,13 +113,14 @@ impl Locate {
         ensures kept { txn.new ≡ txn.old }
         ensures tables { core.new.tables ≡ core.old.tables }
     {
+        // With `return` a result is copied once.
         match self {
-            Locate::Direct(_, _, _) => self.take_direct(hart, txn, core),
-            Locate::NewTable(_, _, _) => self.take_table(hart, txn, core),
-            Locate::Table(_, _, _) => self.fetch_table(hart, core),
-            Locate::Entry(_, _, _) => self.look(hart, txn, core),
-            Locate::NewEntry(_, _, _, _) => self.take_entry(hart, txn, core),
-            Locate::Name(_, _, _, _) => self.name(hart, txn, core),
+            Locate::Direct(_, _, _) => return self.take_direct(hart, txn, core),
+            Locate::NewTable(_, _, _) => return self.take_table(hart, txn, core),
+            Locate::Table(_, _, _) => return self.fetch_table(hart, core),
+            Locate::Entry(_, _, _) => return self.look(hart, txn, core),
+            Locate::NewEntry(_, _, _, _) => return self.take_entry(hart, txn, core),
+            Locate::Name(_, _, _, _) => return self.name(hart, txn, core),
             Locate::Gone => unreachable!(),
         }
     }

@@ -105,9 +105,10 @@ impl ReadPart {
         ensures inode { LeftOf (λ m. reader_of m ≡ reader_of self.old) (λ r. r.inode ≡ reader_of self.old) (stepped_at self.new result) }
         ensures tables { core.new.tables ≡ core.old.tables }
     {
+        // With `return` a result is copied once.
         match self {
-            ReadPart::Fetching(_, _) => self.fetch(hart, core),
-            ReadPart::There(_, _) => self.copy(hart, core),
+            ReadPart::Fetching(_, _) => return self.fetch(hart, core),
+            ReadPart::There(_, _) => return self.copy(hart, core),
             ReadPart::Gone => unreachable!(),
         }
     }
@@ -122,24 +123,25 @@ impl ReadPart {
         ensures inode { LeftOf (λ m. reader_of m ≡ reader_of self.old) (λ r. r.inode ≡ reader_of self.old) (stepped_at self.new result) }
         ensures tables { core.new.tables ≡ core.old.tables }
     {
+        // With `return` a result is copied once.
         match self {
             ReadPart::Fetching(_, place) => match mem::replace(place, None) {
                 Some(fetch) => match fetch.step(hart, core) {
                     Stepped::Waits(fetch) => {
                         put(place, fetch);
-                        Came::Waits
+                        return Came::Waits;
                     }
                     Stepped::Ran(fetch, kind) => {
                         put(place, fetch);
-                        Came::Ran(kind)
+                        return Came::Ran(kind);
                     }
                     Stepped::Done(guard, kind) => {
                         self.there(guard);
-                        Came::Ran(kind)
+                        return Came::Ran(kind);
                     }
                     Stepped::Stopped(fetch) => {
                         put(place, fetch);
-                        Came::Stopped
+                        return Came::Stopped;
                     }
                 },
                 None => unreachable!(),
@@ -175,6 +177,7 @@ impl ReadPart {
         ensures inode { LeftOf (λ m. reader_of m ≡ reader_of self.old) (λ r. r.inode ≡ reader_of self.old) (stepped_at self.new result) }
         ensures tables { core.new.tables ≡ core.old.tables }
     {
+        // With `return` a result is copied once.
         match mem::replace(self, ReadPart::Gone) {
             ReadPart::There(mut reading, guard) => {
                 after(&mut reading, guard.value().bytes());
@@ -182,9 +185,9 @@ impl ReadPart {
                 match next(reading) {
                     Begun::Runs(part) => {
                         self.put(part);
-                        Came::Ran(Kind::Put)
+                        return Came::Ran(Kind::Put);
                     }
-                    Begun::Is(reading) => Came::Done(reading, Kind::Put),
+                    Begun::Is(reading) => return Came::Done(reading, Kind::Put),
                 }
             }
             _ => unreachable!(),

@@ -14,7 +14,8 @@ ghost use Rattle.inode_table.specs.Programs.{inode_block};
 ghost use Rattle.inode_data.specs.Records.{record_in, with_record};
 ghost use Rattle.inode_data.specs.Widths.{direct};
 ghost use Rattle.inode_data.specs.Freeing.{truncate, without_content};
-ghost use Rattle.inode_data.specs.Truncating.{IsNext, IsEmptying, IsReady, own_rest, indirect_rest, listed_rest, record_rest, running_of, StillRuns, truncate_of, emptied_of, RunningFits, TruncateFits, in_own_freeing, in_indirect_fetch, in_listed_freeing, in_table_freeing, in_record_storing};
+ghost use Rattle.inode_data.specs.Truncating.{IsNext, IsEmptying, IsReady, own_rest, indirect_rest, listed_rest, record_rest, clearing_of, running_of, StillRuns, truncate_of, emptied_of, ClearingFits, RunningFits, TruncateFits, in_own_freeing, in_indirect_fetch, in_listed_freeing, in_table_freeing, in_record_storing};
+ghost use Rattle.inode_data.specs.declared.truncation.Clearing.TheVariants as clearing;
 
 use crate::addresses::DIRECT;
 use crate::records::record;
@@ -146,11 +147,12 @@ impl Truncate {
         ensures inode { result.emptying.inode ≡ emptied_of self }
         ensures fits { (hart : ℕ) (s : State) → TruncateFits hart s self → RunningFits hart s result }
     {
+        // With `return` a result is copied once.
         match self {
-            Truncate::Own(emptying, from) => free_own(emptying, from),
-            Truncate::Listed(emptying, table, from) => free_listed(emptying, table, from),
-            Truncate::Record(emptying) => store_record(emptying),
-            Truncate::Runs(running) => running,
+            Truncate::Own(emptying, from) => return free_own(emptying, from),
+            Truncate::Listed(emptying, table, from) => return free_listed(emptying, table, from),
+            Truncate::Record(emptying) => return store_record(emptying),
+            Truncate::Runs(running) => return running,
         }
     }
 
@@ -195,22 +197,179 @@ impl Running {
         ensures tables { core.new.tables ≡ core.old.tables }
     {
         let Running { emptying, clearing } = self;
+        // With `return` a result is copied once.
         match clearing {
-            Clearing::Own(place, freeing) => in_own(emptying, place, freeing.step(hart, txn, core)),
-            Clearing::Indirect(fetch) => in_indirect(emptying, fetch.step(hart, core)),
-            Clearing::Listed(table, place, freeing) => {
-                let stepped = freeing.step(hart, txn, core);
-                in_listed(emptying, table, place, stepped)
-            }
-            Clearing::GiveBack(table) => {
-                let number = table.value().block();
-                core.put_back(hart, table);
-                Stepped::Ran(free_table(emptying, number), Kind::Put)
-            }
-            Clearing::Table(freeing) => in_table(emptying, freeing.step(hart, txn, core)),
-            Clearing::Record(store) => in_record(emptying, store.step(hart, txn, core)),
+            Clearing::Own(place, m) => return clear_own(emptying, place, m, hart, txn, core),
+            Clearing::Indirect(m) => return fetch_indirect(emptying, m, hart, core),
+            Clearing::Listed(table, place, m) => return clear_listed(
+                emptying, table, place, m, hart, txn, core,
+            ),
+            Clearing::GiveBack(table) => return put_back(emptying, table, hart, core),
+            Clearing::Table(m) => return clear_table(emptying, m, hart, txn, core),
+            Clearing::Record(m) => return put_record(emptying, m, hart, txn, core),
         }
     }
+}
+
+// One operation while a block is given back whose number stands in the inode.
+#[tactic(auto, unfolding(crate::specs::Truncating::clearing_of, crate::specs::Truncating::truncate_of, crate::specs::Truncating::ClearingFits, crate::specs::Truncating::TruncateFits, fs_machine::specs::Premises::Honest))]
+fn clear_own<D: Device>(
+    emptying: Emptying,
+    place: usize,
+    m: FreeBlock,
+    hart: u8,
+    txn: &mut Txn,
+    core: &mut Core<D>,
+) -> Stepped<Truncate, Guard<Inode>, Kind>
+    requires emptying { IsEmptying emptying }
+    requires txn { txn.old ≡ hart }
+    requires may { MayNext hart (clearing_of emptying (clearing.Own place m)) (state_of D.contents D.failures core.old) }
+    requires fits { ClearingFits hart (state_of D.contents D.failures core.old) (clearing.Own place m) }
+    ensures moves { advance kind_of (exec hart (said_in result (state_of D.contents D.failures core.new))) (clearing_of emptying (clearing.Own place m)) (state_of D.contents D.failures core.old)
+        ≡ moved_to truncate_of record_in result (state_of D.contents D.failures core.new) }
+    ensures honest { OfNext (λ op s. Honest hart op s (said_in result (state_of D.contents D.failures core.new))) (asks (clearing_of emptying (clearing.Own place m))) (state_of D.contents D.failures core.old) }
+    ensures still { StillRuns (record { emptying = emptying; clearing = clearing.Own place m }) result core.old core.new }
+    ensures kept { txn.new ≡ txn.old }
+    ensures inode { LeftOf (λ m. emptied_of m ≡ emptying.inode) (λ guard. guard ≡ with_record (record_in guard) emptying.inode) result }
+    ensures fits { LeftOf (TruncateFits hart (state_of D.contents D.failures core.new)) (λ _. Unit {0}) result }
+    ensures others { LeavesTied hart (state_of D.contents D.failures core.old) (state_of D.contents D.failures core.new) }
+    ensures called { CallsOnce D.Called core.old.log.cache.device core.new.log.cache.device }
+    ensures tables { core.new.tables ≡ core.old.tables }
+{
+    in_own(emptying, place, m.step(hart, txn, core))
+}
+
+// One operation while the indirect block is fetched.
+#[tactic(auto, unfolding(crate::specs::Truncating::clearing_of, crate::specs::Truncating::truncate_of, crate::specs::Truncating::ClearingFits, crate::specs::Truncating::TruncateFits, fs_machine::specs::Premises::Honest))]
+fn fetch_indirect<D: Device>(
+    emptying: Emptying,
+    m: Fetch,
+    hart: u8,
+    core: &mut Core<D>,
+) -> Stepped<Truncate, Guard<Inode>, Kind>
+    requires emptying { IsEmptying emptying }
+    requires may { MayNext hart (clearing_of emptying (clearing.Indirect m)) (state_of D.contents D.failures core.old) }
+    requires fits { ClearingFits hart (state_of D.contents D.failures core.old) (clearing.Indirect m) }
+    ensures moves { advance kind_of (exec hart (said_in result (state_of D.contents D.failures core.new))) (clearing_of emptying (clearing.Indirect m)) (state_of D.contents D.failures core.old)
+        ≡ moved_to truncate_of record_in result (state_of D.contents D.failures core.new) }
+    ensures honest { OfNext (λ op s. Honest hart op s (said_in result (state_of D.contents D.failures core.new))) (asks (clearing_of emptying (clearing.Indirect m))) (state_of D.contents D.failures core.old) }
+    ensures still { StillRuns (record { emptying = emptying; clearing = clearing.Indirect m }) result core.old core.new }
+    ensures inode { LeftOf (λ m. emptied_of m ≡ emptying.inode) (λ guard. guard ≡ with_record (record_in guard) emptying.inode) result }
+    ensures fits { LeftOf (TruncateFits hart (state_of D.contents D.failures core.new)) (λ _. Unit {0}) result }
+    ensures others { LeavesTied hart (state_of D.contents D.failures core.old) (state_of D.contents D.failures core.new) }
+    ensures called { CallsOnce D.Called core.old.log.cache.device core.new.log.cache.device }
+    ensures tables { core.new.tables ≡ core.old.tables }
+{
+    in_indirect(emptying, m.step(hart, core))
+}
+
+// One operation while a block is given back whose number stands in the indirect block.
+#[tactic(auto, unfolding(crate::specs::Truncating::clearing_of, crate::specs::Truncating::truncate_of, crate::specs::Truncating::ClearingFits, crate::specs::Truncating::TruncateFits, fs_machine::specs::Premises::Honest))]
+fn clear_listed<D: Device>(
+    emptying: Emptying,
+    table: Guard<Buffer>,
+    place: usize,
+    m: FreeBlock,
+    hart: u8,
+    txn: &mut Txn,
+    core: &mut Core<D>,
+) -> Stepped<Truncate, Guard<Inode>, Kind>
+    requires emptying { IsEmptying emptying }
+    requires txn { txn.old ≡ hart }
+    requires may { MayNext hart (clearing_of emptying (clearing.Listed table place m)) (state_of D.contents D.failures core.old) }
+    requires fits { ClearingFits hart (state_of D.contents D.failures core.old) (clearing.Listed table place m) }
+    ensures moves { advance kind_of (exec hart (said_in result (state_of D.contents D.failures core.new))) (clearing_of emptying (clearing.Listed table place m)) (state_of D.contents D.failures core.old)
+        ≡ moved_to truncate_of record_in result (state_of D.contents D.failures core.new) }
+    ensures honest { OfNext (λ op s. Honest hart op s (said_in result (state_of D.contents D.failures core.new))) (asks (clearing_of emptying (clearing.Listed table place m))) (state_of D.contents D.failures core.old) }
+    ensures still { StillRuns (record { emptying = emptying; clearing = clearing.Listed table place m }) result core.old core.new }
+    ensures kept { txn.new ≡ txn.old }
+    ensures inode { LeftOf (λ m. emptied_of m ≡ emptying.inode) (λ guard. guard ≡ with_record (record_in guard) emptying.inode) result }
+    ensures fits { LeftOf (TruncateFits hart (state_of D.contents D.failures core.new)) (λ _. Unit {0}) result }
+    ensures others { LeavesTied hart (state_of D.contents D.failures core.old) (state_of D.contents D.failures core.new) }
+    ensures called { CallsOnce D.Called core.old.log.cache.device core.new.log.cache.device }
+    ensures tables { core.new.tables ≡ core.old.tables }
+{
+    in_listed(emptying, table, place, m.step(hart, txn, core))
+}
+
+// The indirect block's buffer goes back.
+#[tactic(auto, unfolding(crate::specs::Truncating::clearing_of, crate::specs::Truncating::truncate_of, crate::specs::Truncating::ClearingFits, crate::specs::Truncating::TruncateFits, fs_machine::specs::Premises::Honest))]
+fn put_back<D: Device>(
+    emptying: Emptying,
+    table: Guard<Buffer>,
+    hart: u8,
+    core: &mut Core<D>,
+) -> Stepped<Truncate, Guard<Inode>, Kind>
+    requires emptying { IsEmptying emptying }
+    requires may { MayNext hart (clearing_of emptying (clearing.GiveBack table)) (state_of D.contents D.failures core.old) }
+    requires fits { ClearingFits hart (state_of D.contents D.failures core.old) (clearing.GiveBack table) }
+    ensures moves { advance kind_of (exec hart (said_in result (state_of D.contents D.failures core.new))) (clearing_of emptying (clearing.GiveBack table)) (state_of D.contents D.failures core.old)
+        ≡ moved_to truncate_of record_in result (state_of D.contents D.failures core.new) }
+    ensures honest { OfNext (λ op s. Honest hart op s (said_in result (state_of D.contents D.failures core.new))) (asks (clearing_of emptying (clearing.GiveBack table))) (state_of D.contents D.failures core.old) }
+    ensures still { StillRuns (record { emptying = emptying; clearing = clearing.GiveBack table }) result core.old core.new }
+    ensures inode { LeftOf (λ m. emptied_of m ≡ emptying.inode) (λ guard. guard ≡ with_record (record_in guard) emptying.inode) result }
+    ensures fits { LeftOf (TruncateFits hart (state_of D.contents D.failures core.new)) (λ _. Unit {0}) result }
+    ensures others { LeavesTied hart (state_of D.contents D.failures core.old) (state_of D.contents D.failures core.new) }
+    ensures called { CallsOnce D.Called core.old.log.cache.device core.new.log.cache.device }
+    ensures tables { core.new.tables ≡ core.old.tables }
+{
+    let number = table.value().block();
+    core.put_back(hart, table);
+    Stepped::Ran(free_table(emptying, number), Kind::Put)
+}
+
+// One operation while the indirect block itself is given back.
+#[tactic(auto, unfolding(crate::specs::Truncating::clearing_of, crate::specs::Truncating::truncate_of, crate::specs::Truncating::ClearingFits, crate::specs::Truncating::TruncateFits, fs_machine::specs::Premises::Honest))]
+fn clear_table<D: Device>(
+    emptying: Emptying,
+    m: FreeBlock,
+    hart: u8,
+    txn: &mut Txn,
+    core: &mut Core<D>,
+) -> Stepped<Truncate, Guard<Inode>, Kind>
+    requires emptying { IsEmptying emptying }
+    requires txn { txn.old ≡ hart }
+    requires may { MayNext hart (clearing_of emptying (clearing.Table m)) (state_of D.contents D.failures core.old) }
+    requires fits { ClearingFits hart (state_of D.contents D.failures core.old) (clearing.Table m) }
+    ensures moves { advance kind_of (exec hart (said_in result (state_of D.contents D.failures core.new))) (clearing_of emptying (clearing.Table m)) (state_of D.contents D.failures core.old)
+        ≡ moved_to truncate_of record_in result (state_of D.contents D.failures core.new) }
+    ensures honest { OfNext (λ op s. Honest hart op s (said_in result (state_of D.contents D.failures core.new))) (asks (clearing_of emptying (clearing.Table m))) (state_of D.contents D.failures core.old) }
+    ensures still { StillRuns (record { emptying = emptying; clearing = clearing.Table m }) result core.old core.new }
+    ensures kept { txn.new ≡ txn.old }
+    ensures inode { LeftOf (λ m. emptied_of m ≡ emptying.inode) (λ guard. guard ≡ with_record (record_in guard) emptying.inode) result }
+    ensures fits { LeftOf (TruncateFits hart (state_of D.contents D.failures core.new)) (λ _. Unit {0}) result }
+    ensures others { LeavesTied hart (state_of D.contents D.failures core.old) (state_of D.contents D.failures core.new) }
+    ensures called { CallsOnce D.Called core.old.log.cache.device core.new.log.cache.device }
+    ensures tables { core.new.tables ≡ core.old.tables }
+{
+    in_table(emptying, m.step(hart, txn, core))
+}
+
+// One operation while the record is stored.
+#[tactic(auto, unfolding(crate::specs::Truncating::clearing_of, crate::specs::Truncating::truncate_of, crate::specs::Truncating::ClearingFits, crate::specs::Truncating::TruncateFits, fs_machine::specs::Premises::Honest))]
+fn put_record<D: Device>(
+    emptying: Emptying,
+    m: StoreInode,
+    hart: u8,
+    txn: &mut Txn,
+    core: &mut Core<D>,
+) -> Stepped<Truncate, Guard<Inode>, Kind>
+    requires emptying { IsEmptying emptying }
+    requires txn { txn.old ≡ hart }
+    requires may { MayNext hart (clearing_of emptying (clearing.Record m)) (state_of D.contents D.failures core.old) }
+    requires fits { ClearingFits hart (state_of D.contents D.failures core.old) (clearing.Record m) }
+    ensures moves { advance kind_of (exec hart (said_in result (state_of D.contents D.failures core.new))) (clearing_of emptying (clearing.Record m)) (state_of D.contents D.failures core.old)
+        ≡ moved_to truncate_of record_in result (state_of D.contents D.failures core.new) }
+    ensures honest { OfNext (λ op s. Honest hart op s (said_in result (state_of D.contents D.failures core.new))) (asks (clearing_of emptying (clearing.Record m))) (state_of D.contents D.failures core.old) }
+    ensures still { StillRuns (record { emptying = emptying; clearing = clearing.Record m }) result core.old core.new }
+    ensures kept { txn.new ≡ txn.old }
+    ensures inode { LeftOf (λ m. emptied_of m ≡ emptying.inode) (λ guard. guard ≡ with_record (record_in guard) emptying.inode) result }
+    ensures fits { LeftOf (TruncateFits hart (state_of D.contents D.failures core.new)) (λ _. Unit {0}) result }
+    ensures others { LeavesTied hart (state_of D.contents D.failures core.old) (state_of D.contents D.failures core.new) }
+    ensures called { CallsOnce D.Called core.old.log.cache.device core.new.log.cache.device }
+    ensures tables { core.new.tables ≡ core.old.tables }
+{
+    in_record(emptying, m.step(hart, txn, core))
 }
 
 // The next of the inode's own block numbers, from a place on.
@@ -346,7 +505,7 @@ fn without(inode: Dinode) -> Dinode
     }
 }
 
-// A step while a block is given back whose number stands in the inode.
+// What a step comes to while a block is given back whose number stands in the inode.
 fn in_own(
     emptying: Emptying,
     place: usize,
@@ -355,54 +514,59 @@ fn in_own(
     requires { place < direct }
     ensures { result ≡ in_own_freeing emptying place stepped }
 {
+    // With `return` a result is copied once.
     match stepped {
-        Stepped::Waits(m) => Stepped::Waits(Truncate::Runs(Running {
+        Stepped::Waits(m) => return Stepped::Waits(Truncate::Runs(Running {
             emptying,
             clearing: Clearing::Own(place, m),
         })),
-        Stepped::Ran(m, kind) => Stepped::Ran(
+        Stepped::Ran(m, kind) => return Stepped::Ran(
             Truncate::Runs(Running {
                 emptying,
                 clearing: Clearing::Own(place, m),
             }),
             kind,
         ),
-        Stepped::Done((), kind) => Stepped::Ran(Truncate::Own(emptying, place + 1), kind),
-        Stepped::Stopped(m) => Stepped::Stopped(Truncate::Runs(Running {
+        Stepped::Done((), kind) => return Stepped::Ran(Truncate::Own(emptying, place + 1), kind),
+        Stepped::Stopped(m) => return Stepped::Stopped(Truncate::Runs(Running {
             emptying,
             clearing: Clearing::Own(place, m),
         })),
     }
 }
 
-// A step while the indirect block is fetched.
+// What a step comes to while the indirect block is fetched.
 fn in_indirect(
     emptying: Emptying,
     stepped: Stepped<Fetch, Guard<Buffer>, Kind>,
 ) -> Stepped<Truncate, Guard<Inode>, Kind>
     ensures { result ≡ in_indirect_fetch emptying stepped }
 {
+    // With `return` a result is copied once.
     match stepped {
-        Stepped::Waits(m) => Stepped::Waits(Truncate::Runs(Running {
+        Stepped::Waits(m) => return Stepped::Waits(Truncate::Runs(Running {
             emptying,
             clearing: Clearing::Indirect(m),
         })),
-        Stepped::Ran(m, kind) => Stepped::Ran(
+        Stepped::Ran(m, kind) => return Stepped::Ran(
             Truncate::Runs(Running {
                 emptying,
                 clearing: Clearing::Indirect(m),
             }),
             kind,
         ),
-        Stepped::Done(table, kind) => Stepped::Ran(Truncate::Listed(emptying, table, 0), kind),
-        Stepped::Stopped(m) => Stepped::Stopped(Truncate::Runs(Running {
+        Stepped::Done(table, kind) => return Stepped::Ran(
+            Truncate::Listed(emptying, table, 0),
+            kind,
+        ),
+        Stepped::Stopped(m) => return Stepped::Stopped(Truncate::Runs(Running {
             emptying,
             clearing: Clearing::Indirect(m),
         })),
     }
 }
 
-// A step while a block is given back whose number stands in the indirect block.
+// What a step comes to while a block is given back whose number stands in the indirect block.
 fn in_listed(
     emptying: Emptying,
     table: Guard<Buffer>,
@@ -412,54 +576,59 @@ fn in_listed(
     requires { place < numbers_per_block }
     ensures { result ≡ in_listed_freeing emptying table place stepped }
 {
+    // With `return` a result is copied once.
     match stepped {
-        Stepped::Waits(m) => Stepped::Waits(Truncate::Runs(Running {
+        Stepped::Waits(m) => return Stepped::Waits(Truncate::Runs(Running {
             emptying,
             clearing: Clearing::Listed(table, place, m),
         })),
-        Stepped::Ran(m, kind) => Stepped::Ran(
+        Stepped::Ran(m, kind) => return Stepped::Ran(
             Truncate::Runs(Running {
                 emptying,
                 clearing: Clearing::Listed(table, place, m),
             }),
             kind,
         ),
-        Stepped::Done((), kind) => Stepped::Ran(Truncate::Listed(emptying, table, place + 1), kind),
-        Stepped::Stopped(m) => Stepped::Stopped(Truncate::Runs(Running {
+        Stepped::Done((), kind) => return Stepped::Ran(
+            Truncate::Listed(emptying, table, place + 1),
+            kind,
+        ),
+        Stepped::Stopped(m) => return Stepped::Stopped(Truncate::Runs(Running {
             emptying,
             clearing: Clearing::Listed(table, place, m),
         })),
     }
 }
 
-// A step while the indirect block itself is given back.
+// What a step comes to while the indirect block itself is given back.
 fn in_table(
     emptying: Emptying,
     stepped: Stepped<FreeBlock, (), Kind>,
 ) -> Stepped<Truncate, Guard<Inode>, Kind>
     ensures { result ≡ in_table_freeing emptying stepped }
 {
+    // With `return` a result is copied once.
     match stepped {
-        Stepped::Waits(m) => Stepped::Waits(Truncate::Runs(Running {
+        Stepped::Waits(m) => return Stepped::Waits(Truncate::Runs(Running {
             emptying,
             clearing: Clearing::Table(m),
         })),
-        Stepped::Ran(m, kind) => Stepped::Ran(
+        Stepped::Ran(m, kind) => return Stepped::Ran(
             Truncate::Runs(Running {
                 emptying,
                 clearing: Clearing::Table(m),
             }),
             kind,
         ),
-        Stepped::Done((), kind) => Stepped::Ran(Truncate::Record(emptying), kind),
-        Stepped::Stopped(m) => Stepped::Stopped(Truncate::Runs(Running {
+        Stepped::Done((), kind) => return Stepped::Ran(Truncate::Record(emptying), kind),
+        Stepped::Stopped(m) => return Stepped::Stopped(Truncate::Runs(Running {
             emptying,
             clearing: Clearing::Table(m),
         })),
     }
 }
 
-// A step while the record is stored.
+// What a step comes to while the record is stored.
 fn in_record(
     emptying: Emptying,
     stepped: Stepped<StoreInode, (), Kind>,
@@ -467,20 +636,21 @@ fn in_record(
     requires { IsSome emptying.inode.value.content }
     ensures { result ≡ in_record_storing emptying stepped }
 {
+    // With `return` a result is copied once.
     match stepped {
-        Stepped::Waits(m) => Stepped::Waits(Truncate::Runs(Running {
+        Stepped::Waits(m) => return Stepped::Waits(Truncate::Runs(Running {
             emptying,
             clearing: Clearing::Record(m),
         })),
-        Stepped::Ran(m, kind) => Stepped::Ran(
+        Stepped::Ran(m, kind) => return Stepped::Ran(
             Truncate::Runs(Running {
                 emptying,
                 clearing: Clearing::Record(m),
             }),
             kind,
         ),
-        Stepped::Done((), kind) => Stepped::Done(emptied(emptying), kind),
-        Stepped::Stopped(m) => Stepped::Stopped(Truncate::Runs(Running {
+        Stepped::Done((), kind) => return Stepped::Done(emptied(emptying), kind),
+        Stepped::Stopped(m) => return Stepped::Stopped(Truncate::Runs(Running {
             emptying,
             clearing: Clearing::Record(m),
         })),

@@ -1,5 +1,5 @@
 //! Bytes of a content written.
-ghost use Rattle.std.specs.Prelude.{◌≡◌, ◌+◌, ◌/◌, ◌<◌, ◌≤◌, ◌^◌, ℕ, List, drop, length, Some, IsSome};
+ghost use Rattle.std.specs.Prelude.{◌≡◌, ◌≢◌, ◌+◌, ◌/◌, ◌<◌, ◌≤◌, ◌^◌, ℕ, List, drop, length, Some, IsSome};
 ghost use Rattle.fs_layout.specs.Widths.{bits_per_block};
 ghost use Rattle.atomic_programs.specs.Prog.{Ran as ItRan, bind};
 ghost use Rattle.atomic_programs.specs.Machines.{Left as LeftOf, stepped_at};
@@ -126,11 +126,12 @@ impl WritePart {
         ensures inode { LeftOf (λ m. writer_of m ≡ writer_of self.old) (λ r. r.inode ≡ with_record (record_in r.inode) (writer_of self.old)) (stepped_at self.new result) }
         ensures tables { core.new.tables ≡ core.old.tables }
     {
+        // With `return` a result is copied once.
         match self {
-            WritePart::Locating(_, _) => self.locate(hart, txn, bytes, core),
-            WritePart::Fetching(_, _) => self.fetch(hart, bytes, core),
-            WritePart::There(_, _) => self.write(hart, txn, bytes, core),
-            WritePart::Storing(_, _) => self.store(hart, txn, bytes, core),
+            WritePart::Locating(_, _) => return self.locate(hart, txn, bytes, core),
+            WritePart::Fetching(_, _) => return self.fetch(hart, bytes, core),
+            WritePart::There(_, _) => return self.write(hart, txn, bytes, core),
+            WritePart::Storing(_, _) => return self.store(hart, txn, bytes, core),
             WritePart::Gone => unreachable!(),
         }
     }
@@ -227,10 +228,11 @@ impl WritePart {
         ensures tables { core.new.tables ≡ core.old.tables }
     {
         match mem::replace(self, WritePart::Gone) {
-            WritePart::There(writing, guard) => {
+            WritePart::There(mut writing, guard) => {
                 let part = rest(bytes, writing.done);
                 put(writing.at, part, guard, hart, txn, core);
-                self.put(next(past(writing, bytes.len())));
+                pass(&mut writing, bytes.len());
+                self.put(next(writing));
                 Came::Ran(Kind::Put)
             }
             _ => unreachable!(),
@@ -383,11 +385,24 @@ fn next(writing: Writing) -> WritePart
     if writing.left == 0 {
         return store(writing);
     }
+    seek(writing)
+}
+
+// Goes on with the next block, which is sought.
+#[tactic(auto, unfolding(crate::specs::PartWriting::write_of, crate::specs::PartWriting::WriteFits))]
+fn seek(writing: Writing) -> WritePart
+    requires ready { IsWriting writing.left writing }
+    requires some { writing.left ≢ 0 }
+    ensures program { (bytes : List ℕ) → write_of bytes result ≡ write_rest writing bytes }
+    ensures inode { writer_of result ≡ writing.inode }
+    ensures fits { (hart : ℕ) (bytes : List ℕ) (s : State) → writing.done ≤ length bytes → WriteFits hart bytes s result }
+{
     let mut writing = writing;
     writing.left -= 1;
+    // With `return` a result is copied once.
     match Locate::begin(&writing.so_far, &writing.sizes, writing.at / BLOCK_LEN) {
-        Begun::Runs(locate) => WritePart::Locating(writing, locate),
-        Begun::Is(located) => found(writing, located),
+        Begun::Runs(locate) => return WritePart::Locating(writing, locate),
+        Begun::Is(located) => return found(writing, located),
     }
 }
 
@@ -401,9 +416,10 @@ fn found(writing: Writing, located: Located) -> WritePart
 {
     let mut writing = writing;
     writing.so_far = located.inode;
+    // With `return` a result is copied once.
     match located.number {
-        None => store(writing),
-        Some(b) => WritePart::Fetching(writing, Some(Fetch::Get(b))),
+        None => return store(writing),
+        Some(b) => return WritePart::Fetching(writing, Some(Fetch::Get(b))),
     }
 }
 
@@ -431,17 +447,15 @@ fn store(writing: Writing) -> WritePart
     WritePart::Storing(writing, Some(store))
 }
 
-// The writing after the next block was written, of so many bytes in all.
-fn past(writing: Writing, count: usize) -> Writing
-    requires ready { IsWriting (writing.left + 1) writing }
-    requires there { writing.done ≤ count }
-    ensures { (bytes : List ℕ) → length bytes ≡ count → IsPast writing bytes result }
+// Goes past the next block after it was written, of so many bytes in all.
+fn pass(writing: &mut Writing, count: usize)
+    requires ready { IsWriting (writing.old.left + 1) writing.old }
+    requires there { writing.old.done ≤ count }
+    ensures { (bytes : List ℕ) → length bytes ≡ count → IsPast writing.old bytes writing.new }
 {
-    let mut writing = writing;
     let part = (BLOCK_LEN - writing.at % BLOCK_LEN).min(count - writing.done);
     writing.at += part;
     writing.done += part;
-    writing
 }
 
 // The inode was stored.

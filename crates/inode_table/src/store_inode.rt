@@ -10,6 +10,7 @@ ghost use Rattle.fs_machine.specs.Tied.{LeavesTied, bytes_of};
 ghost use Rattle.fs_machine.specs.Fetching.{IsFetched};
 ghost use Rattle.inode_table.specs.Programs.{inode_block, with_dinode, store};
 ghost use Rattle.inode_table.specs.Machines.{store_of, StoreFits, in_storing};
+ghost use Rattle.inode_table.specs.declared.store_inode.StoreInode.TheVariants as stores;
 
 use crate::place::{block_of, write_in};
 use atomic_programs::machines::Stepped;
@@ -59,16 +60,14 @@ impl StoreInode {
         ensures called { CallsOnce D.Called core.old.log.cache.device core.new.log.cache.device }
         ensures tables { core.new.tables ≡ core.old.tables }
     {
+        // With `return` a result is copied once.
         match self {
-            StoreInode::Fetching(number, inode, fetch) => storing(
-                number,
-                inode,
-                fetch.step(hart, core),
+            StoreInode::Fetching(number, inode, fetch) => return fetch_its_block(
+                number, inode, fetch, hart, core,
             ),
-            StoreInode::Write(number, inode, guard) => {
-                write(number, inode, guard, hart, txn, core);
-                Stepped::Done((), Kind::Put)
-            }
+            StoreInode::Write(number, inode, guard) => return record(
+                number, inode, guard, hart, txn, core,
+            ),
         }
     }
 
@@ -81,7 +80,55 @@ impl StoreInode {
     }
 }
 
-// A fetch's step, while the inode's block is fetched.
+// One operation while the inode's block is fetched.
+#[tactic(auto, unfolding(crate::specs::Machines::store_of, crate::specs::Machines::StoreFits, fs_machine::specs::Premises::Honest))]
+fn fetch_its_block<D: Device>(
+    number: u32,
+    inode: Dinode,
+    fetch: Fetch,
+    hart: u8,
+    core: &mut Core<D>,
+) -> Stepped<StoreInode, (), Kind>
+    requires may { MayNext hart (store_of (stores.Fetching number inode fetch)) (state_of D.contents D.failures core.old) }
+    requires fits { StoreFits hart (state_of D.contents D.failures core.old) (stores.Fetching number inode fetch) }
+    ensures moves { Moves store_of (λ x. x) hart (stores.Fetching number inode fetch) result (state_of D.contents D.failures core.old) (state_of D.contents D.failures core.new) }
+    ensures honest { Answers store_of hart (stores.Fetching number inode fetch) result (state_of D.contents D.failures core.old) (state_of D.contents D.failures core.new) }
+    ensures still { Still store_of result (stores.Fetching number inode fetch) core.old core.new }
+    ensures fits { LeftOf (StoreFits hart (state_of D.contents D.failures core.new)) (λ _. Unit {0}) result }
+    ensures others { LeavesTied hart (state_of D.contents D.failures core.old) (state_of D.contents D.failures core.new) }
+    ensures called { CallsOnce D.Called core.old.log.cache.device core.new.log.cache.device }
+    ensures tables { core.new.tables ≡ core.old.tables }
+{
+    storing(number, inode, fetch.step(hart, core))
+}
+
+// The inode is recorded in its block.
+#[tactic(auto, unfolding(crate::specs::Machines::store_of, crate::specs::Machines::StoreFits, fs_machine::specs::Premises::Honest))]
+fn record<D: Device>(
+    number: u32,
+    inode: Dinode,
+    guard: Guard<Buffer>,
+    hart: u8,
+    txn: &mut Txn,
+    core: &mut Core<D>,
+) -> Stepped<StoreInode, (), Kind>
+    requires txn { txn.old ≡ hart }
+    requires may { MayNext hart (store_of (stores.Write number inode guard)) (state_of D.contents D.failures core.old) }
+    requires fits { StoreFits hart (state_of D.contents D.failures core.old) (stores.Write number inode guard) }
+    ensures moves { Moves store_of (λ x. x) hart (stores.Write number inode guard) result (state_of D.contents D.failures core.old) (state_of D.contents D.failures core.new) }
+    ensures honest { Answers store_of hart (stores.Write number inode guard) result (state_of D.contents D.failures core.old) (state_of D.contents D.failures core.new) }
+    ensures still { Still store_of result (stores.Write number inode guard) core.old core.new }
+    ensures kept { txn.new ≡ txn.old }
+    ensures fits { LeftOf (StoreFits hart (state_of D.contents D.failures core.new)) (λ _. Unit {0}) result }
+    ensures others { LeavesTied hart (state_of D.contents D.failures core.old) (state_of D.contents D.failures core.new) }
+    ensures called { CallsOnce D.Called core.old.log.cache.device core.new.log.cache.device }
+    ensures tables { core.new.tables ≡ core.old.tables }
+{
+    write(number, inode, guard, hart, txn, core);
+    Stepped::Done((), Kind::Put)
+}
+
+// What a fetch's step comes to, while the inode's block is fetched.
 fn storing(
     number: u32,
     inode: Dinode,
@@ -89,11 +136,20 @@ fn storing(
 ) -> Stepped<StoreInode, (), Kind>
     ensures { result ≡ in_storing number inode stepped }
 {
+    // With `return` a result is copied once.
     match stepped {
-        Stepped::Waits(fetch) => Stepped::Waits(StoreInode::Fetching(number, inode, fetch)),
-        Stepped::Ran(fetch, kind) => Stepped::Ran(StoreInode::Fetching(number, inode, fetch), kind),
-        Stepped::Done(guard, kind) => Stepped::Ran(StoreInode::Write(number, inode, guard), kind),
-        Stepped::Stopped(fetch) => Stepped::Stopped(StoreInode::Fetching(number, inode, fetch)),
+        Stepped::Waits(fetch) => return Stepped::Waits(StoreInode::Fetching(number, inode, fetch)),
+        Stepped::Ran(fetch, kind) => return Stepped::Ran(
+            StoreInode::Fetching(number, inode, fetch),
+            kind,
+        ),
+        Stepped::Done(guard, kind) => return Stepped::Ran(
+            StoreInode::Write(number, inode, guard),
+            kind,
+        ),
+        Stepped::Stopped(fetch) => return Stepped::Stopped(StoreInode::Fetching(
+            number, inode, fetch,
+        )),
     }
 }
 

@@ -119,13 +119,6 @@ found_as way d guard (Some found) = walking.Up way d guard found.number
 abbrev pub found_state : Way → ℕ → Searched → Walk
 found_state way d r = found_as way d r.inode r.found
 
--- its state ends with its one operation
-abbrev pub IsPassing : Walk → Type 0
-IsPassing (walking.Lock way d) = ⊥
-IsPassing (walking.Load way d guard m) = ⊥
-IsPassing (walking.Lookup way d m) = ⊥
-IsPassing _ = Unit {0}
-
 -- its directory's lock was taken, by this guard
 abbrev pub HasLocked : List ℕ → GuardState Inode → Walk → Type 0
 HasLocked path guard (walking.Lock way d) = IsWay path way × (guard.value.number ≡ d)

@@ -1,5 +1,7 @@
 //! A path walked.
 ghost use Rattle.std.specs.Prelude.{◌≡◌, ◌≢◌, ◌^◌, ◌<◌, ◌≤◌, ◌+◌, ℕ, List, drop, length, All, IsSome};
+ghost use Rattle.sleep_lock.specs.SleepLock.{GuardState};
+ghost use Rattle.fs_tables.specs.declared.inodes.Inode.{Inode};
 ghost use Rattle.atomic_programs.specs.Prog.{bind, Ran as ItRan};
 ghost use Rattle.atomic_programs.specs.Machines.{Left as LeftOf, OnDone, stepped_at};
 ghost use Rattle.fs_machine.specs.LogPart.{Outside};
@@ -13,7 +15,10 @@ ghost use Rattle.inode_data.specs.Beginnings.{begun_of, went_on_as, IfBegun};
 ghost use Rattle.plain_tree.specs.Tree.{elements};
 ghost use Rattle.path_walk.specs.Elements.{name_in};
 ghost use Rattle.path_walk.specs.Programs.{go_on, is_last, loaded, see_parent, start_of, walk, walk_path};
-ghost use Rattle.path_walk.specs.Machines.{found_in, found_state, keep, kept_in, most_listed, most_on, next_as, next_of, visit_of, walk_of, walked_as, EndsIn, HasLoaded, HasLocked, HasLooked, IsLoading, IsLooking, IsPassing, IsWay, LoadsTo, LocksTo, WalkFits};
+ghost use Rattle.path_walk.specs.Machines.{found_in, found_state, keep, kept_in, most_listed, most_on, next_as, next_of, visit_of, walk_of, walked_as, EndsIn, HasLoaded, HasLocked, HasLooked, IsLoading, IsLooking, IsWay, LoadsTo, LocksTo, WalkFits};
+ghost use Rattle.path_walk.specs.declared.walked.Goal.{Goal};
+ghost use Rattle.path_walk.specs.declared.walk.Way.{Way};
+ghost use Rattle.path_walk.specs.declared.walk.Next.{Next};
 ghost use Rattle.path_walk.specs.declared.walk.Walk.TheVariants as walking;
 
 use crate::elements::{Element, is_absolute, next_element};
@@ -121,6 +126,50 @@ impl Walk {
         ensures steps { StepsAt D.contents D.failures D.Called (walk_of path.now) (walked_as path.now) (WalkFits path.now) (EndsIn path.now) walking.Gone hart self.old self.new result core.old core.new }
         ensures most { LeftOf (λ m. most_listed path.now m ≤ most_listed path.now self.old) (λ w. length (kept_in w) ≤ most_listed path.now self.old) (stepped_at self.new result) }
     {
+        // Each arm returns at once, so that a result is copied once.
+        match self {
+            Walk::Start(_, _, _) => return self.start(hart, path, core),
+            Walk::Lock(_, _) => return self.lock(hart, path, core),
+            Walk::Load(_, _, _, _) => return self.load(hart, path, core),
+            Walk::Lookup(_, _, _) => return self.look(hart, path, core),
+            Walk::Up(_, _, _, _) => return self.take_found(hart, path, core),
+            Walk::Unlock(_, _, _, _) => return self.unlock(hart, path, core),
+            Walk::Down(_, _, _) => return self.drop_directory(hart, path, core),
+            Walk::Leave(_, _, _) => return self.leave_parent(hart, path, core),
+            Walk::Gone => unreachable!(),
+        }
+    }
+
+    // A step that takes a reference to the path's start.
+    #[tactic(auto, unfolding(crate::specs::Machines::walk_of, crate::specs::Machines::WalkFits, fs_machine::specs::Premises::Honest))]
+    fn start<D: Device>(&mut self, hart: u8, path: &[u8], core: &mut Core<D>) -> Came<Walked, Kind>
+        requires at { (x : ℕ × Goal × List ℕ) × (self.old ≡ walking.Start x.0 x.1 x.2) }
+        requires nonzero { All (λ b. b ≢ 0) path.now }
+        requires may { MayNext hart (walk_of path.now self.old) (state_of D.contents D.failures core.old) }
+        requires fits { WalkFits path.now hart (state_of D.contents D.failures core.old) self.old }
+        ensures steps { StepsAt D.contents D.failures D.Called (walk_of path.now) (walked_as path.now) (WalkFits path.now) (EndsIn path.now) walking.Gone hart self.old self.new result core.old core.new }
+        ensures most { LeftOf (λ m. most_listed path.now m ≤ most_listed path.now self.old) (λ w. length (kept_in w) ≤ most_listed path.now self.old) (stepped_at self.new result) }
+    {
+        match mem::replace(self, Walk::Gone) {
+            Walk::Start(inodestart, goal, list) => {
+                let start = up_start(hart, path, core);
+                let begun = started(path, inodestart, goal, list, start);
+                return self.begun(begun, Kind::Up);
+            }
+            _ => unreachable!(),
+        }
+    }
+
+    // A step that takes the directory's lock.
+    #[tactic(auto, unfolding(crate::specs::Machines::walk_of, crate::specs::Machines::WalkFits, fs_machine::specs::Premises::Honest))]
+    fn lock<D: Device>(&mut self, hart: u8, path: &[u8], core: &mut Core<D>) -> Came<Walked, Kind>
+        requires at { (x : Way × ℕ) × (self.old ≡ walking.Lock x.0 x.1) }
+        requires nonzero { All (λ b. b ≢ 0) path.now }
+        requires may { MayNext hart (walk_of path.now self.old) (state_of D.contents D.failures core.old) }
+        requires fits { WalkFits path.now hart (state_of D.contents D.failures core.old) self.old }
+        ensures steps { StepsAt D.contents D.failures D.Called (walk_of path.now) (walked_as path.now) (WalkFits path.now) (EndsIn path.now) walking.Gone hart self.old self.new result core.old core.new }
+        ensures most { LeftOf (λ m. most_listed path.now m ≤ most_listed path.now self.old) (λ w. length (kept_in w) ≤ most_listed path.now self.old) (stepped_at self.new result) }
+    {
         match self {
             Walk::Lock(_, directory) => match core.lock(hart, directory) {
                 None => Came::Waits,
@@ -129,9 +178,7 @@ impl Walk {
                     Came::Ran(Kind::Lock)
                 }
             },
-            Walk::Load(_, _, _, _) => self.load(hart, path, core),
-            Walk::Lookup(_, _, _) => self.look(hart, path, core),
-            _ => self.pass(hart, path, core),
+            _ => unreachable!(),
         }
     }
 
@@ -210,10 +257,60 @@ impl Walk {
         }
     }
 
-    // A step in a state that ends with its one operation.
+    // A step that takes a reference to what was found.
     #[tactic(auto, unfolding(crate::specs::Machines::walk_of, crate::specs::Machines::WalkFits, fs_machine::specs::Premises::Honest))]
-    fn pass<D: Device>(&mut self, hart: u8, path: &[u8], core: &mut Core<D>) -> Came<Walked, Kind>
-        requires at { IsPassing self.old }
+    fn take_found<D: Device>(
+        &mut self,
+        hart: u8,
+        path: &[u8],
+        core: &mut Core<D>,
+    ) -> Came<Walked, Kind>
+        requires at { (x : Way × ℕ × GuardState Inode × ℕ) × (self.old ≡ walking.Up x.0 x.1 x.2 x.3) }
+        requires nonzero { All (λ b. b ≢ 0) path.now }
+        requires may { MayNext hart (walk_of path.now self.old) (state_of D.contents D.failures core.old) }
+        requires fits { WalkFits path.now hart (state_of D.contents D.failures core.old) self.old }
+        ensures steps { StepsAt D.contents D.failures D.Called (walk_of path.now) (walked_as path.now) (WalkFits path.now) (EndsIn path.now) walking.Gone hart self.old self.new result core.old core.new }
+        ensures most { LeftOf (λ m. most_listed path.now m ≤ most_listed path.now self.old) (λ w. length (kept_in w) ≤ most_listed path.now self.old) (stepped_at self.new result) }
+    {
+        match mem::replace(self, Walk::Gone) {
+            Walk::Up(way, directory, guard, number) => {
+                let next = next_to(core.up(hart, number));
+                self.put(Walk::Unlock(way, directory, guard, next));
+                Came::Ran(Kind::Up)
+            }
+            _ => unreachable!(),
+        }
+    }
+
+    // A step that gives back the directory's lock.
+    #[tactic(auto, unfolding(crate::specs::Machines::walk_of, crate::specs::Machines::WalkFits, fs_machine::specs::Premises::Honest))]
+    fn unlock<D: Device>(&mut self, hart: u8, path: &[u8], core: &mut Core<D>) -> Came<Walked, Kind>
+        requires at { (x : Way × ℕ × GuardState Inode × Next) × (self.old ≡ walking.Unlock x.0 x.1 x.2 x.3) }
+        requires nonzero { All (λ b. b ≢ 0) path.now }
+        requires may { MayNext hart (walk_of path.now self.old) (state_of D.contents D.failures core.old) }
+        requires fits { WalkFits path.now hart (state_of D.contents D.failures core.old) self.old }
+        ensures steps { StepsAt D.contents D.failures D.Called (walk_of path.now) (walked_as path.now) (WalkFits path.now) (EndsIn path.now) walking.Gone hart self.old self.new result core.old core.new }
+        ensures most { LeftOf (λ m. most_listed path.now m ≤ most_listed path.now self.old) (λ w. length (kept_in w) ≤ most_listed path.now self.old) (stepped_at self.new result) }
+    {
+        match mem::replace(self, Walk::Gone) {
+            Walk::Unlock(way, directory, guard, next) => {
+                core.unlock(hart, guard);
+                self.put(Walk::Down(way, directory, next));
+                Came::Ran(Kind::Unlock)
+            }
+            _ => unreachable!(),
+        }
+    }
+
+    // A step that drops the reference to the directory.
+    #[tactic(auto, unfolding(crate::specs::Machines::walk_of, crate::specs::Machines::WalkFits, fs_machine::specs::Premises::Honest))]
+    fn drop_directory<D: Device>(
+        &mut self,
+        hart: u8,
+        path: &[u8],
+        core: &mut Core<D>,
+    ) -> Came<Walked, Kind>
+        requires at { (x : Way × ℕ × Next) × (self.old ≡ walking.Down x.0 x.1 x.2) }
         requires nonzero { All (λ b. b ≢ 0) path.now }
         requires room { most_listed path.now self.old ≤ MOST_LISTED }
         requires may { MayNext hart (walk_of path.now self.old) (state_of D.contents D.failures core.old) }
@@ -222,24 +319,30 @@ impl Walk {
         ensures most { LeftOf (λ m. most_listed path.now m ≤ most_listed path.now self.old) (λ w. length (kept_in w) ≤ most_listed path.now self.old) (stepped_at self.new result) }
     {
         match mem::replace(self, Walk::Gone) {
-            Walk::Start(inodestart, goal, list) => {
-                let start = up_start(hart, path, core);
-                self.begun(started(path, inodestart, goal, list, start), Kind::Up)
-            }
-            Walk::Up(way, directory, guard, number) => {
-                let next = next_to(core.up(hart, number));
-                self.put(Walk::Unlock(way, directory, guard, next));
-                Came::Ran(Kind::Up)
-            }
-            Walk::Unlock(way, directory, guard, next) => {
-                core.unlock(hart, guard);
-                self.put(Walk::Down(way, directory, next));
-                Came::Ran(Kind::Unlock)
-            }
             Walk::Down(way, directory, next) => {
                 let way = with_kept(way, core.drop_walked(hart, directory));
-                self.begun(after(path, way, next), Kind::Down)
+                return self.begun(after(path, way, next), Kind::Down);
             }
+            _ => unreachable!(),
+        }
+    }
+
+    // A step that gives back the lock of the parent that was reached.
+    #[tactic(auto, unfolding(crate::specs::Machines::walk_of, crate::specs::Machines::WalkFits, fs_machine::specs::Premises::Honest))]
+    fn leave_parent<D: Device>(
+        &mut self,
+        hart: u8,
+        path: &[u8],
+        core: &mut Core<D>,
+    ) -> Came<Walked, Kind>
+        requires at { (x : Way × ℕ × GuardState Inode) × (self.old ≡ walking.Leave x.0 x.1 x.2) }
+        requires nonzero { All (λ b. b ≢ 0) path.now }
+        requires may { MayNext hart (walk_of path.now self.old) (state_of D.contents D.failures core.old) }
+        requires fits { WalkFits path.now hart (state_of D.contents D.failures core.old) self.old }
+        ensures steps { StepsAt D.contents D.failures D.Called (walk_of path.now) (walked_as path.now) (WalkFits path.now) (EndsIn path.now) walking.Gone hart self.old self.new result core.old core.new }
+        ensures most { LeftOf (λ m. most_listed path.now m ≤ most_listed path.now self.old) (λ w. length (kept_in w) ≤ most_listed path.now self.old) (stepped_at self.new result) }
+    {
+        match mem::replace(self, Walk::Gone) {
             Walk::Leave(way, directory, guard) => {
                 core.unlock(hart, guard);
                 let Way {

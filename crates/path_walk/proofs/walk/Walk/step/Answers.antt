@@ -1,20 +1,19 @@
-use Rattle.std.proofs.Common.{ap, inl}
-use Rattle.atomic_programs.specs.Prog.{bind}
-use Rattle.fs_machine.specs.LogPart.{Passes}
-use Rattle.fs_machine.specs.Premises.{Honest}
-use Rattle.fs_machine.specs.Steps.{Lock, state_of}
-use Rattle.inode_table.specs.Programs.{load_unless}
-use Rattle.path_walk.specs.Programs.{loaded}
-use Rattle.path_walk.specs.Machines.{visit_of, walk_of}
-use Rattle.path_walk.proofs.Inside.{ran_at}
 use Rattle.path_walk.proofs.walk.Walk.step.Goals as goal
 
-pub returns-in-Some-clause-steps : goal.returns-in-Some-clause-steps
-unfolding walk_of Honest
-returns-in-Some-clause-steps g c =
-    let path = c.args.path.now in
-    let new = state_of g.D.Device.contents g.D.Device.failures c.lock.new.self in
-    let way = c.in-Lock.field-0 in
-    let d = c.in-Lock.directory in
-    ran_at (Lock d) (λ content. bind (load_unless way.inodestart d content) (λ i. visit_of path way d (loaded d i))) c.in-Some.guard.value.content (ap (walk_of path) c.in-Lock.is) (c.in-Some.ensures.ran Passes) tt
-    c.locked.ensures.0 (c.locked.ensures.1 c.args.hart new c.in-Some.ensures.own) c.lock.ensures.others (inl (ap (λ l. l.cache.device) c.lock.ensures.log))
+pub start-requires-clause-at : goal.start-requires-clause-at
+start-requires-clause-at g c = ((c.in-Start.field-0, c.in-Start.field-1, c.in-Start.field-2), c.in-Start.is)
+
+pub lock-requires-clause-at : goal.lock-requires-clause-at
+lock-requires-clause-at g c = ((c.in-Lock.field-0, c.in-Lock.field-1), c.in-Lock.is)
+
+pub take_found-requires-clause-at : goal.take_found-requires-clause-at
+take_found-requires-clause-at g c = ((c.in-Up.field-0, c.in-Up.field-1, c.in-Up.field-2, c.in-Up.field-3), c.in-Up.is)
+
+pub unlock-requires-clause-at : goal.unlock-requires-clause-at
+unlock-requires-clause-at g c = ((c.in-Unlock.field-0, c.in-Unlock.field-1, c.in-Unlock.field-2, c.in-Unlock.field-3), c.in-Unlock.is)
+
+pub drop_directory-requires-clause-at : goal.drop_directory-requires-clause-at
+drop_directory-requires-clause-at g c = ((c.in-Down.field-0, c.in-Down.field-1, c.in-Down.field-2), c.in-Down.is)
+
+pub leave_parent-requires-clause-at : goal.leave_parent-requires-clause-at
+leave_parent-requires-clause-at g c = ((c.in-Leave.field-0, c.in-Leave.field-1, c.in-Leave.field-2), c.in-Leave.is)

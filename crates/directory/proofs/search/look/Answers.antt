@@ -2,7 +2,7 @@ use Rattle.fs_machine.specs.declared.kind.Kind.TheVariants.{Put}
 use Rattle.fs_machine.specs.Steps.{state_of}
 use Rattle.inode_data.proofs.Beginnings.{went_on_left}
 use Rattle.directory.specs.Machines.{IsSlot, SearchFits}
-use Rattle.directory.proofs.search.Search.step.Goals as goal
+use Rattle.directory.proofs.search.look.Goals as goal
 
 pub returns-in-None-clause-fits : goal.returns-in-None-clause-fits
 returns-in-None-clause-fits g c =
