@@ -9,3 +9,4 @@ pub mod Ends
 pub mod Seeking
 pub mod Counts
 pub mod OnPaths
+pub mod Heard

@@ -1,5 +1,5 @@
 //! An inode given up.
-ghost use Rattle.std.specs.Prelude.{◌≡◌, ◌≢◌, ℕ, None};
+ghost use Rattle.std.specs.Prelude.{◌≡◌, ◌≢◌, ℕ, Option, None};
 ghost use Rattle.atomic_programs.specs.Prog.{Ret, Do, unmarked};
 ghost use Rattle.atomic_programs.specs.Machines.{stepped_at};
 ghost use Rattle.fs_machine.specs.Steps.{State, state_of, Down, Freed};
@@ -8,6 +8,7 @@ ghost use Rattle.fs_machine.specs.Tied.{IsOwnInode};
 ghost use Rattle.fs_machine.specs.Places.{StepsAt};
 ghost use Rattle.fs_machine.specs.Stays.{LeavesApart};
 ghost use Rattle.inode_data.specs.Freeing.{drop_reference};
+ghost use Rattle.inode_data.specs.declared.dropping.DropReference.{DropReference};
 ghost use Rattle.file_table.specs.Machines.{IsEarly};
 ghost use Rattle.call_parts.specs.Parts.{give_up};
 ghost use Rattle.call_parts.specs.Taking.{inode_in, IsHeld};
@@ -79,27 +80,7 @@ impl GiveUp {
     {
         match self {
             GiveUp::Unlock(_, _) => self.unlock(hart, core),
-            GiveUp::Dropping(place) => match mem::replace(place, None) {
-                Some(drop) => match drop.step(hart, txn, core) {
-                    Stepped::Waits(drop) => {
-                        put(place, drop);
-                        Came::Waits
-                    }
-                    Stepped::Ran(drop, kind) => {
-                        put(place, drop);
-                        Came::Ran(kind)
-                    }
-                    Stepped::Done((), kind) => {
-                        self.end();
-                        Came::Done((), kind)
-                    }
-                    Stepped::Stopped(drop) => {
-                        put(place, drop);
-                        Came::Stopped
-                    }
-                },
-                None => unreachable!(),
-            },
+            GiveUp::Dropping(_) => self.drop(hart, txn, core),
             GiveUp::Gone => unreachable!(),
         }
     }
@@ -121,6 +102,43 @@ impl GiveUp {
                 self.put(GiveUp::Dropping(Some(drop)));
                 Came::Ran(Kind::Unlock)
             }
+            _ => unreachable!(),
+        }
+    }
+
+    // The reference is dropped.
+    #[tactic(auto, unfolding(crate::specs::Ends::give_of, crate::specs::Ends::GiveFits, crate::specs::Ends::GiveApart, fs_machine::specs::Premises::Honest))]
+    fn drop<D: Device>(&mut self, hart: u8, txn: &mut Txn, core: &mut Core<D>) -> Came<(), Kind>
+        requires at { (x : Option DropReference) × (self.old ≡ giving.Dropping x) }
+        requires txn { txn.old ≡ hart }
+        requires may { MayNext hart (give_of self.old) (state_of D.contents D.failures core.old) }
+        requires fits { GiveFits hart (state_of D.contents D.failures core.old) self.old }
+        ensures steps { StepsAt D.contents D.failures D.Called give_of (λ x. x) GiveFits (λ _. Unit {0}) giving.Gone hart self.old self.new result core.old core.new }
+        ensures kept { txn.new ≡ txn.old }
+        ensures rest { LeavesApart GiveApart (λ _ _. Unit {0}) (IsOwnInode hart) self.old (stepped_at self.new result) (state_of D.contents D.failures core.old) (state_of D.contents D.failures core.new) }
+    {
+        match self {
+            GiveUp::Dropping(place) => match mem::replace(place, None) {
+                Some(drop) => match drop.step(hart, txn, core) {
+                    Stepped::Waits(drop) => {
+                        put(place, drop);
+                        Came::Waits
+                    }
+                    Stepped::Ran(drop, kind) => {
+                        put(place, drop);
+                        Came::Ran(kind)
+                    }
+                    Stepped::Done((), kind) => {
+                        self.end();
+                        Came::Done((), kind)
+                    }
+                    Stepped::Stopped(drop) => {
+                        put(place, drop);
+                        Came::Stopped
+                    }
+                },
+                None => unreachable!(),
+            },
             _ => unreachable!(),
         }
     }

@@ -9,6 +9,10 @@ ghost use Rattle.call_parts.specs.Spent.{reply_in, IsSpent};
 ghost use Rattle.call_parts.specs.Parts.{quit, unlock_quit, drop_quit};
 ghost use Rattle.call_parts.specs.Taking.{inode_in, IsHeld};
 ghost use Rattle.call_parts.specs.Ends.{quit_of, QuitFits, given_of, tail_for, GivenFits, HasGiven, Unlocks};
+ghost use Rattle.call_parts.specs.declared.give.GiveUp.{GiveUp};
+ghost use Rattle.call_parts.specs.declared.take.Held.{Held};
+ghost use Rattle.call_parts.specs.declared.tail.Ending.{Ending};
+ghost use Rattle.call_parts.specs.declared.tail.Tail.{Tail};
 ghost use Rattle.call_parts.specs.declared.tail.Tail.TheVariants as tail;
 ghost use Rattle.call_parts.specs.declared.quit.Quit.TheVariants as quitting;
 
@@ -99,8 +103,25 @@ impl Quit {
         requires fits { QuitFits hart (state_of D.contents D.failures core.old) self.old }
         ensures steps { StepsAt D.contents D.failures D.Called quit_of reply_in QuitFits IsSpent quitting.Gone hart self.old self.new result core.old core.new }
     {
+        // Each arm returns at once, so that a result is copied once.
         match self {
-            Quit::Unlock(_, _, _) => self.unlock(hart, core),
+            Quit::Unlock(_, _, _) => return self.unlock(hart, core),
+            Quit::Giving(_, _, _) => return self.give(hart, core),
+            Quit::Two(_, _, _, _) => return self.give_first(hart, core),
+            Quit::Tail(_) => return self.end(hart, core),
+            Quit::Gone => unreachable!(),
+        }
+    }
+
+    // An inode is given up.
+    #[tactic(auto, unfolding(crate::specs::Ends::quit_of, crate::specs::Ends::QuitFits))]
+    fn give<D: Device>(&mut self, hart: u8, core: &mut Core<D>) -> Came<Answered, Kind>
+        requires at { (x : Ending × ℕ × GiveUp) × (self.old ≡ quitting.Giving x.0 x.1 x.2) }
+        requires may { MayNext hart (quit_of self.old) (state_of D.contents D.failures core.old) }
+        requires fits { QuitFits hart (state_of D.contents D.failures core.old) self.old }
+        ensures steps { StepsAt D.contents D.failures D.Called quit_of reply_in QuitFits IsSpent quitting.Gone hart self.old self.new result core.old core.new }
+    {
+        match self {
             Quit::Giving(_, txn, give) => match give.step(hart, txn, core) {
                 Came::Waits => Came::Waits,
                 Came::Ran(kind) => Came::Ran(kind),
@@ -110,25 +131,51 @@ impl Quit {
                 }
                 Came::Stopped => Came::Stopped,
             },
+            _ => unreachable!(),
+        }
+    }
+
+    // The first of two inodes is given up.
+    #[tactic(auto, unfolding(crate::specs::Ends::quit_of, crate::specs::Ends::QuitFits))]
+    fn give_first<D: Device>(&mut self, hart: u8, core: &mut Core<D>) -> Came<Answered, Kind>
+        requires at { (x : Ending × ℕ × Held × GiveUp) × (self.old ≡ quitting.Two x.0 x.1 x.2 x.3) }
+        requires may { MayNext hart (quit_of self.old) (state_of D.contents D.failures core.old) }
+        requires fits { QuitFits hart (state_of D.contents D.failures core.old) self.old }
+        ensures steps { StepsAt D.contents D.failures D.Called quit_of reply_in QuitFits IsSpent quitting.Gone hart self.old self.new result core.old core.new }
+    {
+        match self {
             Quit::Two(_, txn, _, give) => match give.step(hart, txn, core) {
                 Came::Waits => Came::Waits,
                 Came::Ran(kind) => Came::Ran(kind),
                 Came::Done((), kind) => {
-                    self.gave();
+                    self.gave_first();
                     Came::Ran(kind)
                 }
                 Came::Stopped => Came::Stopped,
             },
+            _ => unreachable!(),
+        }
+    }
+
+    // Nothing is in hand but the transaction.
+    #[tactic(auto, unfolding(crate::specs::Ends::quit_of, crate::specs::Ends::QuitFits))]
+    fn end<D: Device>(&mut self, hart: u8, core: &mut Core<D>) -> Came<Answered, Kind>
+        requires at { (x : Tail) × (self.old ≡ quitting.Tail x) }
+        requires may { MayNext hart (quit_of self.old) (state_of D.contents D.failures core.old) }
+        requires fits { QuitFits hart (state_of D.contents D.failures core.old) self.old }
+        ensures steps { StepsAt D.contents D.failures D.Called quit_of reply_in QuitFits IsSpent quitting.Gone hart self.old self.new result core.old core.new }
+    {
+        match self {
             Quit::Tail(tail) => match tail.step(hart, core) {
                 Came::Waits => Came::Waits,
                 Came::Ran(kind) => Came::Ran(kind),
                 Came::Done(answered, kind) => {
-                    self.end();
+                    self.ended();
                     Came::Done(answered, kind)
                 }
                 Came::Stopped => Came::Stopped,
             },
-            Quit::Gone => unreachable!(),
+            _ => unreachable!(),
         }
     }
 
@@ -153,7 +200,8 @@ impl Quit {
     // An inode has been given up.
     #[tactic(auto, unfolding(crate::specs::Ends::quit_of, crate::specs::Ends::QuitFits))]
     fn gave(&mut self)
-        requires { HasGiven self.old }
+        requires given { HasGiven self.old }
+        requires at { (x : Ending × ℕ × GiveUp) × (self.old ≡ quitting.Giving x.0 x.1 x.2) }
         ensures program { quit_of self.new ≡ given_of self.old }
         ensures fits { (hart : ℕ) (s : State) → GivenFits hart s self.old → QuitFits hart s self.new }
     {
@@ -165,6 +213,19 @@ impl Quit {
                 }
                 self.put(Quit::with_nothing(ending, txn));
             }
+            _ => unreachable!(),
+        }
+    }
+
+    // The first of two inodes has been given up.
+    #[tactic(auto, unfolding(crate::specs::Ends::quit_of, crate::specs::Ends::QuitFits))]
+    fn gave_first(&mut self)
+        requires given { HasGiven self.old }
+        requires at { (x : Ending × ℕ × Held × GiveUp) × (self.old ≡ quitting.Two x.0 x.1 x.2 x.3) }
+        ensures program { quit_of self.new ≡ given_of self.old }
+        ensures fits { (hart : ℕ) (s : State) → GivenFits hart s self.old → QuitFits hart s self.new }
+    {
+        match mem::replace(self, Quit::Gone) {
             Quit::Two(ending, txn, second, give) => {
                 match give {
                     GiveUp::Gone => {}
@@ -176,7 +237,7 @@ impl Quit {
         }
     }
 
-    fn end(&mut self)
+    fn ended(&mut self)
         requires { self.old ≡ quitting.Tail tail.Gone }
         ensures { self.new ≡ quitting.Gone }
     {

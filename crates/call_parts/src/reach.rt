@@ -1,5 +1,5 @@
 //! What a path leads to, taken.
-ghost use Rattle.std.specs.Prelude.{◌≡◌, ◌≢◌, ◌≤◌, ◌+◌, ℕ, List, None, All, length};
+ghost use Rattle.std.specs.Prelude.{◌≡◌, ◌≢◌, ◌≤◌, ◌+◌, ℕ, List, Option, None, All, length};
 ghost use Rattle.atomic_programs.specs.Machines.{Left as LeftOf, OnDone, stepped_at};
 ghost use Rattle.fs_machine.specs.Steps.{State, state_of};
 ghost use Rattle.fs_machine.specs.Machines.{MayNext};
@@ -7,12 +7,15 @@ ghost use Rattle.fs_machine.specs.Places.{StepsAt};
 ghost use Rattle.file_table.specs.Machines.{IsEarly};
 ghost use Rattle.fs_tables.specs.Limits.{listed_places};
 ghost use Rattle.path_walk.specs.Machines.{walked_as, kept_in, EndsIn};
+ghost use Rattle.path_walk.specs.declared.elements.Element.{Element};
+ghost use Rattle.path_walk.specs.declared.walk.Walk.{Walk};
 ghost use Rattle.path_walk.specs.declared.walk.Walk.TheVariants as walking;
 ghost use Rattle.plain_tree.specs.Tree.{elements};
 ghost use Rattle.call_parts.specs.Nesting.{GoesOn};
 ghost use Rattle.call_parts.specs.Parts.{reach, reach_on};
 ghost use Rattle.call_parts.specs.Taking.{reach_of, ReachFits, most_reached, reached_as, reached_with, kept_by, IsReached, IsTaken};
 ghost use Rattle.call_parts.specs.declared.reach.Reach.TheVariants as reaching;
+ghost use Rattle.call_parts.specs.declared.take.TakeInode.{TakeInode};
 
 use crate::take::{Held, TakeInode};
 use atomic_programs::machines::Came;
@@ -65,23 +68,56 @@ impl Reach {
         ensures steps { StepsAt D.contents D.failures D.Called (reach_of path.now) (reached_as path.now) (ReachFits path.now) (IsReached path.now hart (state_of D.contents D.failures core.new)) reaching.Gone hart self.old self.new result core.old core.new }
         ensures most { LeftOf (λ m. most_reached path.now m ≤ most_reached path.now self.old) (λ r. length (kept_by r) ≤ most_reached path.now self.old) (stepped_at self.new result) }
     {
+        // Each arm returns at once, so that a result is copied once.
+        match self {
+            Reach::Walking(_, _) => return self.walk(hart, path, core),
+            Reach::Taking(_, _, _) => return self.take(hart, path, core),
+            Reach::Gone => unreachable!(),
+        }
+    }
+
+    // The path is walked.
+    #[tactic(auto, unfolding(crate::specs::Taking::reach_of, crate::specs::Taking::ReachFits))]
+    fn walk<D: Device>(&mut self, hart: u8, path: &[u8], core: &mut Core<D>) -> Came<Reached, Kind>
+        requires at { (x : ℕ × Walk) × (self.old ≡ reaching.Walking x.0 x.1) }
+        requires nonzero { All (λ b. b ≢ 0) path.now }
+        requires may { MayNext hart (reach_of path.now self.old) (state_of D.contents D.failures core.old) }
+        requires fits { ReachFits path.now hart (state_of D.contents D.failures core.old) self.old }
+        ensures steps { StepsAt D.contents D.failures D.Called (reach_of path.now) (reached_as path.now) (ReachFits path.now) (IsReached path.now hart (state_of D.contents D.failures core.new)) reaching.Gone hart self.old self.new result core.old core.new }
+        ensures most { LeftOf (λ m. most_reached path.now m ≤ most_reached path.now self.old) (λ r. length (kept_by r) ≤ most_reached path.now self.old) (stepped_at self.new result) }
+    {
         match self {
             Reach::Walking(inodestart, walk) => match walk.step(hart, path, core) {
                 Came::Waits => Came::Waits,
                 Came::Ran(kind) => Came::Ran(kind),
                 Came::Done(walked, kind) => {
                     let inodestart = *inodestart;
-                    self.walked(inodestart, walked, kind)
+                    return self.walked(inodestart, walked, kind);
                 }
                 Came::Stopped => Came::Stopped,
             },
+            _ => unreachable!(),
+        }
+    }
+
+    // What it leads to is taken.
+    #[tactic(auto, unfolding(crate::specs::Taking::reach_of, crate::specs::Taking::ReachFits))]
+    fn take<D: Device>(&mut self, hart: u8, path: &[u8], core: &mut Core<D>) -> Came<Reached, Kind>
+        requires at { (x : Option Element × List ℕ × TakeInode) × (self.old ≡ reaching.Taking x.0 x.1 x.2) }
+        requires nonzero { All (λ b. b ≢ 0) path.now }
+        requires may { MayNext hart (reach_of path.now self.old) (state_of D.contents D.failures core.old) }
+        requires fits { ReachFits path.now hart (state_of D.contents D.failures core.old) self.old }
+        ensures steps { StepsAt D.contents D.failures D.Called (reach_of path.now) (reached_as path.now) (ReachFits path.now) (IsReached path.now hart (state_of D.contents D.failures core.new)) reaching.Gone hart self.old self.new result core.old core.new }
+        ensures most { LeftOf (λ m. most_reached path.now m ≤ most_reached path.now self.old) (λ r. length (kept_by r) ≤ most_reached path.now self.old) (stepped_at self.new result) }
+    {
+        match self {
             Reach::Taking(_, _, take) => match take.step(hart, core) {
                 Came::Waits => Came::Waits,
                 Came::Ran(kind) => Came::Ran(kind),
                 Came::Done(held, kind) => Came::Done(self.taken(held), kind),
                 Came::Stopped => Came::Stopped,
             },
-            Reach::Gone => unreachable!(),
+            _ => unreachable!(),
         }
     }
 

@@ -1,5 +1,5 @@
 //! The last name of a path, looked up in its parent.
-ghost use Rattle.std.specs.Prelude.{◌≡◌, ◌≢◌, ◌+◌, ◌≤◌, ℕ, List, length, All, IfSome, IsSome, IsTrue};
+ghost use Rattle.std.specs.Prelude.{◌≡◌, ◌≢◌, ◌+◌, ◌≤◌, ℕ, List, Option, length, All, IfSome, IsSome, IsTrue};
 ghost use Rattle.atomic_programs.specs.Machines.{Left as LeftOf, OnDone, stepped_at};
 ghost use Rattle.fs_tables.specs.Limits.{listed_places};
 ghost use Rattle.fs_machine.specs.Steps.{State, state_of};
@@ -9,13 +9,17 @@ ghost use Rattle.inode_data.specs.Beginnings.{begun_of, IfBegun};
 ghost use Rattle.inode_data.specs.Records.{record_in};
 ghost use Rattle.file_table.specs.Machines.{IsEarly};
 ghost use Rattle.directory.specs.Programs.{is_live_directory};
+ghost use Rattle.directory.specs.declared.search.Search.{Search};
 ghost use Rattle.plain_tree.specs.Tree.{elements};
 ghost use Rattle.path_walk.specs.Elements.{name_in, names_of, IsElement};
+ghost use Rattle.path_walk.specs.declared.elements.Element.{Element};
 ghost use Rattle.call_parts.specs.Nesting.{GoesOn};
 ghost use Rattle.call_parts.specs.Parts.{Finds};
 ghost use Rattle.call_parts.specs.Taking.{inode_in, IsHeld, reached_as, IsReached, IsThere};
 ghost use Rattle.call_parts.specs.Seeking.{is_apart, is_dots, seek, seek_live, seek_of, seek_on, seen_as, seen_in, seen_of, IsLooking, IsSeen, IsSight, SeekFits};
+ghost use Rattle.call_parts.specs.declared.reach.Reach.{Reach};
 ghost use Rattle.call_parts.specs.declared.reach.Reach.TheVariants as reaching;
+ghost use Rattle.call_parts.specs.declared.seek.Dots.{Dots};
 ghost use Rattle.call_parts.specs.declared.seek.Seek.TheVariants as seeking;
 
 use crate::reach::{Reach, Reached};
@@ -97,16 +101,47 @@ impl Seek {
         requires fits { SeekFits path.now hart (state_of D.contents D.failures core.old) self.old }
         ensures steps { StepsAt D.contents D.failures D.Called (seek_of path.now) (seen_as path.now) (SeekFits path.now) (IsSeen path.now hart (state_of D.contents D.failures core.new)) seeking.Gone hart self.old self.new result core.old core.new }
     {
+        // Each arm returns at once, so that a result is copied once.
+        match self {
+            Seek::Reaching(_, _) => return self.reach(hart, path, core),
+            Seek::Looking(_, _, _, _) => return self.look(hart, path, core),
+            Seek::Gone => unreachable!(),
+        }
+    }
+
+    // The parent is reached and taken.
+    #[tactic(auto, unfolding(crate::specs::Seeking::seek_of, crate::specs::Seeking::SeekFits))]
+    fn reach<D: Device>(&mut self, hart: u8, path: &[u8], core: &mut Core<D>) -> Came<Seen, Kind>
+        requires at { (x : Dots × Reach) × (self.old ≡ seeking.Reaching x.0 x.1) }
+        requires nonzero { All (λ b. b ≢ 0) path.now }
+        requires may { MayNext hart (seek_of path.now self.old) (state_of D.contents D.failures core.old) }
+        requires fits { SeekFits path.now hart (state_of D.contents D.failures core.old) self.old }
+        ensures steps { StepsAt D.contents D.failures D.Called (seek_of path.now) (seen_as path.now) (SeekFits path.now) (IsSeen path.now hart (state_of D.contents D.failures core.new)) seeking.Gone hart self.old self.new result core.old core.new }
+    {
         match self {
             Seek::Reaching(dots, reach) => match reach.step(hart, path, core) {
                 Came::Waits => Came::Waits,
                 Came::Ran(kind) => Came::Ran(kind),
                 Came::Done(reached, kind) => {
                     let dots = *dots;
-                    self.reached(path, dots, reached, kind)
+                    return self.reached(path, dots, reached, kind);
                 }
                 Came::Stopped => Came::Stopped,
             },
+            _ => unreachable!(),
+        }
+    }
+
+    // The name is looked up.
+    #[tactic(auto, unfolding(crate::specs::Seeking::seek_of, crate::specs::Seeking::SeekFits))]
+    fn look<D: Device>(&mut self, hart: u8, path: &[u8], core: &mut Core<D>) -> Came<Seen, Kind>
+        requires at { (x : ℕ × Element × List ℕ × Option Search) × (self.old ≡ seeking.Looking x.0 x.1 x.2 x.3) }
+        requires nonzero { All (λ b. b ≢ 0) path.now }
+        requires may { MayNext hart (seek_of path.now self.old) (state_of D.contents D.failures core.old) }
+        requires fits { SeekFits path.now hart (state_of D.contents D.failures core.old) self.old }
+        ensures steps { StepsAt D.contents D.failures D.Called (seek_of path.now) (seen_as path.now) (SeekFits path.now) (IsSeen path.now hart (state_of D.contents D.failures core.new)) seeking.Gone hart self.old self.new result core.old core.new }
+    {
+        match self {
             Seek::Looking(_, element, _, place) => match mem::replace(place, None) {
                 Some(search) => {
                     let name = Sought::Name(&path[element.start..element.end]);
@@ -128,7 +163,7 @@ impl Seek {
                 }
                 None => unreachable!(),
             },
-            Seek::Gone => unreachable!(),
+            _ => unreachable!(),
         }
     }
 

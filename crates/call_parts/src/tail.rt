@@ -9,6 +9,7 @@ ghost use Rattle.file_table.specs.Machines.{IsEarly};
 ghost use Rattle.call_parts.specs.Spent.{reply_in, IsSpent};
 ghost use Rattle.call_parts.specs.Programs.{tail as tail_program, free_locked};
 ghost use Rattle.call_parts.specs.Tails.{tail_of, TailFits, rest_of, free_loaded, joined_in, FreedTo, HasFreed, HasLeft, HasLoaded, HasLocked, IsFreeing, IsJoining, IsLeaving, IsLoading, IsSaying, LeftTo, LoadedTo, LockedTo, SaidAs};
+ghost use Rattle.call_parts.specs.declared.tail.Ending.{Ending};
 ghost use Rattle.call_parts.specs.declared.tail.Tail.TheVariants as tail;
 
 use crate::answered::Answered;
@@ -81,28 +82,14 @@ impl Tail {
         requires fits { TailFits hart (state_of D.contents D.failures core.old) self.old }
         ensures steps { StepsAt D.contents D.failures D.Called tail_of reply_in TailFits IsSpent tail.Gone hart self.old self.new result core.old core.new }
     {
+        // Each arm returns at once, so that a result is copied once.
         match self {
-            Tail::Leaving(_, _) => self.leave(hart, core),
-            Tail::Join(_, _) => match core.join(hart) {
-                None => Came::Waits,
-                Some(txn) => {
-                    self.joined(txn);
-                    Came::Ran(Kind::Join)
-                }
-            },
-            Tail::Lock(_, reference, _) => match core.lock(hart, reference) {
-                None => Came::Waits,
-                Some(guard) => {
-                    self.locked(guard);
-                    Came::Ran(Kind::Lock)
-                }
-            },
-            Tail::Loading(_, _, _, _, _) => self.load(hart, core),
-            Tail::Freeing(_, _, _) => self.free(hart, core),
-            Tail::Say(_, _) => {
-                core.reply(hart);
-                Came::Done(self.said(), Kind::Reply)
-            }
+            Tail::Leaving(_, _) => return self.leave(hart, core),
+            Tail::Join(_, _) => return self.join(hart, core),
+            Tail::Lock(_, _, _) => return self.lock(hart, core),
+            Tail::Loading(_, _, _, _, _) => return self.load(hart, core),
+            Tail::Freeing(_, _, _) => return self.free(hart, core),
+            Tail::Say(_, _) => return self.say(hart, core),
             Tail::Gone => unreachable!(),
         }
     }
@@ -136,6 +123,46 @@ impl Tail {
                     }
                 },
                 None => unreachable!(),
+            },
+            _ => unreachable!(),
+        }
+    }
+
+    // A step that joins a transaction.
+    #[tactic(auto, unfolding(crate::specs::Tails::tail_of, crate::specs::Tails::TailFits, fs_machine::specs::Premises::Honest))]
+    fn join<D: Device>(&mut self, hart: u8, core: &mut Core<D>) -> Came<Answered, Kind>
+        requires at { IsJoining self.old }
+        requires may { MayNext hart (tail_of self.old) (state_of D.contents D.failures core.old) }
+        requires fits { TailFits hart (state_of D.contents D.failures core.old) self.old }
+        ensures steps { StepsAt D.contents D.failures D.Called tail_of reply_in TailFits IsSpent tail.Gone hart self.old self.new result core.old core.new }
+    {
+        match self {
+            Tail::Join(_, _) => match core.join(hart) {
+                None => Came::Waits,
+                Some(txn) => {
+                    self.joined(txn);
+                    Came::Ran(Kind::Join)
+                }
+            },
+            _ => unreachable!(),
+        }
+    }
+
+    // A step that takes an inode's lock.
+    #[tactic(auto, unfolding(crate::specs::Tails::tail_of, crate::specs::Tails::TailFits, fs_machine::specs::Premises::Honest))]
+    fn lock<D: Device>(&mut self, hart: u8, core: &mut Core<D>) -> Came<Answered, Kind>
+        requires at { (x : Ending × ℕ × ℕ) × (self.old ≡ tail.Lock x.0 x.1 x.2) }
+        requires may { MayNext hart (tail_of self.old) (state_of D.contents D.failures core.old) }
+        requires fits { TailFits hart (state_of D.contents D.failures core.old) self.old }
+        ensures steps { StepsAt D.contents D.failures D.Called tail_of reply_in TailFits IsSpent tail.Gone hart self.old self.new result core.old core.new }
+    {
+        match self {
+            Tail::Lock(_, reference, _) => match core.lock(hart, reference) {
+                None => Came::Waits,
+                Some(guard) => {
+                    self.locked(guard);
+                    Came::Ran(Kind::Lock)
+                }
             },
             _ => unreachable!(),
         }
@@ -205,6 +232,23 @@ impl Tail {
                 },
                 None => unreachable!(),
             },
+            _ => unreachable!(),
+        }
+    }
+
+    // A step that gives the reply.
+    #[tactic(auto, unfolding(crate::specs::Tails::tail_of, crate::specs::Tails::TailFits, fs_machine::specs::Premises::Honest))]
+    fn say<D: Device>(&mut self, hart: u8, core: &mut Core<D>) -> Came<Answered, Kind>
+        requires at { IsSaying self.old }
+        requires may { MayNext hart (tail_of self.old) (state_of D.contents D.failures core.old) }
+        requires fits { TailFits hart (state_of D.contents D.failures core.old) self.old }
+        ensures steps { StepsAt D.contents D.failures D.Called tail_of reply_in TailFits IsSpent tail.Gone hart self.old self.new result core.old core.new }
+    {
+        match self {
+            Tail::Say(_, _) => {
+                core.reply(hart);
+                Came::Done(self.said(), Kind::Reply)
+            }
             _ => unreachable!(),
         }
     }

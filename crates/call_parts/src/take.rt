@@ -1,11 +1,14 @@
 //! An inode taken: its lock is had, and it is loaded.
-ghost use Rattle.std.specs.Prelude.{◌≡◌, ◌≢◌, ℕ};
+ghost use Rattle.std.specs.Prelude.{◌≡◌, ◌≢◌, ℕ, Option};
+ghost use Rattle.sleep_lock.specs.SleepLock.{GuardState};
 ghost use Rattle.atomic_programs.specs.Machines.{stepped_at};
+ghost use Rattle.fs_tables.specs.declared.inodes.Inode.{Inode};
 ghost use Rattle.fs_machine.specs.Steps.{State, state_of};
 ghost use Rattle.fs_machine.specs.Machines.{MayNext};
 ghost use Rattle.fs_machine.specs.Tied.{IsOwnInode};
 ghost use Rattle.fs_machine.specs.Places.{StepsAt};
 ghost use Rattle.fs_machine.specs.Stays.{LeavesApart};
+ghost use Rattle.inode_table.specs.declared.load_inode.LoadInode.{LoadInode};
 ghost use Rattle.file_table.specs.Machines.{IsEarly};
 ghost use Rattle.call_parts.specs.Parts.{take_inode};
 ghost use Rattle.call_parts.specs.Taking.{take_of, TakeApart, TakeFits, inode_in, loading_in, IsHeld, IsLoading, IsLocking, LoadedAs, TakenAs};
@@ -72,6 +75,23 @@ impl TakeInode {
         ensures steps { StepsAt D.contents D.failures D.Called take_of inode_in TakeFits (λ held. IsHeld hart held (state_of D.contents D.failures core.new)) taking.Gone hart self.old self.new result core.old core.new }
         ensures rest { LeavesApart TakeApart (λ k held. k ≢ held.reference) (IsOwnInode hart) self.old (stepped_at self.new result) (state_of D.contents D.failures core.old) (state_of D.contents D.failures core.new) }
     {
+        // Each arm returns at once, so that a result is copied once.
+        match self {
+            TakeInode::Lock(_, _) => return self.lock(hart, core),
+            TakeInode::Loading(_, _, _) => return self.load(hart, core),
+            TakeInode::Gone => unreachable!(),
+        }
+    }
+
+    // The lock is taken.
+    #[tactic(auto, unfolding(crate::specs::Taking::take_of, crate::specs::Taking::TakeFits, crate::specs::Taking::TakeApart, fs_machine::specs::Premises::Honest))]
+    fn lock<D: Device>(&mut self, hart: u8, core: &mut Core<D>) -> Came<Held, Kind>
+        requires at { IsLocking self.old }
+        requires may { MayNext hart (take_of self.old) (state_of D.contents D.failures core.old) }
+        requires fits { TakeFits hart (state_of D.contents D.failures core.old) self.old }
+        ensures steps { StepsAt D.contents D.failures D.Called take_of inode_in TakeFits (λ held. IsHeld hart held (state_of D.contents D.failures core.new)) taking.Gone hart self.old self.new result core.old core.new }
+        ensures rest { LeavesApart TakeApart (λ k held. k ≢ held.reference) (IsOwnInode hart) self.old (stepped_at self.new result) (state_of D.contents D.failures core.old) (state_of D.contents D.failures core.new) }
+    {
         match self {
             TakeInode::Lock(inodestart, reference) => match core.lock(hart, reference) {
                 None => Came::Waits,
@@ -79,11 +99,25 @@ impl TakeInode {
                     Some(_) => Came::Done(self.held(inode), Kind::Lock),
                     None => {
                         let load = LoadInode::new(*inodestart, reference.number());
-                        self.load(inode, load);
+                        self.begin_loading(inode, load);
                         Came::Ran(Kind::Lock)
                     }
                 },
             },
+            _ => unreachable!(),
+        }
+    }
+
+    // It is had, and the inode is loaded.
+    #[tactic(auto, unfolding(crate::specs::Taking::take_of, crate::specs::Taking::TakeFits, crate::specs::Taking::TakeApart, fs_machine::specs::Premises::Honest))]
+    fn load<D: Device>(&mut self, hart: u8, core: &mut Core<D>) -> Came<Held, Kind>
+        requires at { (x : ℕ × GuardState Inode × Option LoadInode) × (self.old ≡ taking.Loading x.0 x.1 x.2) }
+        requires may { MayNext hart (take_of self.old) (state_of D.contents D.failures core.old) }
+        requires fits { TakeFits hart (state_of D.contents D.failures core.old) self.old }
+        ensures steps { StepsAt D.contents D.failures D.Called take_of inode_in TakeFits (λ held. IsHeld hart held (state_of D.contents D.failures core.new)) taking.Gone hart self.old self.new result core.old core.new }
+        ensures rest { LeavesApart TakeApart (λ k held. k ≢ held.reference) (IsOwnInode hart) self.old (stepped_at self.new result) (state_of D.contents D.failures core.old) (state_of D.contents D.failures core.new) }
+    {
+        match self {
             TakeInode::Loading(_, _, place) => match mem::replace(place, None) {
                 Some(load) => match load.step(hart, core) {
                     Stepped::Waits(load) => {
@@ -102,7 +136,7 @@ impl TakeInode {
                 },
                 None => unreachable!(),
             },
-            TakeInode::Gone => unreachable!(),
+            _ => unreachable!(),
         }
     }
 
@@ -119,7 +153,7 @@ impl TakeInode {
     }
 
     // The lock is had, and the inode is to be loaded.
-    fn load(&mut self, inode: Guard<Inode>, load: LoadInode)
+    fn begin_loading(&mut self, inode: Guard<Inode>, load: LoadInode)
         requires { IsLocking self.old }
         ensures { self.new ≡ loading_in inode load self.old }
     {
