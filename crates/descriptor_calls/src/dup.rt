@@ -1,14 +1,16 @@
 //! dup: one descriptor more for what a descriptor names.
-ghost use Rattle.std.specs.Prelude.{◌≡◌, ℕ};
+ghost use Rattle.std.specs.Prelude.{◌≡◌, ℕ, None};
 ghost use Rattle.atomic_programs.specs.Machines.{OnDone, stepped_at};
 ghost use Rattle.fs_machine.specs.Steps.{State, state_of};
 ghost use Rattle.fs_machine.specs.Machines.{MayNext};
 ghost use Rattle.fs_machine.specs.Places.{StepsAt};
+ghost use Rattle.plain_tree.specs.declared.answer.Reply.{Reply as ReplyState};
+ghost use Rattle.call_parts.specs.Heard.{heard, IsHeard};
 ghost use Rattle.descriptor_calls.specs.Programs.{dup_program};
 ghost use Rattle.descriptor_calls.specs.Machines.{dup_of, DupFits, IsBareDup, dup_came};
 ghost use Rattle.descriptor_calls.specs.declared.dup.Dup.TheVariants as dup;
 
-use atomic_programs::machines::Came;
+use atomic_programs::machines::{Came, put};
 use block_device::Device;
 use call_parts::{failed, full};
 use fs_machine::{Core, Kind, RetiredCore};
@@ -37,53 +39,98 @@ impl Dup {
 
     /// One operation, in its place.
     #[tactic(auto, unfolding(crate::specs::Machines::dup_of, crate::specs::Machines::DupFits, fs_machine::specs::Premises::Honest))]
-    pub fn step<D: Device>(&mut self, hart: u8, core: &mut Core<D>) -> Came<Reply, Kind>
+    pub fn step<D: Device>(
+        &mut self,
+        replied: &mut Option<Reply>,
+        hart: u8,
+        core: &mut Core<D>,
+    ) -> Came<(), Kind>
         requires may { MayNext hart (dup_of self.old) (state_of D.contents D.failures core.old) }
         requires fits { DupFits hart (state_of D.contents D.failures core.old) self.old }
-        ensures steps { StepsAt D.contents D.failures D.Called dup_of (λ reply. reply) DupFits (λ _. Unit {0}) dup.Gone hart self.old self.new result core.old core.new }
+        requires none { replied.old ≡ None }
+        ensures steps { StepsAt D.contents D.failures D.Called dup_of (λ reply. reply) DupFits (λ _. Unit {0}) dup.Gone hart self.old self.new (heard result replied.new) core.old core.new }
+        ensures told { IsHeard result replied.new }
+    {
+        match self {
+            Dup::Double(_) => self.double(replied, hart, core),
+            Dup::Say(_) => self.say(replied, hart, core),
+            Dup::Gone => unreachable!(),
+        }
+    }
+
+    // The descriptor is doubled.
+    #[tactic(auto, unfolding(crate::specs::Machines::dup_of, crate::specs::Machines::DupFits, fs_machine::specs::Premises::Honest))]
+    fn double<D: Device>(
+        &mut self,
+        replied: &mut Option<Reply>,
+        hart: u8,
+        core: &mut Core<D>,
+    ) -> Came<(), Kind>
+        requires double { (x : ℕ) × (self.old ≡ dup.Double x) }
+        requires may { MayNext hart (dup_of self.old) (state_of D.contents D.failures core.old) }
+        requires fits { DupFits hart (state_of D.contents D.failures core.old) self.old }
+        requires none { replied.old ≡ None }
+        ensures steps { StepsAt D.contents D.failures D.Called dup_of (λ reply. reply) DupFits (λ _. Unit {0}) dup.Gone hart self.old self.new (heard result replied.new) core.old core.new }
+        ensures told { IsHeard result replied.new }
     {
         match self {
             Dup::Double(fd) => {
                 let fd = *fd;
                 let doubled = core.double(hart, fd);
-                self.doubled(fd, doubled)
+                self.doubled(replied, fd, doubled)
             }
-            Dup::Say(_) => match mem::replace(self, Dup::Gone) {
-                Dup::Say(reply) => {
-                    core.reply(hart);
-                    Came::Done(reply, Kind::Reply)
-                }
-                _ => unreachable!(),
-            },
-            Dup::Gone => unreachable!(),
+            _ => unreachable!(),
+        }
+    }
+
+    // The reply is given.
+    #[tactic(auto, unfolding(crate::specs::Machines::dup_of, crate::specs::Machines::DupFits, fs_machine::specs::Premises::Honest))]
+    fn say<D: Device>(
+        &mut self,
+        replied: &mut Option<Reply>,
+        hart: u8,
+        core: &mut Core<D>,
+    ) -> Came<(), Kind>
+        requires saying { (x : ReplyState) × (self.old ≡ dup.Say x) }
+        requires may { MayNext hart (dup_of self.old) (state_of D.contents D.failures core.old) }
+        requires fits { DupFits hart (state_of D.contents D.failures core.old) self.old }
+        requires none { replied.old ≡ None }
+        ensures steps { StepsAt D.contents D.failures D.Called dup_of (λ reply. reply) DupFits (λ _. Unit {0}) dup.Gone hart self.old self.new (heard result replied.new) core.old core.new }
+        ensures told { IsHeard result replied.new }
+    {
+        match mem::replace(self, Dup::Gone) {
+            Dup::Say(reply) => {
+                core.reply(hart);
+                put(replied, reply);
+                Came::Done((), Kind::Reply)
+            }
+            _ => unreachable!(),
         }
     }
 
     // What the doubling came to.
-    fn doubled(&mut self, fd: u32, doubled: Doubled) -> Came<Reply, Kind>
-        requires { self.old ≡ dup.Double fd }
-        ensures came { stepped_at self.new result ≡ dup_came fd doubled }
-        ensures ended { OnDone result (self.new ≡ dup.Gone) }
+    fn doubled(&mut self, replied: &mut Option<Reply>, fd: u32, doubled: Doubled) -> Came<(), Kind>
+        requires was { self.old ≡ dup.Double fd }
+        requires none { replied.old ≡ None }
+        ensures came { stepped_at self.new (heard result replied.new) ≡ dup_came fd doubled }
+        ensures ended { OnDone (heard result replied.new) (self.new ≡ dup.Gone) }
+        ensures told { IsHeard result replied.new }
     {
         let call = Call::Dup { fd };
-        match doubled {
+        let reply = match doubled {
             Doubled::BadDescriptor => {
                 self.put(Dup::Gone);
-                Came::Done(failed(call, Cause::BadDescriptor), Kind::Reply)
+                put(replied, failed(call, Cause::BadDescriptor));
+                return Came::Done((), Kind::Reply);
             }
-            Doubled::Full => {
-                self.put(Dup::Say(full(call, Full::Descriptors)));
-                Came::Ran(Kind::Slot)
-            }
-            Doubled::Gave(other) => {
-                let reply = Reply {
-                    answer: Answer::Fd(other as u32),
-                    call,
-                };
-                self.put(Dup::Say(reply));
-                Came::Ran(Kind::Slot)
-            }
-        }
+            Doubled::Full => full(call, Full::Descriptors),
+            Doubled::Gave(other) => Reply {
+                answer: Answer::Fd(other as u32),
+                call,
+            },
+        };
+        self.put(Dup::Say(reply));
+        Came::Ran(Kind::Slot)
     }
 
     // Has this stand in the place of a state that holds nothing.

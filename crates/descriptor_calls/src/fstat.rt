@@ -1,5 +1,5 @@
 //! fstat: what a descriptor names.
-ghost use Rattle.std.specs.Prelude.{◌≡◌, ◌<◌, ◌^◌, ℕ, IsSome};
+ghost use Rattle.std.specs.Prelude.{◌≡◌, ◌<◌, ◌^◌, ℕ, None, IsSome};
 ghost use Rattle.atomic_programs.specs.Machines.{OnDone, stepped_at};
 ghost use Rattle.fs_machine.specs.Steps.{State, state_of};
 ghost use Rattle.fs_machine.specs.Machines.{MayNext};
@@ -10,11 +10,12 @@ ghost use Rattle.fs_tables.specs.declared.inodes.Inode.{Inode as InodeState};
 ghost use Rattle.file_table.specs.Machines.{IsEarly};
 ghost use Rattle.file_table.specs.declared.load_file.LoadFile.{LoadFile as LoadState};
 ghost use Rattle.file_table.specs.declared.load_file.LoadFile.TheVariants as loading;
+ghost use Rattle.call_parts.specs.Heard.{heard, IsHeard};
 ghost use Rattle.descriptor_calls.specs.Programs.{stat_program, stat_reply};
 ghost use Rattle.descriptor_calls.specs.Machines.{fstat_of, FstatFits, IsBareFstat, stat_came};
 ghost use Rattle.descriptor_calls.specs.declared.fstat.Fstat.TheVariants as fstat;
 
-use atomic_programs::machines::Came;
+use atomic_programs::machines::{Came, put};
 use block_device::Device;
 use call_parts::{failed, record_in, stat_of};
 use file_table::{LoadFile, LoadedFile};
@@ -49,26 +50,40 @@ impl Fstat {
 
     /// One operation, in its place.
     #[tactic(auto, unfolding(crate::specs::Machines::fstat_of, crate::specs::Machines::FstatFits))]
-    pub fn step<D: Device>(&mut self, hart: u8, core: &mut Core<D>) -> Came<Reply, Kind>
+    pub fn step<D: Device>(
+        &mut self,
+        replied: &mut Option<Reply>,
+        hart: u8,
+        core: &mut Core<D>,
+    ) -> Came<(), Kind>
         requires may { MayNext hart (fstat_of self.old) (state_of D.contents D.failures core.old) }
         requires fits { FstatFits hart (state_of D.contents D.failures core.old) self.old }
-        ensures steps { StepsAt D.contents D.failures D.Called fstat_of (λ reply. reply) FstatFits (λ _. Unit {0}) fstat.Gone hart self.old self.new result core.old core.new }
+        requires none { replied.old ≡ None }
+        ensures steps { StepsAt D.contents D.failures D.Called fstat_of (λ reply. reply) FstatFits (λ _. Unit {0}) fstat.Gone hart self.old self.new (heard result replied.new) core.old core.new }
+        ensures told { IsHeard result replied.new }
     {
         match self {
-            Fstat::Loading(_, _) => self.load(hart, core),
-            Fstat::Give(_, _) => self.give(hart, core),
-            Fstat::Say(_) => self.say(hart, core),
+            Fstat::Loading(_, _) => self.load(replied, hart, core),
+            Fstat::Give(_, _) => self.give(replied, hart, core),
+            Fstat::Say(_) => self.say(replied, hart, core),
             Fstat::Gone => unreachable!(),
         }
     }
 
     // What the descriptor names is locked and loaded.
     #[tactic(auto, unfolding(crate::specs::Machines::fstat_of, crate::specs::Machines::FstatFits))]
-    fn load<D: Device>(&mut self, hart: u8, core: &mut Core<D>) -> Came<Reply, Kind>
+    fn load<D: Device>(
+        &mut self,
+        replied: &mut Option<Reply>,
+        hart: u8,
+        core: &mut Core<D>,
+    ) -> Came<(), Kind>
         requires loading { (x : ℕ × LoadState) × (self.old ≡ fstat.Loading x.0 x.1) }
         requires may { MayNext hart (fstat_of self.old) (state_of D.contents D.failures core.old) }
         requires fits { FstatFits hart (state_of D.contents D.failures core.old) self.old }
-        ensures steps { StepsAt D.contents D.failures D.Called fstat_of (λ reply. reply) FstatFits (λ _. Unit {0}) fstat.Gone hart self.old self.new result core.old core.new }
+        requires none { replied.old ≡ None }
+        ensures steps { StepsAt D.contents D.failures D.Called fstat_of (λ reply. reply) FstatFits (λ _. Unit {0}) fstat.Gone hart self.old self.new (heard result replied.new) core.old core.new }
+        ensures told { IsHeard result replied.new }
     {
         match self {
             Fstat::Loading(fd, load) => match load.step(hart, core) {
@@ -76,7 +91,7 @@ impl Fstat {
                 Came::Ran(kind) => Came::Ran(kind),
                 Came::Done(loaded, kind) => {
                     let fd = *fd;
-                    self.loaded(fd, loaded, kind)
+                    self.loaded(replied, fd, loaded, kind)
                 }
                 Came::Stopped => Came::Stopped,
             },
@@ -85,15 +100,24 @@ impl Fstat {
     }
 
     // It has been, or was refused.
-    fn loaded(&mut self, fd: u32, loaded: LoadedFile, kind: Kind) -> Came<Reply, Kind>
-        requires { self.old ≡ fstat.Loading fd loading.Gone }
-        ensures came { stepped_at self.new result ≡ stat_came fd loaded kind }
-        ensures ended { OnDone result (self.new ≡ fstat.Gone) }
+    fn loaded(
+        &mut self,
+        replied: &mut Option<Reply>,
+        fd: u32,
+        loaded: LoadedFile,
+        kind: Kind,
+    ) -> Came<(), Kind>
+        requires was { self.old ≡ fstat.Loading fd loading.Gone }
+        requires none { replied.old ≡ None }
+        ensures came { stepped_at self.new (heard result replied.new) ≡ stat_came fd loaded kind }
+        ensures ended { OnDone (heard result replied.new) (self.new ≡ fstat.Gone) }
+        ensures told { IsHeard result replied.new }
     {
         match loaded {
             LoadedFile::Refused(_) => {
                 self.put(Fstat::Gone);
-                Came::Done(failed(Call::Fstat { fd }, Cause::BadDescriptor), kind)
+                put(replied, failed(Call::Fstat { fd }, Cause::BadDescriptor));
+                Came::Done((), kind)
             }
             LoadedFile::Loaded(_, guard) => {
                 self.put(Fstat::Give(fd, guard));
@@ -104,11 +128,18 @@ impl Fstat {
 
     // The lock is given up.
     #[tactic(auto, unfolding(crate::specs::Machines::fstat_of, crate::specs::Machines::FstatFits, fs_machine::specs::Premises::Honest))]
-    fn give<D: Device>(&mut self, hart: u8, core: &mut Core<D>) -> Came<Reply, Kind>
+    fn give<D: Device>(
+        &mut self,
+        replied: &mut Option<Reply>,
+        hart: u8,
+        core: &mut Core<D>,
+    ) -> Came<(), Kind>
         requires giving { (x : ℕ × GuardState InodeState) × (self.old ≡ fstat.Give x.0 x.1) }
         requires may { MayNext hart (fstat_of self.old) (state_of D.contents D.failures core.old) }
         requires fits { FstatFits hart (state_of D.contents D.failures core.old) self.old }
-        ensures steps { StepsAt D.contents D.failures D.Called fstat_of (λ reply. reply) FstatFits (λ _. Unit {0}) fstat.Gone hart self.old self.new result core.old core.new }
+        requires none { replied.old ≡ None }
+        ensures steps { StepsAt D.contents D.failures D.Called fstat_of (λ reply. reply) FstatFits (λ _. Unit {0}) fstat.Gone hart self.old self.new (heard result replied.new) core.old core.new }
+        ensures told { IsHeard result replied.new }
     {
         match mem::replace(self, Fstat::Gone) {
             Fstat::Give(fd, guard) => {
@@ -123,16 +154,24 @@ impl Fstat {
 
     // The reply is given.
     #[tactic(auto, unfolding(crate::specs::Machines::fstat_of, crate::specs::Machines::FstatFits, fs_machine::specs::Premises::Honest))]
-    fn say<D: Device>(&mut self, hart: u8, core: &mut Core<D>) -> Came<Reply, Kind>
+    fn say<D: Device>(
+        &mut self,
+        replied: &mut Option<Reply>,
+        hart: u8,
+        core: &mut Core<D>,
+    ) -> Came<(), Kind>
         requires saying { (x : ReplyState) × (self.old ≡ fstat.Say x) }
         requires may { MayNext hart (fstat_of self.old) (state_of D.contents D.failures core.old) }
         requires fits { FstatFits hart (state_of D.contents D.failures core.old) self.old }
-        ensures steps { StepsAt D.contents D.failures D.Called fstat_of (λ reply. reply) FstatFits (λ _. Unit {0}) fstat.Gone hart self.old self.new result core.old core.new }
+        requires none { replied.old ≡ None }
+        ensures steps { StepsAt D.contents D.failures D.Called fstat_of (λ reply. reply) FstatFits (λ _. Unit {0}) fstat.Gone hart self.old self.new (heard result replied.new) core.old core.new }
+        ensures told { IsHeard result replied.new }
     {
         match mem::replace(self, Fstat::Gone) {
             Fstat::Say(reply) => {
                 core.reply(hart);
-                Came::Done(reply, Kind::Reply)
+                put(replied, reply);
+                Came::Done((), Kind::Reply)
             }
             _ => unreachable!(),
         }

@@ -1,17 +1,21 @@
 //! inherit: a child hart gets the caller's descriptors and its directory.
-ghost use Rattle.std.specs.Prelude.{◌≡◌, ◌+◌, ◌<◌, ◌≤◌, ◌^◌, ℕ, Option};
+ghost use Rattle.std.specs.Prelude.{◌≡◌, ◌+◌, ◌<◌, ◌≤◌, ◌^◌, ℕ, Option, None};
 ghost use Rattle.fs_tables.specs.Files.{IsDirectory};
 ghost use Rattle.fs_machine.specs.Steps.{State, state_of};
 ghost use Rattle.fs_machine.specs.Machines.{MayNext};
 ghost use Rattle.fs_machine.specs.Places.{StepsAt};
 ghost use Rattle.fs_layout.specs.declared.superblock.Super.{Super as SuperState};
+ghost use Rattle.plain_tree.specs.declared.answer.Reply.{Reply as ReplyState};
+ghost use Rattle.fs_machine.specs.declared.finish.Finish.{Finish as FinishState};
 ghost use Rattle.inode_data.specs.declared.dropping.DropReference.{DropReference as DropState};
 ghost use Rattle.file_table.specs.Machines.{IsEarly};
+ghost use Rattle.call_parts.specs.Heard.{heard, IsHeard};
 ghost use Rattle.descriptor_calls.specs.Inheriting.{directory_given, inherit_of, inherit_program, lend_from, lent, GoesOnWith, InheritFits, IsBareInherit};
+ghost use Rattle.descriptor_calls.specs.declared.inherit.Lending.{Lending as LendingState};
 ghost use Rattle.descriptor_calls.specs.declared.inherit.Inherit.TheVariants as inheriting;
 
 use crate::nested::{Nested, let_go, put_back, take};
-use atomic_programs::machines::Came;
+use atomic_programs::machines::{Came, put};
 use block_device::Device;
 use call_parts::done;
 use fs_layout::Super;
@@ -65,10 +69,43 @@ impl Inherit {
 
     /// One operation, in its place.
     #[tactic(auto, unfolding(crate::specs::Inheriting::inherit_of, crate::specs::Inheriting::InheritFits, fs_machine::specs::Premises::Honest))]
-    pub fn step<D: Device>(&mut self, hart: u8, core: &mut Core<D>) -> Came<Reply, Kind>
+    pub fn step<D: Device>(
+        &mut self,
+        replied: &mut Option<Reply>,
+        hart: u8,
+        core: &mut Core<D>,
+    ) -> Came<(), Kind>
         requires may { MayNext hart (inherit_of self.old) (state_of D.contents D.failures core.old) }
         requires fits { InheritFits hart (state_of D.contents D.failures core.old) self.old }
-        ensures steps { StepsAt D.contents D.failures D.Called inherit_of (λ reply. reply) InheritFits (λ _. Unit {0}) inheriting.Gone hart self.old self.new result core.old core.new }
+        requires none { replied.old ≡ None }
+        ensures steps { StepsAt D.contents D.failures D.Called inherit_of (λ reply. reply) InheritFits (λ _. Unit {0}) inheriting.Gone hart self.old self.new (heard result replied.new) core.old core.new }
+        ensures told { IsHeard result replied.new }
+    {
+        match self {
+            Inherit::Lend(_) => self.lend(replied, hart, core),
+            Inherit::Directory(_, _) => self.lend_directory(replied, hart, core),
+            Inherit::Join(_, _, _) => self.join(replied, hart, core),
+            Inherit::Dropping(_, _, _) => self.drop_reference(replied, hart, core),
+            Inherit::Finishing(_, _) => self.finish(replied, hart, core),
+            Inherit::Say(_) => self.say(replied, hart, core),
+            Inherit::Gone => unreachable!(),
+        }
+    }
+
+    // The next descriptor goes to the child.
+    #[tactic(auto, unfolding(crate::specs::Inheriting::inherit_of, crate::specs::Inheriting::InheritFits, fs_machine::specs::Premises::Honest))]
+    fn lend<D: Device>(
+        &mut self,
+        replied: &mut Option<Reply>,
+        hart: u8,
+        core: &mut Core<D>,
+    ) -> Came<(), Kind>
+        requires lending { (x : LendingState) × (self.old ≡ inheriting.Lend x) }
+        requires may { MayNext hart (inherit_of self.old) (state_of D.contents D.failures core.old) }
+        requires fits { InheritFits hart (state_of D.contents D.failures core.old) self.old }
+        requires none { replied.old ≡ None }
+        ensures steps { StepsAt D.contents D.failures D.Called inherit_of (λ reply. reply) InheritFits (λ _. Unit {0}) inheriting.Gone hart self.old self.new (heard result replied.new) core.old core.new }
+        ensures told { IsHeard result replied.new }
     {
         match self {
             Inherit::Lend(l) => {
@@ -77,6 +114,26 @@ impl Inherit {
                 self.put(next);
                 Came::Ran(kind)
             }
+            _ => unreachable!(),
+        }
+    }
+
+    // The directory goes to the child.
+    #[tactic(auto, unfolding(crate::specs::Inheriting::inherit_of, crate::specs::Inheriting::InheritFits, fs_machine::specs::Premises::Honest))]
+    fn lend_directory<D: Device>(
+        &mut self,
+        replied: &mut Option<Reply>,
+        hart: u8,
+        core: &mut Core<D>,
+    ) -> Came<(), Kind>
+        requires lending { (x : SuperState × ℕ) × (self.old ≡ inheriting.Directory x.0 x.1) }
+        requires may { MayNext hart (inherit_of self.old) (state_of D.contents D.failures core.old) }
+        requires fits { InheritFits hart (state_of D.contents D.failures core.old) self.old }
+        requires none { replied.old ≡ None }
+        ensures steps { StepsAt D.contents D.failures D.Called inherit_of (λ reply. reply) InheritFits (λ _. Unit {0}) inheriting.Gone hart self.old self.new (heard result replied.new) core.old core.new }
+        ensures told { IsHeard result replied.new }
+    {
+        match self {
             Inherit::Directory(sizes, child) => {
                 let (sizes, child) = (*sizes, *child);
                 let given = core.give(hart, child, DESCRIPTORS as u32);
@@ -84,37 +141,24 @@ impl Inherit {
                 self.put(next);
                 Came::Ran(kind)
             }
-            Inherit::Join(_, _, _) => self.join(hart, core),
-            Inherit::Dropping(_, _, _) => self.drop_reference(hart, core),
-            Inherit::Finishing(child, place) => {
-                let child = *child;
-                let finish = take(place);
-                match put_back(place, finish.step(hart, core)) {
-                    Nested::Goes(came) => came,
-                    Nested::Ends((), kind) => {
-                        self.put(Inherit::Say(done(Call::Inherit { child })));
-                        Came::Ran(kind)
-                    }
-                }
-            }
-            Inherit::Say(_) => match mem::replace(self, Inherit::Gone) {
-                Inherit::Say(reply) => {
-                    core.reply(hart);
-                    Came::Done(reply, Kind::Reply)
-                }
-                _ => unreachable!(),
-            },
-            Inherit::Gone => unreachable!(),
+            _ => unreachable!(),
         }
     }
 
     // A transaction is joined.
     #[tactic(auto, unfolding(crate::specs::Inheriting::inherit_of, crate::specs::Inheriting::InheritFits, fs_machine::specs::Premises::Honest))]
-    fn join<D: Device>(&mut self, hart: u8, core: &mut Core<D>) -> Came<Reply, Kind>
+    fn join<D: Device>(
+        &mut self,
+        replied: &mut Option<Reply>,
+        hart: u8,
+        core: &mut Core<D>,
+    ) -> Came<(), Kind>
         requires join { (x : SuperState × ℕ × ℕ) × (self.old ≡ inheriting.Join x.0 x.1 x.2) }
         requires may { MayNext hart (inherit_of self.old) (state_of D.contents D.failures core.old) }
         requires fits { InheritFits hart (state_of D.contents D.failures core.old) self.old }
-        ensures steps { StepsAt D.contents D.failures D.Called inherit_of (λ reply. reply) InheritFits (λ _. Unit {0}) inheriting.Gone hart self.old self.new result core.old core.new }
+        requires none { replied.old ≡ None }
+        ensures steps { StepsAt D.contents D.failures D.Called inherit_of (λ reply. reply) InheritFits (λ _. Unit {0}) inheriting.Gone hart self.old self.new (heard result replied.new) core.old core.new }
+        ensures told { IsHeard result replied.new }
     {
         let Some(txn) = core.join(hart) else {
             return Came::Waits;
@@ -131,11 +175,18 @@ impl Inherit {
 
     // The reference to the child's old directory is dropped.
     #[tactic(auto, unfolding(crate::specs::Inheriting::inherit_of, crate::specs::Inheriting::InheritFits, fs_machine::specs::Fetching::finish_of, fs_machine::specs::Fetching::FinishFits))]
-    fn drop_reference<D: Device>(&mut self, hart: u8, core: &mut Core<D>) -> Came<Reply, Kind>
+    fn drop_reference<D: Device>(
+        &mut self,
+        replied: &mut Option<Reply>,
+        hart: u8,
+        core: &mut Core<D>,
+    ) -> Came<(), Kind>
         requires dropping { (x : ℕ × ℕ × Option DropState) × (self.old ≡ inheriting.Dropping x.0 x.1 x.2) }
         requires may { MayNext hart (inherit_of self.old) (state_of D.contents D.failures core.old) }
         requires fits { InheritFits hart (state_of D.contents D.failures core.old) self.old }
-        ensures steps { StepsAt D.contents D.failures D.Called inherit_of (λ reply. reply) InheritFits (λ _. Unit {0}) inheriting.Gone hart self.old self.new result core.old core.new }
+        requires none { replied.old ≡ None }
+        ensures steps { StepsAt D.contents D.failures D.Called inherit_of (λ reply. reply) InheritFits (λ _. Unit {0}) inheriting.Gone hart self.old self.new (heard result replied.new) core.old core.new }
+        ensures told { IsHeard result replied.new }
     {
         match self {
             Inherit::Dropping(_, txn, place) => {
@@ -151,6 +202,62 @@ impl Inherit {
                         _ => unreachable!(),
                     },
                 }
+            }
+            _ => unreachable!(),
+        }
+    }
+
+    // The transaction is left.
+    #[tactic(auto, unfolding(crate::specs::Inheriting::inherit_of, crate::specs::Inheriting::InheritFits))]
+    fn finish<D: Device>(
+        &mut self,
+        replied: &mut Option<Reply>,
+        hart: u8,
+        core: &mut Core<D>,
+    ) -> Came<(), Kind>
+        requires finishing { (x : ℕ × Option FinishState) × (self.old ≡ inheriting.Finishing x.0 x.1) }
+        requires may { MayNext hart (inherit_of self.old) (state_of D.contents D.failures core.old) }
+        requires fits { InheritFits hart (state_of D.contents D.failures core.old) self.old }
+        requires none { replied.old ≡ None }
+        ensures steps { StepsAt D.contents D.failures D.Called inherit_of (λ reply. reply) InheritFits (λ _. Unit {0}) inheriting.Gone hart self.old self.new (heard result replied.new) core.old core.new }
+        ensures told { IsHeard result replied.new }
+    {
+        match self {
+            Inherit::Finishing(child, place) => {
+                let child = *child;
+                let finish = take(place);
+                match put_back(place, finish.step(hart, core)) {
+                    Nested::Goes(came) => came,
+                    Nested::Ends((), kind) => {
+                        self.put(Inherit::Say(done(Call::Inherit { child })));
+                        Came::Ran(kind)
+                    }
+                }
+            }
+            _ => unreachable!(),
+        }
+    }
+
+    // The reply is given.
+    #[tactic(auto, unfolding(crate::specs::Inheriting::inherit_of, crate::specs::Inheriting::InheritFits, fs_machine::specs::Premises::Honest))]
+    fn say<D: Device>(
+        &mut self,
+        replied: &mut Option<Reply>,
+        hart: u8,
+        core: &mut Core<D>,
+    ) -> Came<(), Kind>
+        requires saying { (x : ReplyState) × (self.old ≡ inheriting.Say x) }
+        requires may { MayNext hart (inherit_of self.old) (state_of D.contents D.failures core.old) }
+        requires fits { InheritFits hart (state_of D.contents D.failures core.old) self.old }
+        requires none { replied.old ≡ None }
+        ensures steps { StepsAt D.contents D.failures D.Called inherit_of (λ reply. reply) InheritFits (λ _. Unit {0}) inheriting.Gone hart self.old self.new (heard result replied.new) core.old core.new }
+        ensures told { IsHeard result replied.new }
+    {
+        match mem::replace(self, Inherit::Gone) {
+            Inherit::Say(reply) => {
+                core.reply(hart);
+                put(replied, reply);
+                Came::Done((), Kind::Reply)
             }
             _ => unreachable!(),
         }

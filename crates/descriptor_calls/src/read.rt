@@ -1,5 +1,5 @@
 //! read: a part of what a descriptor names.
-ghost use Rattle.std.specs.Prelude.{◌≡◌, ◌+◌, ◌<◌, ◌^◌, ℕ, List, Some, IsSome, length};
+ghost use Rattle.std.specs.Prelude.{◌≡◌, ◌+◌, ◌<◌, ◌^◌, ℕ, List, Some, None, IsSome, length};
 ghost use Rattle.atomic_programs.specs.Prog.{Ran as ItRan};
 ghost use Rattle.atomic_programs.specs.Machines.{Left as LeftOf, OnDone, stepped_at};
 ghost use Rattle.plain_tree.specs.declared.answer.Reply.{Reply as ReplyState};
@@ -16,11 +16,12 @@ ghost use Rattle.inode_data.specs.declared.read_part.ReadPart.TheVariants as par
 ghost use Rattle.file_table.specs.Programs.{Loads};
 ghost use Rattle.file_table.specs.declared.load_file.LoadFile.{LoadFile as LoadState};
 ghost use Rattle.file_table.specs.Machines.{IsEarly, IsLoaded, IfLoaded};
+ghost use Rattle.call_parts.specs.Heard.{heard, IsHeard};
 ghost use Rattle.descriptor_calls.specs.Programs.{read_program, read_on, read_reply};
 ghost use Rattle.descriptor_calls.specs.Machines.{read_call_of, ReadCallFits, HasLoadedFile, IsBareRead, ReadsOn};
 ghost use Rattle.descriptor_calls.specs.declared.read.Read.TheVariants as read;
 
-use atomic_programs::machines::Came;
+use atomic_programs::machines::{Came, put};
 use block_device::Device;
 use buffer_cache::HARTS;
 use call_parts::{cause_of, failed};
@@ -60,34 +61,48 @@ impl Read {
 
     /// One operation, in its place.
     #[tactic(auto, unfolding(crate::specs::Machines::read_call_of, crate::specs::Machines::ReadCallFits))]
-    pub fn step<D: Device>(&mut self, hart: u8, core: &mut Core<D>) -> Came<Reply, Kind>
+    pub fn step<D: Device>(
+        &mut self,
+        replied: &mut Option<Reply>,
+        hart: u8,
+        core: &mut Core<D>,
+    ) -> Came<(), Kind>
         requires hart { hart < HARTS }
         requires may { MayNext hart (read_call_of self.old) (state_of D.contents D.failures core.old) }
         requires fits { ReadCallFits hart (state_of D.contents D.failures core.old) self.old }
-        ensures steps { StepsAt D.contents D.failures D.Called read_call_of (λ reply. reply) ReadCallFits (λ _. Unit {0}) read.Gone hart self.old self.new result core.old core.new }
+        requires none { replied.old ≡ None }
+        ensures steps { StepsAt D.contents D.failures D.Called read_call_of (λ reply. reply) ReadCallFits (λ _. Unit {0}) read.Gone hart self.old self.new (heard result replied.new) core.old core.new }
+        ensures told { IsHeard result replied.new }
     {
         match self {
-            Read::Loading(_, _, _) => self.load(hart, core),
-            Read::Reading(_, _, _) => self.read(hart, core),
-            Read::Give(_, _, _) => self.give(hart, core),
-            Read::Say(_) => self.say(hart, core),
+            Read::Loading(_, _, _) => self.load(replied, hart, core),
+            Read::Reading(_, _, _) => self.read(replied, hart, core),
+            Read::Give(_, _, _) => self.give(replied, hart, core),
+            Read::Say(_) => self.say(replied, hart, core),
             Read::Gone => unreachable!(),
         }
     }
 
     // What the descriptor names is locked and loaded.
     #[tactic(auto, unfolding(crate::specs::Machines::read_call_of, crate::specs::Machines::ReadCallFits))]
-    fn load<D: Device>(&mut self, hart: u8, core: &mut Core<D>) -> Came<Reply, Kind>
+    fn load<D: Device>(
+        &mut self,
+        replied: &mut Option<Reply>,
+        hart: u8,
+        core: &mut Core<D>,
+    ) -> Came<(), Kind>
         requires loading { (x : ℕ × List ℕ × LoadState) × (self.old ≡ read.Loading x.0 x.1 x.2) }
         requires may { MayNext hart (read_call_of self.old) (state_of D.contents D.failures core.old) }
         requires fits { ReadCallFits hart (state_of D.contents D.failures core.old) self.old }
-        ensures steps { StepsAt D.contents D.failures D.Called read_call_of (λ reply. reply) ReadCallFits (λ _. Unit {0}) read.Gone hart self.old self.new result core.old core.new }
+        requires none { replied.old ≡ None }
+        ensures steps { StepsAt D.contents D.failures D.Called read_call_of (λ reply. reply) ReadCallFits (λ _. Unit {0}) read.Gone hart self.old self.new (heard result replied.new) core.old core.new }
+        ensures told { IsHeard result replied.new }
     {
         match self {
             Read::Loading(_, _, load) => match load.step(hart, core) {
                 Came::Waits => Came::Waits,
                 Came::Ran(kind) => Came::Ran(kind),
-                Came::Done(loaded, kind) => self.loaded(loaded, kind),
+                Came::Done(loaded, kind) => self.loaded(replied, loaded, kind),
                 Came::Stopped => Came::Stopped,
             },
             _ => unreachable!(),
@@ -96,12 +111,19 @@ impl Read {
 
     // It has been, or was refused.
     #[tactic(auto, unfolding(crate::specs::Machines::read_call_of, crate::specs::Machines::ReadCallFits))]
-    fn loaded(&mut self, loaded: LoadedFile, kind: Kind) -> Came<Reply, Kind>
+    fn loaded(
+        &mut self,
+        replied: &mut Option<Reply>,
+        loaded: LoadedFile,
+        kind: Kind,
+    ) -> Came<(), Kind>
         requires had { HasLoadedFile self.old }
         requires loaded { IfLoaded loaded (λ file guard. IsSome guard.value.content) }
-        ensures goes { ReadsOn loaded kind self.old (stepped_at self.new result) }
-        ensures fits { (hart : ℕ) (s : State) → IfLoaded loaded (λ file guard. IsLoaded hart file.number guard s) → LeftOf (ReadCallFits hart s) (λ _. Unit {0}) (stepped_at self.new result) }
-        ensures ended { OnDone result (self.new ≡ read.Gone) }
+        requires none { replied.old ≡ None }
+        ensures goes { ReadsOn loaded kind self.old (stepped_at self.new (heard result replied.new)) }
+        ensures fits { (hart : ℕ) (s : State) → IfLoaded loaded (λ file guard. IsLoaded hart file.number guard s) → LeftOf (ReadCallFits hart s) (λ _. Unit {0}) (stepped_at self.new (heard result replied.new)) }
+        ensures ended { OnDone (heard result replied.new) (self.new ≡ read.Gone) }
+        ensures told { IsHeard result replied.new }
     {
         match mem::replace(self, Read::Gone) {
             Read::Loading(fd, buf, load) => {
@@ -111,7 +133,8 @@ impl Read {
                 }
                 match loaded {
                     LoadedFile::Refused(why) => {
-                        Came::Done(failed(Call::Read { fd, buf }, cause_of(why)), kind)
+                        put(replied, failed(Call::Read { fd, buf }, cause_of(why)));
+                        Came::Done((), kind)
                     }
                     LoadedFile::Loaded(file, inode) => {
                         self.put(begin(fd, buf, file, inode));
@@ -125,11 +148,18 @@ impl Read {
 
     // It is read.
     #[tactic(auto, unfolding(crate::specs::Machines::read_call_of, crate::specs::Machines::ReadCallFits))]
-    fn read<D: Device>(&mut self, hart: u8, core: &mut Core<D>) -> Came<Reply, Kind>
+    fn read<D: Device>(
+        &mut self,
+        replied: &mut Option<Reply>,
+        hart: u8,
+        core: &mut Core<D>,
+    ) -> Came<(), Kind>
         requires reading { (x : ℕ × ℕ × PartState) × (self.old ≡ read.Reading x.0 x.1 x.2) }
         requires may { MayNext hart (read_call_of self.old) (state_of D.contents D.failures core.old) }
         requires fits { ReadCallFits hart (state_of D.contents D.failures core.old) self.old }
-        ensures steps { StepsAt D.contents D.failures D.Called read_call_of (λ reply. reply) ReadCallFits (λ _. Unit {0}) read.Gone hart self.old self.new result core.old core.new }
+        requires none { replied.old ≡ None }
+        ensures steps { StepsAt D.contents D.failures D.Called read_call_of (λ reply. reply) ReadCallFits (λ _. Unit {0}) read.Gone hart self.old self.new (heard result replied.new) core.old core.new }
+        ensures told { IsHeard result replied.new }
     {
         match self {
             Read::Reading(fd, offset, part) => match part.step(hart, core) {
@@ -156,12 +186,19 @@ impl Read {
 
     // The lock is given up, and the offset moves.
     #[tactic(auto, unfolding(crate::specs::Machines::read_call_of, crate::specs::Machines::ReadCallFits, fs_machine::specs::Premises::Honest))]
-    fn give<D: Device>(&mut self, hart: u8, core: &mut Core<D>) -> Came<Reply, Kind>
+    fn give<D: Device>(
+        &mut self,
+        replied: &mut Option<Reply>,
+        hart: u8,
+        core: &mut Core<D>,
+    ) -> Came<(), Kind>
         requires hart { hart < HARTS }
         requires giving { (x : ℕ × ℕ × ReadingState) × (self.old ≡ read.Give x.0 x.1 x.2) }
         requires may { MayNext hart (read_call_of self.old) (state_of D.contents D.failures core.old) }
         requires fits { ReadCallFits hart (state_of D.contents D.failures core.old) self.old }
-        ensures steps { StepsAt D.contents D.failures D.Called read_call_of (λ reply. reply) ReadCallFits (λ _. Unit {0}) read.Gone hart self.old self.new result core.old core.new }
+        requires none { replied.old ≡ None }
+        ensures steps { StepsAt D.contents D.failures D.Called read_call_of (λ reply. reply) ReadCallFits (λ _. Unit {0}) read.Gone hart self.old self.new (heard result replied.new) core.old core.new }
+        ensures told { IsHeard result replied.new }
     {
         match mem::replace(self, Read::Gone) {
             Read::Give(fd, offset, reading) => {
@@ -175,16 +212,24 @@ impl Read {
 
     // The reply is given.
     #[tactic(auto, unfolding(crate::specs::Machines::read_call_of, crate::specs::Machines::ReadCallFits, fs_machine::specs::Premises::Honest))]
-    fn say<D: Device>(&mut self, hart: u8, core: &mut Core<D>) -> Came<Reply, Kind>
+    fn say<D: Device>(
+        &mut self,
+        replied: &mut Option<Reply>,
+        hart: u8,
+        core: &mut Core<D>,
+    ) -> Came<(), Kind>
         requires saying { (x : ReplyState) × (self.old ≡ read.Say x) }
         requires may { MayNext hart (read_call_of self.old) (state_of D.contents D.failures core.old) }
         requires fits { ReadCallFits hart (state_of D.contents D.failures core.old) self.old }
-        ensures steps { StepsAt D.contents D.failures D.Called read_call_of (λ reply. reply) ReadCallFits (λ _. Unit {0}) read.Gone hart self.old self.new result core.old core.new }
+        requires none { replied.old ≡ None }
+        ensures steps { StepsAt D.contents D.failures D.Called read_call_of (λ reply. reply) ReadCallFits (λ _. Unit {0}) read.Gone hart self.old self.new (heard result replied.new) core.old core.new }
+        ensures told { IsHeard result replied.new }
     {
         match mem::replace(self, Read::Gone) {
             Read::Say(reply) => {
                 core.reply(hart);
-                Came::Done(reply, Kind::Reply)
+                put(replied, reply);
+                Came::Done((), Kind::Reply)
             }
             _ => unreachable!(),
         }

@@ -1,5 +1,5 @@
 //! write: pieces, each in a transaction of its own.
-ghost use Rattle.std.specs.Prelude.{◌≡◌, ◌+◌, ◌≤◌, ◌<◌, ◌^◌, ℕ, Option, Some, IsSome, List, [], length};
+ghost use Rattle.std.specs.Prelude.{◌≡◌, ◌+◌, ◌≤◌, ◌<◌, ◌^◌, ℕ, Option, Some, None, IsSome, List, [], length};
 ghost use Rattle.plain_tree.specs.declared.call.Call.TheVariants.{Write as WriteCall};
 ghost use Rattle.plain_tree.specs.Widths.{piece_len};
 ghost use Rattle.fs_layout.specs.Widths.{bits_per_block};
@@ -21,13 +21,14 @@ ghost use Rattle.inode_table.specs.declared.load_inode.LoadInode.{LoadInode as L
 ghost use Rattle.inode_data.specs.declared.write_part.PartWritten.{PartWritten as WrittenState};
 ghost use Rattle.inode_data.specs.declared.write_part.WritePart.{WritePart as PartState};
 ghost use Rattle.file_table.specs.Machines.{IsEarly};
+ghost use Rattle.call_parts.specs.Heard.{heard, IsHeard};
 ghost use Rattle.descriptor_calls.specs.declared.write.Writes.{Writes as WritesState};
 ghost use Rattle.descriptor_calls.specs.declared.write.Ended.{Ended as EndedState};
 ghost use Rattle.descriptor_calls.specs.declared.write.Write.TheVariants as write;
 ghost use Rattle.descriptor_calls.specs.Writing.{after_piece, behind, checked_reply, end_of, joined_in, leave_piece, part_of, piece_refused, write_call_of, write_loaded, write_locked, write_program, written_in, HasLeft, HasLoaded, HasLocked, HasWritten, IsBeginning, IsChecking, IsJoining, IsSaying, IsWrite, LeftTo, LoadedTo, LockedTo, RefusedAs, WriteCallFits};
 
 use crate::nested::{Nested, let_go, put_back, take};
-use atomic_programs::machines::Came;
+use atomic_programs::machines::{Came, put};
 use block_device::Device;
 use buffer_cache::HARTS;
 use call_parts::{cause_of, failed, full};
@@ -120,39 +121,54 @@ impl Write {
 
     /// One operation, in its place.
     #[tactic(auto, unfolding(crate::specs::Writing::write_call_of, crate::specs::Writing::WriteCallFits, fs_machine::specs::Premises::Honest))]
-    pub fn step<D: Device>(&mut self, hart: u8, core: &mut Core<D>) -> Came<Reply, Kind>
+    pub fn step<D: Device>(
+        &mut self,
+        replied: &mut Option<Reply>,
+        hart: u8,
+        core: &mut Core<D>,
+    ) -> Came<(), Kind>
         requires hart { hart < HARTS }
         requires may { MayNext hart (write_call_of self.old) (state_of D.contents D.failures core.old) }
         requires fits { WriteCallFits hart (state_of D.contents D.failures core.old) self.old }
-        ensures steps { StepsAt D.contents D.failures D.Called write_call_of (λ reply. reply) WriteCallFits (λ _. Unit {0}) write.Gone hart self.old self.new result core.old core.new }
+        requires none { replied.old ≡ None }
+        ensures steps { StepsAt D.contents D.failures D.Called write_call_of (λ reply. reply) WriteCallFits (λ _. Unit {0}) write.Gone hart self.old self.new (heard result replied.new) core.old core.new }
+        ensures told { IsHeard result replied.new }
     {
         match self {
-            Write::Check(_, _) => self.check(hart, core),
-            Write::Begin(_) => self.begin(hart, core),
-            Write::Join(_) => self.join(hart, core),
-            Write::Lock(_, _) => self.lock(hart, core),
-            Write::Loading(_, _, _, _, _) => self.load(hart, core),
-            Write::Writing(_, _, _, _) => self.write(hart, core),
-            Write::Deny(_, _, _, _) => self.deny(hart, core),
-            Write::Give(_, _, _, _) => self.give_up(hart, core),
-            Write::Leaving(_, _, _) => self.finish(hart, core),
-            Write::Say(_) => self.say(hart, core),
+            Write::Check(_, _) => self.check(replied, hart, core),
+            Write::Begin(_) => self.begin(replied, hart, core),
+            Write::Join(_) => self.join(replied, hart, core),
+            Write::Lock(_, _) => self.lock(replied, hart, core),
+            Write::Loading(_, _, _, _, _) => self.load(replied, hart, core),
+            Write::Writing(_, _, _, _) => self.write(replied, hart, core),
+            Write::Deny(_, _, _, _) => self.deny(replied, hart, core),
+            Write::Give(_, _, _, _) => self.give_up(replied, hart, core),
+            Write::Leaving(_, _, _) => self.finish(replied, hart, core),
+            Write::Say(_) => self.say(replied, hart, core),
             Write::Gone => unreachable!(),
         }
     }
 
     // The descriptor is looked up.
     #[tactic(auto, unfolding(crate::specs::Writing::write_call_of, crate::specs::Writing::WriteCallFits, fs_machine::specs::Premises::Honest))]
-    fn check<D: Device>(&mut self, hart: u8, core: &mut Core<D>) -> Came<Reply, Kind>
+    fn check<D: Device>(
+        &mut self,
+        replied: &mut Option<Reply>,
+        hart: u8,
+        core: &mut Core<D>,
+    ) -> Came<(), Kind>
         requires at { IsChecking self.old }
         requires may { MayNext hart (write_call_of self.old) (state_of D.contents D.failures core.old) }
         requires fits { WriteCallFits hart (state_of D.contents D.failures core.old) self.old }
-        ensures steps { StepsAt D.contents D.failures D.Called write_call_of (λ reply. reply) WriteCallFits (λ _. Unit {0}) write.Gone hart self.old self.new result core.old core.new }
+        requires none { replied.old ≡ None }
+        ensures steps { StepsAt D.contents D.failures D.Called write_call_of (λ reply. reply) WriteCallFits (λ _. Unit {0}) write.Gone hart self.old self.new (heard result replied.new) core.old core.new }
+        ensures told { IsHeard result replied.new }
     {
         match mem::replace(self, Write::Gone) {
             Write::Check(fd, bytes) => {
                 let why = core.check_file(hart, Want::Write, fd);
-                Came::Done(checked(fd, bytes, why), Kind::Reply)
+                put(replied, checked(fd, bytes, why));
+                Came::Done((), Kind::Reply)
             }
             _ => unreachable!(),
         }
@@ -160,16 +176,24 @@ impl Write {
 
     // The reply is given.
     #[tactic(auto, unfolding(crate::specs::Writing::write_call_of, crate::specs::Writing::WriteCallFits, fs_machine::specs::Premises::Honest))]
-    fn say<D: Device>(&mut self, hart: u8, core: &mut Core<D>) -> Came<Reply, Kind>
+    fn say<D: Device>(
+        &mut self,
+        replied: &mut Option<Reply>,
+        hart: u8,
+        core: &mut Core<D>,
+    ) -> Came<(), Kind>
         requires at { IsSaying self.old }
         requires may { MayNext hart (write_call_of self.old) (state_of D.contents D.failures core.old) }
         requires fits { WriteCallFits hart (state_of D.contents D.failures core.old) self.old }
-        ensures steps { StepsAt D.contents D.failures D.Called write_call_of (λ reply. reply) WriteCallFits (λ _. Unit {0}) write.Gone hart self.old self.new result core.old core.new }
+        requires none { replied.old ≡ None }
+        ensures steps { StepsAt D.contents D.failures D.Called write_call_of (λ reply. reply) WriteCallFits (λ _. Unit {0}) write.Gone hart self.old self.new (heard result replied.new) core.old core.new }
+        ensures told { IsHeard result replied.new }
     {
         match mem::replace(self, Write::Gone) {
             Write::Say(reply) => {
                 core.reply(hart);
-                Came::Done(reply, Kind::Reply)
+                put(replied, reply);
+                Came::Done((), Kind::Reply)
             }
             _ => unreachable!(),
         }
@@ -177,16 +201,26 @@ impl Write {
 
     // A transaction is joined for the first piece.
     #[tactic(auto, unfolding(crate::specs::Writing::write_call_of, crate::specs::Writing::WriteCallFits, fs_machine::specs::Premises::Honest))]
-    fn begin<D: Device>(&mut self, hart: u8, core: &mut Core<D>) -> Came<Reply, Kind>
+    fn begin<D: Device>(
+        &mut self,
+        replied: &mut Option<Reply>,
+        hart: u8,
+        core: &mut Core<D>,
+    ) -> Came<(), Kind>
         requires begin { (x : WritesState) × (self.old ≡ write.Begin x) }
         requires may { MayNext hart (write_call_of self.old) (state_of D.contents D.failures core.old) }
         requires fits { WriteCallFits hart (state_of D.contents D.failures core.old) self.old }
-        ensures steps { StepsAt D.contents D.failures D.Called write_call_of (λ reply. reply) WriteCallFits (λ _. Unit {0}) write.Gone hart self.old self.new result core.old core.new }
+        requires none { replied.old ≡ None }
+        ensures steps { StepsAt D.contents D.failures D.Called write_call_of (λ reply. reply) WriteCallFits (λ _. Unit {0}) write.Gone hart self.old self.new (heard result replied.new) core.old core.new }
+        ensures told { IsHeard result replied.new }
     {
         match self {
             Write::Begin(writes) => match core.join_to_write(hart, writes.fd) {
                 JoinedToWrite::Waits => Came::Waits,
-                JoinedToWrite::Refused(why) => Came::Done(self.refused(why), Kind::Reply),
+                JoinedToWrite::Refused(why) => {
+                    put(replied, self.refused(why));
+                    Came::Done((), Kind::Reply)
+                }
                 JoinedToWrite::Joined(txn, _) => {
                     self.joined(txn);
                     Came::Ran(Kind::Join)
@@ -198,11 +232,18 @@ impl Write {
 
     // A transaction is joined for a later piece.
     #[tactic(auto, unfolding(crate::specs::Writing::write_call_of, crate::specs::Writing::WriteCallFits, fs_machine::specs::Premises::Honest))]
-    fn join<D: Device>(&mut self, hart: u8, core: &mut Core<D>) -> Came<Reply, Kind>
+    fn join<D: Device>(
+        &mut self,
+        replied: &mut Option<Reply>,
+        hart: u8,
+        core: &mut Core<D>,
+    ) -> Came<(), Kind>
         requires join { (x : WritesState) × (self.old ≡ write.Join x) }
         requires may { MayNext hart (write_call_of self.old) (state_of D.contents D.failures core.old) }
         requires fits { WriteCallFits hart (state_of D.contents D.failures core.old) self.old }
-        ensures steps { StepsAt D.contents D.failures D.Called write_call_of (λ reply. reply) WriteCallFits (λ _. Unit {0}) write.Gone hart self.old self.new result core.old core.new }
+        requires none { replied.old ≡ None }
+        ensures steps { StepsAt D.contents D.failures D.Called write_call_of (λ reply. reply) WriteCallFits (λ _. Unit {0}) write.Gone hart self.old self.new (heard result replied.new) core.old core.new }
+        ensures told { IsHeard result replied.new }
     {
         match core.join(hart) {
             None => Came::Waits,
@@ -215,11 +256,18 @@ impl Write {
 
     // The lock of what the descriptor names is taken.
     #[tactic(auto, unfolding(crate::specs::Writing::write_call_of, crate::specs::Writing::WriteCallFits, fs_machine::specs::Premises::Honest))]
-    fn lock<D: Device>(&mut self, hart: u8, core: &mut Core<D>) -> Came<Reply, Kind>
+    fn lock<D: Device>(
+        &mut self,
+        replied: &mut Option<Reply>,
+        hart: u8,
+        core: &mut Core<D>,
+    ) -> Came<(), Kind>
         requires lock { (x : WritesState × ℕ) × (self.old ≡ write.Lock x.0 x.1) }
         requires may { MayNext hart (write_call_of self.old) (state_of D.contents D.failures core.old) }
         requires fits { WriteCallFits hart (state_of D.contents D.failures core.old) self.old }
-        ensures steps { StepsAt D.contents D.failures D.Called write_call_of (λ reply. reply) WriteCallFits (λ _. Unit {0}) write.Gone hart self.old self.new result core.old core.new }
+        requires none { replied.old ≡ None }
+        ensures steps { StepsAt D.contents D.failures D.Called write_call_of (λ reply. reply) WriteCallFits (λ _. Unit {0}) write.Gone hart self.old self.new (heard result replied.new) core.old core.new }
+        ensures told { IsHeard result replied.new }
     {
         match self {
             Write::Lock(writes, _) => match core.lock_open(hart, writes.fd) {
@@ -235,11 +283,18 @@ impl Write {
 
     // The inode is loaded.
     #[tactic(auto, unfolding(crate::specs::Writing::write_call_of, crate::specs::Writing::WriteCallFits))]
-    fn load<D: Device>(&mut self, hart: u8, core: &mut Core<D>) -> Came<Reply, Kind>
+    fn load<D: Device>(
+        &mut self,
+        replied: &mut Option<Reply>,
+        hart: u8,
+        core: &mut Core<D>,
+    ) -> Came<(), Kind>
         requires loading { (x : WritesState × ℕ × OpenFileState × GuardState InodeState × Option LoadState) × (self.old ≡ write.Loading x.0 x.1 x.2 x.3 x.4) }
         requires may { MayNext hart (write_call_of self.old) (state_of D.contents D.failures core.old) }
         requires fits { WriteCallFits hart (state_of D.contents D.failures core.old) self.old }
-        ensures steps { StepsAt D.contents D.failures D.Called write_call_of (λ reply. reply) WriteCallFits (λ _. Unit {0}) write.Gone hart self.old self.new result core.old core.new }
+        requires none { replied.old ≡ None }
+        ensures steps { StepsAt D.contents D.failures D.Called write_call_of (λ reply. reply) WriteCallFits (λ _. Unit {0}) write.Gone hart self.old self.new (heard result replied.new) core.old core.new }
+        ensures told { IsHeard result replied.new }
     {
         match self {
             Write::Loading(_, _, _, _, place) => {
@@ -258,11 +313,18 @@ impl Write {
 
     // The piece is written.
     #[tactic(auto, unfolding(crate::specs::Writing::write_call_of, crate::specs::Writing::WriteCallFits))]
-    fn write<D: Device>(&mut self, hart: u8, core: &mut Core<D>) -> Came<Reply, Kind>
+    fn write<D: Device>(
+        &mut self,
+        replied: &mut Option<Reply>,
+        hart: u8,
+        core: &mut Core<D>,
+    ) -> Came<(), Kind>
         requires writing { (x : WritesState × ℕ × ℕ × PartState) × (self.old ≡ write.Writing x.0 x.1 x.2 x.3) }
         requires may { MayNext hart (write_call_of self.old) (state_of D.contents D.failures core.old) }
         requires fits { WriteCallFits hart (state_of D.contents D.failures core.old) self.old }
-        ensures steps { StepsAt D.contents D.failures D.Called write_call_of (λ reply. reply) WriteCallFits (λ _. Unit {0}) write.Gone hart self.old self.new result core.old core.new }
+        requires none { replied.old ≡ None }
+        ensures steps { StepsAt D.contents D.failures D.Called write_call_of (λ reply. reply) WriteCallFits (λ _. Unit {0}) write.Gone hart self.old self.new (heard result replied.new) core.old core.new }
+        ensures told { IsHeard result replied.new }
     {
         match self {
             Write::Writing(writes, txn, _, part) => {
@@ -282,11 +344,18 @@ impl Write {
 
     // The lock is given up, of what isn't written.
     #[tactic(auto, unfolding(crate::specs::Writing::write_call_of, crate::specs::Writing::WriteCallFits, fs_machine::specs::Premises::Honest))]
-    fn deny<D: Device>(&mut self, hart: u8, core: &mut Core<D>) -> Came<Reply, Kind>
+    fn deny<D: Device>(
+        &mut self,
+        replied: &mut Option<Reply>,
+        hart: u8,
+        core: &mut Core<D>,
+    ) -> Came<(), Kind>
         requires deny { (x : WritesState × ℕ × GuardState InodeState × CauseState) × (self.old ≡ write.Deny x.0 x.1 x.2 x.3) }
         requires may { MayNext hart (write_call_of self.old) (state_of D.contents D.failures core.old) }
         requires fits { WriteCallFits hart (state_of D.contents D.failures core.old) self.old }
-        ensures steps { StepsAt D.contents D.failures D.Called write_call_of (λ reply. reply) WriteCallFits (λ _. Unit {0}) write.Gone hart self.old self.new result core.old core.new }
+        requires none { replied.old ≡ None }
+        ensures steps { StepsAt D.contents D.failures D.Called write_call_of (λ reply. reply) WriteCallFits (λ _. Unit {0}) write.Gone hart self.old self.new (heard result replied.new) core.old core.new }
+        ensures told { IsHeard result replied.new }
     {
         match mem::replace(self, Write::Gone) {
             Write::Deny(writes, txn, guard, why) => {
@@ -300,12 +369,19 @@ impl Write {
 
     // The lock is given up, and the offset moves.
     #[tactic(auto, unfolding(crate::specs::Writing::write_call_of, crate::specs::Writing::WriteCallFits, fs_machine::specs::Premises::Honest))]
-    fn give_up<D: Device>(&mut self, hart: u8, core: &mut Core<D>) -> Came<Reply, Kind>
+    fn give_up<D: Device>(
+        &mut self,
+        replied: &mut Option<Reply>,
+        hart: u8,
+        core: &mut Core<D>,
+    ) -> Came<(), Kind>
         requires hart { hart < HARTS }
         requires give { (x : WritesState × ℕ × ℕ × WrittenState) × (self.old ≡ write.Give x.0 x.1 x.2 x.3) }
         requires may { MayNext hart (write_call_of self.old) (state_of D.contents D.failures core.old) }
         requires fits { WriteCallFits hart (state_of D.contents D.failures core.old) self.old }
-        ensures steps { StepsAt D.contents D.failures D.Called write_call_of (λ reply. reply) WriteCallFits (λ _. Unit {0}) write.Gone hart self.old self.new result core.old core.new }
+        requires none { replied.old ≡ None }
+        ensures steps { StepsAt D.contents D.failures D.Called write_call_of (λ reply. reply) WriteCallFits (λ _. Unit {0}) write.Gone hart self.old self.new (heard result replied.new) core.old core.new }
+        ensures told { IsHeard result replied.new }
     {
         match mem::replace(self, Write::Gone) {
             Write::Give(writes, txn, offset, written) => {
@@ -319,11 +395,18 @@ impl Write {
 
     // The piece's transaction is left.
     #[tactic(auto, unfolding(crate::specs::Writing::write_call_of, crate::specs::Writing::WriteCallFits))]
-    fn finish<D: Device>(&mut self, hart: u8, core: &mut Core<D>) -> Came<Reply, Kind>
+    fn finish<D: Device>(
+        &mut self,
+        replied: &mut Option<Reply>,
+        hart: u8,
+        core: &mut Core<D>,
+    ) -> Came<(), Kind>
         requires leaving { (x : WritesState × EndedState × Option FinishState) × (self.old ≡ write.Leaving x.0 x.1 x.2) }
         requires may { MayNext hart (write_call_of self.old) (state_of D.contents D.failures core.old) }
         requires fits { WriteCallFits hart (state_of D.contents D.failures core.old) self.old }
-        ensures steps { StepsAt D.contents D.failures D.Called write_call_of (λ reply. reply) WriteCallFits (λ _. Unit {0}) write.Gone hart self.old self.new result core.old core.new }
+        requires none { replied.old ≡ None }
+        ensures steps { StepsAt D.contents D.failures D.Called write_call_of (λ reply. reply) WriteCallFits (λ _. Unit {0}) write.Gone hart self.old self.new (heard result replied.new) core.old core.new }
+        ensures told { IsHeard result replied.new }
     {
         match self {
             Write::Leaving(_, _, place) => {

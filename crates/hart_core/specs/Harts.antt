@@ -1,5 +1,5 @@
 -- What harts' machines over all that they share stand for.
-use Rattle.std.specs.Prelude.{◌≡◌, ◌<◌, ℕ, Bool, List, [], length, Option, Some, None, get_or, is_some, replicate, slice_set}
+use Rattle.std.specs.Prelude.{◌≡◌, ◌<◌, ℕ, Bool, List, [], length, Option, Some, None, IsSome, get_or, is_some, replicate, slice_set}
 use Rattle.buffer_cache.specs.Limits.{hart_count}
 use Rattle.plain_tree.specs.declared.answer.Reply.{Reply}
 use Rattle.atomic_programs.specs.Calls.{Outcome as OutcomeOf, WasIdle, DidWait, DidRun, DidEnd, DidStop, WasStopped}
@@ -8,11 +8,14 @@ use Rattle.fs_machine.specs.declared.kind.Kind.{Kind}
 use Rattle.fs_machine.specs.declared.shared.Core.{Core}
 use Rattle.fs_machine.specs.LogPart.{Outside, Passes, Fails}
 use Rattle.fs_machine.specs.Steps.{State, state_of}
+use Rattle.call_parts.specs.declared.answered.Answered.{Answered}
 use Rattle.syscalls.specs.declared.running.Running.{Running}
 use Rattle.syscalls.specs.Machines.{running_of, RunningFits}
 use Rattle.hart_core.specs.declared.outcome.Outcome.{Outcome}
 use Rattle.hart_core.specs.declared.outcome.Outcome.TheVariants as outcome
 use Rattle.hart_core.specs.declared.outcome.Stop.TheVariants as stop
+use Rattle.hart_core.specs.declared.outcome.Told.{Told}
+use Rattle.hart_core.specs.declared.outcome.Told.TheVariants as told
 use Rattle.hart_core.specs.Blocks.{blocks, code, Programs}
 
 -- what a hart's step came to, in the words of the block machine
@@ -23,6 +26,23 @@ outcome_of (outcome.Ran kind) = DidRun kind
 outcome_of (outcome.Done reply) = DidEnd reply
 outcome_of (outcome.Stopped stop.DeviceFault) = DidStop
 outcome_of (outcome.Stopped stop.Halted) = WasStopped
+
+-- the outcome of a step whose reply stands in a place of its own (one that is done has left one there)
+abbrev pub outcome_with : Told → Option Reply → Outcome
+outcome_with told.Idle place = outcome.Idle
+outcome_with told.Waits place = outcome.Waits
+outcome_with (told.Ran kind) place = outcome.Ran kind
+outcome_with told.Done (Some reply) = outcome.Done reply
+outcome_with told.Done None = outcome.Idle
+outcome_with (told.Stopped why) place = outcome.Stopped why
+
+-- a reply stands there just where the step is done
+abbrev pub IsTold : Told → Option Reply → Type 0
+IsTold told.Idle place = place ≡ None
+IsTold told.Waits place = place ≡ None
+IsTold (told.Ran kind) place = place ≡ None
+IsTold told.Done place = IsSome place
+IsTold (told.Stopped why) place = place ≡ None
 
 -- what the device answered in a step with this outcome, which left this state
 abbrev pub said : Outcome → State → Outside
@@ -51,6 +71,10 @@ pub record AreHarts (s : State) (calls : List (Option Running)) : Type 0 where
 pub record CallsOf : Type 0 where
   pub calls : List (Option Running)
   pub lists : List (Option (List ℕ))
+
+-- the list that a call hands back
+abbrev pub list_in : Answered → List ℕ
+list_in a = a.list
 
 -- a list to be given to a call
 abbrev pub IsSpare : Option (List ℕ) → Type 0

@@ -10,17 +10,18 @@ ghost use Rattle.call_parts.specs.OnPaths.{IsSized};
 ghost use Rattle.hart_core.specs.Begun.{HasBegun};
 ghost use Rattle.hart_core.specs.Blocks.{blocks, code};
 ghost use Rattle.hart_core.specs.Starts.{fault_of};
-ghost use Rattle.hart_core.specs.Harts.{outcome_of, said, AreIdle, HartFits, HaveLists};
+ghost use Rattle.hart_core.specs.Harts.{outcome_of, outcome_with, said, AreIdle, HartFits, HaveLists, IsTold};
 
 use crate::beginnings::begin;
 use crate::in_place::step;
-use crate::outcome::Outcome;
+use crate::outcome::Told;
 use block_device::Device;
 use buffer_cache::HARTS;
+use call_parts::Answered;
 use fs_layout::Super;
 use fs_machine::{Core, RetiredCore};
 use fs_tables::Listed;
-use plain_tree::Call;
+use plain_tree::{Call, Reply};
 use std::alloc::{AllocError, AllocFailed, Global};
 use std::marker::Model;
 use std::mem;
@@ -31,14 +32,19 @@ use syscalls::Running;
 pub struct Calls {
     under_way: Box<[Option<Running>; 8]>,
     lists: [Option<Listed>; 8],
+    // A call leaves here what it hands back. It is taken from here in the same step.
+    answered: Option<Answered>,
 }
 
 impl Model for Calls {
+    ghost use Rattle.std.specs.Prelude.{◌≡◌, None};
     ghost use Rattle.hart_core.specs.Harts.{CallsOf};
 
     ghost Value = { CallsOf };
 
     ghost view = { λ c. record { calls = c.under_way.value; lists = c.lists } };
+
+    ghost invariant = { λ c. c.answered ≡ None };
 }
 
 // Two empty lists.
@@ -116,7 +122,11 @@ impl Calls {
         let lists = eight_lists(alloc)?;
         let none = [None, None, None, None, None, None, None, None];
         match Box::new(alloc, none) {
-            Ok(under_way) => Ok(Calls { under_way, lists }),
+            Ok(under_way) => Ok(Calls {
+                under_way,
+                lists,
+                answered: None,
+            }),
             Err(failed) => {
                 let AllocFailed { value: none } = failed;
                 end_idle(none);
@@ -134,26 +144,40 @@ impl Calls {
         self.under_way[hart as usize].is_some()
     }
 
-    /// One operation of a hart's call in its place, unless the world has stopped. A call that has replied leaves its place and hands its
-    /// hart's list back.
-    pub fn step<D: Device>(&mut self, hart: u8, core: &mut Core<D>, stopped: &mut bool) -> Outcome
+    /// One operation of a hart's call in its place, unless the world has stopped. A call that has replied leaves its place, hands its
+    /// hart's list back, and has its reply stand in a place of its own.
+    pub fn step<D: Device>(
+        &mut self,
+        replied: &mut Option<Reply>,
+        hart: u8,
+        core: &mut Core<D>,
+        stopped: &mut bool,
+    ) -> Told
         requires eight { hart < HARTS }
         requires may { stopped.old ≡ false → MayOf blocks code hart (state_of D.contents D.failures core.old) (program_at running_of (get_or self.old.calls hart None)) }
         requires fits { HartFits (state_of D.contents D.failures core.old) hart (get_or self.old.calls hart None) }
         requires seat { HaveLists self.old }
-        ensures makes { hart_step blocks code hart (said result (state_of D.contents D.failures core.new)) (state_of D.contents D.failures core.old) stopped.old (program_at running_of (get_or self.old.calls hart None))
-            ≡ record { came = outcome_of result; left = program_at running_of (get_or self.new.calls hart None); shared = state_of D.contents D.failures core.new; stopped = stopped.new } }
-        ensures honest { PlainHonestStep blocks code hart (said result (state_of D.contents D.failures core.new)) (state_of D.contents D.failures core.old) stopped.old (program_at running_of (get_or self.old.calls hart None)) }
+        requires none { replied.old ≡ None }
+        ensures makes { hart_step blocks code hart (said (outcome_with result replied.new) (state_of D.contents D.failures core.new)) (state_of D.contents D.failures core.old) stopped.old (program_at running_of (get_or self.old.calls hart None))
+            ≡ record { came = outcome_of (outcome_with result replied.new); left = program_at running_of (get_or self.new.calls hart None); shared = state_of D.contents D.failures core.new; stopped = stopped.new } }
+        ensures honest { PlainHonestStep blocks code hart (said (outcome_with result replied.new) (state_of D.contents D.failures core.new)) (state_of D.contents D.failures core.old) stopped.old (program_at running_of (get_or self.old.calls hart None)) }
         ensures fits { HartFits (state_of D.contents D.failures core.new) hart (get_or self.new.calls hart None) }
         ensures kept { self.new.calls ≡ slice_set self.old.calls hart (get_or self.new.calls hart None) }
         ensures seat { HaveLists self.new }
+        ensures told { IsTold result replied.new }
         ensures others { LeavesTied hart (state_of D.contents D.failures core.old) (state_of D.contents D.failures core.new) }
         ensures called { CallsOnce D.Called core.old.log.cache.device core.new.log.cache.device }
     {
-        let Calls { under_way, lists } = self;
+        let Calls {
+            under_way,
+            lists,
+            answered,
+        } = self;
         step(
             &mut under_way[hart as usize],
             &mut lists[hart as usize],
+            answered,
+            replied,
             hart,
             core,
             stopped,
@@ -181,16 +205,26 @@ impl Calls {
     pub fn end(self)
         requires { AreIdle self }
     {
-        let Calls { under_way, lists } = self;
+        let Calls {
+            under_way,
+            lists,
+            answered,
+        } = self;
         end_idle(Box::into_inner(under_way));
         end_lists(lists);
+        end_answered(answered);
     }
 
     /// Ends them in mid-call, after all that harts share has ended.
     pub fn retire(self, retired: &RetiredCore) {
-        let Calls { under_way, lists } = self;
+        let Calls {
+            under_way,
+            lists,
+            answered,
+        } = self;
         retire_all(Box::into_inner(under_way), retired);
         retire_lists(lists, retired);
+        end_answered(answered);
     }
 }
 // Ends what harts do.
@@ -237,6 +271,16 @@ fn end_idle(calls: [Option<Running>; 8])
     end(f);
     end(g);
     end(h);
+}
+
+// Nothing stands where a call leaves what it hands back.
+fn end_answered(answered: Option<Answered>)
+    requires { answered ≡ None }
+{
+    match answered {
+        None => {}
+        Some(_) => unreachable!(),
+    }
 }
 
 // Ends a list.

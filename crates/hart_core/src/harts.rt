@@ -7,20 +7,20 @@ ghost use Rattle.fs_machine.specs.Machines.{CallsOnce};
 ghost use Rattle.hart_core.specs.Blocks.{blocks, code, MayStep};
 ghost use Rattle.inode_machine.specs.Exec.{is_at};
 ghost use Rattle.calls_on_blocks.specs.Theory.{block_calls, has_file, reserved};
-ghost use Rattle.hart_core.specs.Harts.{outcome_of, said, shared_of, programs_of, busy_in, children_in, AreIdle};
+ghost use Rattle.hart_core.specs.Harts.{outcome_of, outcome_with, said, IsTold, shared_of, programs_of, busy_in, children_in, AreIdle};
 ghost use Rattle.hart_core.specs.Starts.{fault_of};
 ghost use Rattle.call_parts.specs.OnPaths.{IsSized};
 ghost use Rattle.atomic_programs.specs.Prog.{plain};
 
 use crate::calls::Calls;
-use crate::outcome::Outcome;
+use crate::outcome::Told;
 use block_device::Device;
 use buffer_cache::HARTS;
 use fs_layout::Super;
 use fs_machine::Core;
 use fs_tables::DESCRIPTORS;
 use group_log::Phase;
-use plain_tree::Call;
+use plain_tree::{Call, Reply};
 use std::marker::Model;
 
 // Whether this is the child.
@@ -129,19 +129,23 @@ impl<D: Device> Harts<D> {
 
     /// One operation of a hart's call. It is idle where there is no such hart, or the hart has no call; and a call is stopped by the
     /// device's failure in this very step, or since the device has failed before. At most one call of the device is made.
-    pub fn step(&mut self, hart: u8) -> Outcome
+    /// A reply is left in a place of its own, which is empty before.
+    pub fn step(&mut self, replied: &mut Option<Reply>, hart: u8) -> Told
         requires may { MayStep hart (programs_of D.contents D.failures self.old) }
-        ensures makes { plain_makes blocks code (StepOf hart (said result (shared_of D.contents D.failures self.new))) (programs_of D.contents D.failures self.old) ≡ record { came = outcome_of result; after = programs_of D.contents D.failures self.new } }
-        ensures honest { PlainHonest blocks code (StepOf hart (said result (shared_of D.contents D.failures self.new))) (programs_of D.contents D.failures self.old) }
+        requires none { replied.old ≡ None }
+        ensures makes { plain_makes blocks code (StepOf hart (said (outcome_with result replied.new) (shared_of D.contents D.failures self.new))) (programs_of D.contents D.failures self.old) ≡ record { came = outcome_of (outcome_with result replied.new); after = programs_of D.contents D.failures self.new } }
+        ensures honest { PlainHonest blocks code (StepOf hart (said (outcome_with result replied.new) (shared_of D.contents D.failures self.new))) (programs_of D.contents D.failures self.old) }
         ensures children { self.new.children ≡ self.old.children }
+        ensures told { IsTold result replied.new }
         ensures called { CallsOnce D.Called self.old.core.log.cache.device self.new.core.log.cache.device }
     {
         // What holds of the harts is needed in both cases.
         let _ = &self.calls;
         if hart >= HARTS {
-            return Outcome::Idle;
+            return Told::Idle;
         }
-        self.calls.step(hart, &mut self.core, &mut self.stopped)
+        self.calls
+            .step(replied, hart, &mut self.core, &mut self.stopped)
     }
 
     /// Where the log's commit is.

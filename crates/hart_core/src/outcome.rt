@@ -1,6 +1,11 @@
 // What a step comes to.
+ghost use Rattle.std.specs.Prelude.{◌≡◌, None};
+ghost use Rattle.hart_core.specs.Harts.{outcome_with, IsTold};
+ghost use Rattle.hart_core.specs.declared.outcome.Told.TheVariants as told;
+
 use fs_machine::Kind;
 use plain_tree::Reply;
+use std::mem;
 
 /// Why a call is stopped.
 #[derive(Clone, Copy, PartialEq, Eq, Debug)]
@@ -24,4 +29,47 @@ pub enum Outcome {
     Done(Reply),
     /// The call neither ran nor waits.
     Stopped(Stop),
+}
+
+/// The same where a reply is left in a place of its own: so each step hands up no more than some bytes.
+pub enum Told {
+    /// The hart has no call.
+    Idle,
+    /// It waits, for another hart or for the log.
+    Waits,
+    /// One operation of this kind ran, and the call goes on.
+    Ran(Kind),
+    /// The call's last operation ran, and its reply stands there.
+    Done,
+    /// The call neither ran nor waits.
+    Stopped(Stop),
+}
+
+impl Told {
+    /// The outcome, with the reply that stands in this place, which is empty again.
+    pub fn outcome(self, replied: &mut Option<Reply>) -> Outcome
+        requires { IsTold self replied.old }
+        ensures outcome { result ≡ outcome_with self replied.old }
+        ensures none { replied.new ≡ None }
+    {
+        match self {
+            Told::Idle => return Outcome::Idle,
+            Told::Waits => return Outcome::Waits,
+            Told::Ran(kind) => return Outcome::Ran(kind),
+            Told::Done => return done(replied),
+            Told::Stopped(why) => return Outcome::Stopped(why),
+        }
+    }
+}
+
+// The reply leaves its place.
+fn done(replied: &mut Option<Reply>) -> Outcome
+    requires { IsTold told.Done replied.old }
+    ensures outcome { result ≡ outcome_with told.Done replied.old }
+    ensures none { replied.new ≡ None }
+{
+    match mem::replace(replied, None) {
+        Some(reply) => Outcome::Done(reply),
+        None => unreachable!(),
+    }
 }

@@ -20,7 +20,7 @@ use buffer_cache::HARTS;
 use fs_layout::Super;
 use group_log::Phase;
 use image_tree::MountFault;
-use plain_tree::Call;
+use plain_tree::{Call, Reply};
 use std::alloc::Global;
 use std::marker::Model;
 
@@ -30,16 +30,19 @@ use std::marker::Model;
 pub struct World<D: Device> {
     harts: Harts<D>,
     sizes: Super,
+    // A step leaves its reply here, and it is taken from here in the same step.
+    replied: Option<Reply>,
 }
 
 impl<D: Device> Model for World<D> {
+    ghost use Rattle.std.specs.Prelude.{◌≡◌, None};
     ghost use Rattle.hart_core.specs.Worlds.{WorldOf, IsWorld};
 
     ghost Value = { WorldOf D };
 
     ghost view = { λ w. record { harts = w.harts; sizes = w.sizes } };
 
-    ghost invariant = { λ w. IsWorld D.contents D.failures w.sizes w.harts };
+    ghost invariant = { λ w. IsWorld D.contents D.failures w.sizes w.harts × (w.replied ≡ None) };
 }
 
 impl<D: Device> World<D> {
@@ -53,7 +56,11 @@ impl<D: Device> World<D> {
         match mount_harts(alloc, device) {
             Ok(mounted) => {
                 let (harts, sizes) = mounted;
-                Ok(World { harts, sizes })
+                Ok(World {
+                    harts,
+                    sizes,
+                    replied: None,
+                })
             }
             Err(fault) => Err(fault),
         }
@@ -133,7 +140,8 @@ impl<D: Device> World<D> {
         ensures sizes { self.new.sizes ≡ self.old.sizes }
         ensures called { CallsOnce D.Called self.old.harts.core.log.cache.device self.new.harts.core.log.cache.device }
     {
-        self.harts.step(hart)
+        let told = self.harts.step(&mut self.replied, hart);
+        told.outcome(&mut self.replied)
     }
 
     /// Where the log's commit is.
@@ -156,7 +164,11 @@ impl<D: Device> World<D> {
         ensures device { result ≡ self.harts.core.log.cache.device }
         ensures well { IsWellFormed (D.contents result) }
     {
-        let World { harts, sizes: _ } = self;
+        let World {
+            harts,
+            sizes: _,
+            replied: _,
+        } = self;
         harts.unmount()
     }
 

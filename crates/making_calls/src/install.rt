@@ -1,18 +1,21 @@
 //! A place and a descriptor for an inode, and the end of an open.
-ghost use Rattle.std.specs.Prelude.{◌≡◌, ◌∷◌, ℕ, [], None, IsSome, IfErr, if◌then◌else◌};
+ghost use Rattle.std.specs.Prelude.{◌≡◌, ◌∷◌, ℕ, [], Option, None, IsSome, IfErr, if◌then◌else◌};
 ghost use Rattle.fs_machine.specs.Steps.{State, state_of};
 ghost use Rattle.fs_machine.specs.Machines.{MayNext};
 ghost use Rattle.fs_machine.specs.Places.{StepsAt};
 ghost use Rattle.fs_machine.specs.Tied.{IsOwnInode};
 ghost use Rattle.fs_tables.specs.Results.{opened_as};
+ghost use Rattle.inode_data.specs.declared.truncation.Truncate.{Truncate};
 ghost use Rattle.file_table.specs.Machines.{IsEarly};
 ghost use Rattle.plain_tree.specs.Steps.{has};
+ghost use Rattle.call_parts.specs.Heard.{heard, IsHeard};
 ghost use Rattle.call_parts.specs.Spent.{reply_in, IsSpent};
 ghost use Rattle.call_parts.specs.Parts.{quit};
 ghost use Rattle.making_calls.specs.Opening.{file_for, install, installed_on, is_regular, open_reply, opened, take_descriptor, type_number};
 ghost use Rattle.call_parts.specs.Taking.{inode_in, IsHeld};
 ghost use Rattle.making_calls.specs.Opens.{install_of, InstallFits};
 ghost use Rattle.call_parts.specs.declared.tail.Ending.{Ending};
+ghost use Rattle.call_parts.specs.declared.quit.Quit.{Quit};
 ghost use Rattle.call_parts.specs.declared.quit.Quit.TheVariants as quitting;
 ghost use Rattle.plain_tree.specs.declared.answer.Answer.TheVariants as answers;
 ghost use Rattle.plain_tree.specs.declared.answer.Full.TheVariants.{OpenFiles};
@@ -23,7 +26,7 @@ ghost use Rattle.making_calls.specs.declared.install.Install.TheVariants as inst
 use crate::in_place::step_truncate;
 use atomic_programs::machines::Came;
 use block_device::Device;
-use call_parts::{Answered, Ending, Held, Quit, ending, number_of};
+use call_parts::{Answered, Ending, Held, Quit, ending, number_of, told};
 use directory::is_directory;
 use fs_layout::{Dinode, Super};
 use fs_machine::{Core, Kind, RetiredCore};
@@ -110,11 +113,42 @@ impl Install {
     }
 
     /// One operation of it in its place.
-    #[tactic(auto, unfolding(crate::specs::Opens::install_of, crate::specs::Opens::InstallFits, fs_machine::specs::Premises::Honest))]
-    pub fn step<D: Device>(&mut self, hart: u8, core: &mut Core<D>) -> Came<Answered, Kind>
+    #[tactic(auto, unfolding(crate::specs::Opens::install_of, crate::specs::Opens::InstallFits))]
+    pub fn step<D: Device>(
+        &mut self,
+        replied: &mut Option<Answered>,
+        hart: u8,
+        core: &mut Core<D>,
+    ) -> Came<(), Kind>
         requires may { MayNext hart (install_of self.old) (state_of D.contents D.failures core.old) }
         requires fits { InstallFits hart (state_of D.contents D.failures core.old) self.old }
-        ensures steps { StepsAt D.contents D.failures D.Called install_of reply_in InstallFits IsSpent installing.Gone hart self.old self.new result core.old core.new }
+        requires none { replied.old ≡ None }
+        ensures steps { StepsAt D.contents D.failures D.Called install_of reply_in InstallFits IsSpent installing.Gone hart self.old self.new (heard result replied.new) core.old core.new }
+        ensures told { IsHeard result replied.new }
+    {
+        match self {
+            Install::Place(_, _, _) => self.take_place(replied, hart, core),
+            Install::Descriptor(_, _, _) => self.take_descriptor(replied, hart, core),
+            Install::Emptying(_, _, _) => self.empty(replied, hart, core),
+            Install::Ends(_) => self.quit(replied, hart, core),
+            Install::Gone => unreachable!(),
+        }
+    }
+
+    // One operation of one that takes a place.
+    #[tactic(auto, unfolding(crate::specs::Opens::install_of, crate::specs::Opens::InstallFits, fs_machine::specs::Premises::Honest))]
+    fn take_place<D: Device>(
+        &mut self,
+        replied: &mut Option<Answered>,
+        hart: u8,
+        core: &mut Core<D>,
+    ) -> Came<(), Kind>
+        requires at { (x : Opening × ℕ × ToOpen) × (self.old ≡ installing.Place x.0 x.1 x.2) }
+        requires may { MayNext hart (install_of self.old) (state_of D.contents D.failures core.old) }
+        requires fits { InstallFits hart (state_of D.contents D.failures core.old) self.old }
+        requires none { replied.old ≡ None }
+        ensures steps { StepsAt D.contents D.failures D.Called install_of reply_in InstallFits IsSpent installing.Gone hart self.old self.new (heard result replied.new) core.old core.new }
+        ensures told { IsHeard result replied.new }
     {
         match self {
             Install::Place(_, _, _) => {
@@ -123,6 +157,26 @@ impl Install {
                 self.put(placed(opening, txn, inode, there));
                 Came::Ran(Kind::Slot)
             }
+            _ => unreachable!(),
+        }
+    }
+
+    // One operation of one that takes a descriptor.
+    #[tactic(auto, unfolding(crate::specs::Opens::install_of, crate::specs::Opens::InstallFits, fs_machine::specs::Premises::Honest))]
+    fn take_descriptor<D: Device>(
+        &mut self,
+        replied: &mut Option<Answered>,
+        hart: u8,
+        core: &mut Core<D>,
+    ) -> Came<(), Kind>
+        requires at { (x : Opening × ℕ × ToOpen) × (self.old ≡ installing.Descriptor x.0 x.1 x.2) }
+        requires may { MayNext hart (install_of self.old) (state_of D.contents D.failures core.old) }
+        requires fits { InstallFits hart (state_of D.contents D.failures core.old) self.old }
+        requires none { replied.old ≡ None }
+        ensures steps { StepsAt D.contents D.failures D.Called install_of reply_in InstallFits IsSpent installing.Gone hart self.old self.new (heard result replied.new) core.old core.new }
+        ensures told { IsHeard result replied.new }
+    {
+        match self {
             Install::Descriptor(_, _, _) => {
                 let (opening, txn, inode) = self.describing();
                 let ToOpen {
@@ -136,6 +190,26 @@ impl Install {
                 self.put(descriptor_came(opening, txn, list, empties, inode, came));
                 Came::Ran(Kind::Slot)
             }
+            _ => unreachable!(),
+        }
+    }
+
+    // One operation of one that empties the file.
+    #[tactic(auto, unfolding(crate::specs::Opens::install_of, crate::specs::Opens::InstallFits))]
+    fn empty<D: Device>(
+        &mut self,
+        replied: &mut Option<Answered>,
+        hart: u8,
+        core: &mut Core<D>,
+    ) -> Came<(), Kind>
+        requires at { (x : Ending × ℕ × Option Truncate) × (self.old ≡ installing.Emptying x.0 x.1 x.2) }
+        requires may { MayNext hart (install_of self.old) (state_of D.contents D.failures core.old) }
+        requires fits { InstallFits hart (state_of D.contents D.failures core.old) self.old }
+        requires none { replied.old ≡ None }
+        ensures steps { StepsAt D.contents D.failures D.Called install_of reply_in InstallFits IsSpent installing.Gone hart self.old self.new (heard result replied.new) core.old core.new }
+        ensures told { IsHeard result replied.new }
+    {
+        match self {
             Install::Emptying(_, txn, truncate) => match step_truncate(truncate, hart, txn, core) {
                 Came::Waits => Came::Waits,
                 Came::Ran(kind) => Came::Ran(kind),
@@ -146,16 +220,36 @@ impl Install {
                 }
                 Came::Stopped => Came::Stopped,
             },
-            Install::Ends(quit) => match quit.step(hart, core) {
+            _ => unreachable!(),
+        }
+    }
+
+    // One operation of one that ends the call.
+    #[tactic(auto, unfolding(crate::specs::Opens::install_of, crate::specs::Opens::InstallFits))]
+    fn quit<D: Device>(
+        &mut self,
+        replied: &mut Option<Answered>,
+        hart: u8,
+        core: &mut Core<D>,
+    ) -> Came<(), Kind>
+        requires at { (x : Quit) × (self.old ≡ installing.Ends x) }
+        requires may { MayNext hart (install_of self.old) (state_of D.contents D.failures core.old) }
+        requires fits { InstallFits hart (state_of D.contents D.failures core.old) self.old }
+        requires none { replied.old ≡ None }
+        ensures steps { StepsAt D.contents D.failures D.Called install_of reply_in InstallFits IsSpent installing.Gone hart self.old self.new (heard result replied.new) core.old core.new }
+        ensures told { IsHeard result replied.new }
+    {
+        match self {
+            Install::Ends(quit) => match told(quit.step(hart, core), replied) {
                 Came::Waits => Came::Waits,
                 Came::Ran(kind) => Came::Ran(kind),
-                Came::Done(answered, kind) => {
+                Came::Done((), kind) => {
                     self.end();
-                    Came::Done(answered, kind)
+                    Came::Done((), kind)
                 }
                 Came::Stopped => Came::Stopped,
             },
-            Install::Gone => unreachable!(),
+            _ => unreachable!(),
         }
     }
 

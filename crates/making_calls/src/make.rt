@@ -9,18 +9,23 @@ ghost use Rattle.fs_machine.specs.Machines.{MayNext};
 ghost use Rattle.fs_machine.specs.Places.{StepsAt};
 ghost use Rattle.fs_machine.specs.Tied.{IsOwnInode};
 ghost use Rattle.inode_table.specs.declared.new_inode.Made.TheVariants as made;
+ghost use Rattle.inode_table.specs.declared.new_inode.NewInode.{NewInode};
+ghost use Rattle.inode_table.specs.declared.store_inode.StoreInode.{StoreInode};
 ghost use Rattle.inode_data.specs.Beginnings.{begun_of, went_on_as, IfBegun};
 ghost use Rattle.inode_data.specs.Records.{record_in};
 ghost use Rattle.inode_data.specs.PartWriting.{written_of};
 ghost use Rattle.inode_data.specs.declared.write_part.WritePart.{WritePart};
 ghost use Rattle.directory.specs.Entering.{entered_of};
+ghost use Rattle.directory.specs.declared.enter.Enter.{Enter};
 ghost use Rattle.directory.specs.Programs.{is_live_directory};
 ghost use Rattle.path_walk.specs.Programs.{loaded};
 ghost use Rattle.call_parts.specs.Taking.{inode_in, IsHeld};
 ghost use Rattle.call_parts.specs.Seeking.{IsParent};
 ghost use Rattle.call_parts.specs.OnPaths.{IsSized};
+ghost use Rattle.call_parts.specs.declared.give.GiveUp.{GiveUp};
 ghost use Rattle.call_parts.specs.declared.give.GiveUp.TheVariants as giving;
 ghost use Rattle.call_parts.specs.declared.take.Held.{Held};
+ghost use Rattle.call_parts.specs.declared.take.TakeInode.{TakeInode};
 ghost use Rattle.call_parts.specs.declared.take.TakeInode.TheVariants as taking;
 ghost use Rattle.making_calls.specs.Making.{dots_of, fill_new, filled_on, give_new, link_new, linked, made_on, make, make_of, name_new, named_as, named_on, type_of, unmake, IsMaking, IsNamed, MakeFits};
 ghost use Rattle.making_calls.specs.Making.{Lacks as LacksState};
@@ -136,6 +141,39 @@ impl Make {
         ensures kept { txn.new ≡ txn.old }
     {
         match self {
+            // A result is copied once by a return, and twice without it.
+            Make::Claiming(_, _) => return self.claim(hart, txn, name, core),
+            Make::Taking(_, _) => return self.take(hart, txn, name, core),
+            Make::Linking(_, _, _) => return self.link(hart, txn, name, core),
+            Make::Filling(_, _, bytes, _) => {
+                let bytes = *bytes;
+                return self.write(hart, txn, name, bytes, core);
+            }
+            Make::Entering(_, _, _, _) => return self.enter(hart, txn, name, core),
+            Make::Unlinking(_, _, _, _, _) => return self.unlink(hart, txn, name, core),
+            Make::Giving(_, _, _) => return self.give(hart, txn, name, core),
+            Make::Gone => unreachable!(),
+        }
+    }
+
+    // One operation of one that claims a free inode.
+    #[tactic(auto, unfolding(crate::specs::Making::make_of, crate::specs::Making::MakeFits))]
+    fn claim<D: Device>(
+        &mut self,
+        hart: u8,
+        txn: &mut Txn,
+        name: &[u8],
+        core: &mut Core<D>,
+    ) -> Came<Named, Kind>
+        requires at { (x : Making × Option NewInode) × (self.old ≡ making.Claiming x.0 x.1) }
+        requires txn { txn.old ≡ hart }
+        requires name { IsName name.now }
+        requires may { MayNext hart (make_of name.now self.old) (state_of D.contents D.failures core.old) }
+        requires fits { MakeFits hart (state_of D.contents D.failures core.old) self.old }
+        ensures steps { StepsAt D.contents D.failures D.Called (make_of name.now) named_as MakeFits (IsNamed hart (state_of D.contents D.failures core.new)) making.Gone hart self.old self.new result core.old core.new }
+        ensures kept { txn.new ≡ txn.old }
+    {
+        match self {
             Make::Claiming(_, new) => match step_new(new, hart, txn, core) {
                 Came::Waits => Came::Waits,
                 Came::Ran(kind) => Came::Ran(kind),
@@ -145,6 +183,28 @@ impl Make {
                 }
                 Came::Stopped => Came::Stopped,
             },
+            _ => unreachable!(),
+        }
+    }
+
+    // One operation of one that takes the lock of the new inode.
+    #[tactic(auto, unfolding(crate::specs::Making::make_of, crate::specs::Making::MakeFits))]
+    fn take<D: Device>(
+        &mut self,
+        hart: u8,
+        txn: &mut Txn,
+        name: &[u8],
+        core: &mut Core<D>,
+    ) -> Came<Named, Kind>
+        requires at { (x : Making × TakeInode) × (self.old ≡ making.Taking x.0 x.1) }
+        requires txn { txn.old ≡ hart }
+        requires name { IsName name.now }
+        requires may { MayNext hart (make_of name.now self.old) (state_of D.contents D.failures core.old) }
+        requires fits { MakeFits hart (state_of D.contents D.failures core.old) self.old }
+        ensures steps { StepsAt D.contents D.failures D.Called (make_of name.now) named_as MakeFits (IsNamed hart (state_of D.contents D.failures core.new)) making.Gone hart self.old self.new result core.old core.new }
+        ensures kept { txn.new ≡ txn.old }
+    {
+        match self {
             Make::Taking(_, take) => match take.step(hart, core) {
                 Came::Waits => Came::Waits,
                 Came::Ran(kind) => Came::Ran(kind),
@@ -155,6 +215,28 @@ impl Make {
                 }
                 Came::Stopped => Came::Stopped,
             },
+            _ => unreachable!(),
+        }
+    }
+
+    // One operation of one that stores the new inode with one link.
+    #[tactic(auto, unfolding(crate::specs::Making::make_of, crate::specs::Making::MakeFits))]
+    fn link<D: Device>(
+        &mut self,
+        hart: u8,
+        txn: &mut Txn,
+        name: &[u8],
+        core: &mut Core<D>,
+    ) -> Came<Named, Kind>
+        requires at { (x : Making × Held × Option StoreInode) × (self.old ≡ making.Linking x.0 x.1 x.2) }
+        requires txn { txn.old ≡ hart }
+        requires name { IsName name.now }
+        requires may { MayNext hart (make_of name.now self.old) (state_of D.contents D.failures core.old) }
+        requires fits { MakeFits hart (state_of D.contents D.failures core.old) self.old }
+        ensures steps { StepsAt D.contents D.failures D.Called (make_of name.now) named_as MakeFits (IsNamed hart (state_of D.contents D.failures core.new)) making.Gone hart self.old self.new result core.old core.new }
+        ensures kept { txn.new ≡ txn.old }
+    {
+        match self {
             Make::Linking(_, _, store) => match step_store(store, hart, txn, core) {
                 Came::Waits => Came::Waits,
                 Came::Ran(kind) => Came::Ran(kind),
@@ -164,10 +246,28 @@ impl Make {
                 }
                 Came::Stopped => Came::Stopped,
             },
-            Make::Filling(_, _, bytes, _) => {
-                let bytes = *bytes;
-                self.write(hart, txn, name, bytes, core)
-            }
+            _ => unreachable!(),
+        }
+    }
+
+    // One operation of one that enters the name.
+    #[tactic(auto, unfolding(crate::specs::Making::make_of, crate::specs::Making::MakeFits))]
+    fn enter<D: Device>(
+        &mut self,
+        hart: u8,
+        txn: &mut Txn,
+        name: &[u8],
+        core: &mut Core<D>,
+    ) -> Came<Named, Kind>
+        requires at { (x : Super × ℕ × Held × Option Enter) × (self.old ≡ making.Entering x.0 x.1 x.2 x.3) }
+        requires txn { txn.old ≡ hart }
+        requires name { IsName name.now }
+        requires may { MayNext hart (make_of name.now self.old) (state_of D.contents D.failures core.old) }
+        requires fits { MakeFits hart (state_of D.contents D.failures core.old) self.old }
+        ensures steps { StepsAt D.contents D.failures D.Called (make_of name.now) named_as MakeFits (IsNamed hart (state_of D.contents D.failures core.new)) making.Gone hart self.old self.new result core.old core.new }
+        ensures kept { txn.new ≡ txn.old }
+    {
+        match self {
             Make::Entering(_, _, _, enter) => match step_enter(enter, hart, txn, core) {
                 Came::Waits => Came::Waits,
                 Came::Ran(kind) => Came::Ran(kind),
@@ -177,6 +277,28 @@ impl Make {
                 }
                 Came::Stopped => Came::Stopped,
             },
+            _ => unreachable!(),
+        }
+    }
+
+    // One operation of one that stores the new inode without links.
+    #[tactic(auto, unfolding(crate::specs::Making::make_of, crate::specs::Making::MakeFits))]
+    fn unlink<D: Device>(
+        &mut self,
+        hart: u8,
+        txn: &mut Txn,
+        name: &[u8],
+        core: &mut Core<D>,
+    ) -> Came<Named, Kind>
+        requires at { (x : Super × Held × Held × Full × Option StoreInode) × (self.old ≡ making.Unlinking x.0 x.1 x.2 x.3 x.4) }
+        requires txn { txn.old ≡ hart }
+        requires name { IsName name.now }
+        requires may { MayNext hart (make_of name.now self.old) (state_of D.contents D.failures core.old) }
+        requires fits { MakeFits hart (state_of D.contents D.failures core.old) self.old }
+        ensures steps { StepsAt D.contents D.failures D.Called (make_of name.now) named_as MakeFits (IsNamed hart (state_of D.contents D.failures core.new)) making.Gone hart self.old self.new result core.old core.new }
+        ensures kept { txn.new ≡ txn.old }
+    {
+        match self {
             Make::Unlinking(_, _, _, _, store) => match step_store(store, hart, txn, core) {
                 Came::Waits => Came::Waits,
                 Came::Ran(kind) => Came::Ran(kind),
@@ -187,6 +309,28 @@ impl Make {
                 }
                 Came::Stopped => Came::Stopped,
             },
+            _ => unreachable!(),
+        }
+    }
+
+    // One operation of one that gives the new inode up.
+    #[tactic(auto, unfolding(crate::specs::Making::make_of, crate::specs::Making::MakeFits))]
+    fn give<D: Device>(
+        &mut self,
+        hart: u8,
+        txn: &mut Txn,
+        name: &[u8],
+        core: &mut Core<D>,
+    ) -> Came<Named, Kind>
+        requires at { (x : Held × Full × GiveUp) × (self.old ≡ making.Giving x.0 x.1 x.2) }
+        requires txn { txn.old ≡ hart }
+        requires name { IsName name.now }
+        requires may { MayNext hart (make_of name.now self.old) (state_of D.contents D.failures core.old) }
+        requires fits { MakeFits hart (state_of D.contents D.failures core.old) self.old }
+        ensures steps { StepsAt D.contents D.failures D.Called (make_of name.now) named_as MakeFits (IsNamed hart (state_of D.contents D.failures core.new)) making.Gone hart self.old self.new result core.old core.new }
+        ensures kept { txn.new ≡ txn.old }
+    {
+        match self {
             Make::Giving(_, _, give) => match give.step(hart, txn, core) {
                 Came::Waits => Came::Waits,
                 Came::Ran(kind) => Came::Ran(kind),
@@ -196,7 +340,7 @@ impl Make {
                 }
                 Came::Stopped => Came::Stopped,
             },
-            Make::Gone => unreachable!(),
+            _ => unreachable!(),
         }
     }
 

@@ -1,27 +1,33 @@
 //! mkdir: a new directory.
-ghost use Rattle.std.specs.Prelude.{◌≡◌, ◌≢◌, ◌∷◌, ◌<◌, ◌≤◌, ◌^◌, [], None, ℕ, List, length, All, IfNone, IsSome};
+ghost use Rattle.std.specs.Prelude.{◌≡◌, ◌≢◌, ◌∷◌, ◌<◌, ◌≤◌, ◌^◌, [], None, ℕ, List, Option, length, All, IfNone, IsSome};
 ghost use Rattle.atomic_programs.specs.Prog.{bind};
 ghost use Rattle.fs_machine.specs.Steps.{State, state_of};
 ghost use Rattle.fs_machine.specs.Machines.{MayNext};
 ghost use Rattle.fs_machine.specs.Places.{StepsAt};
 ghost use Rattle.inode_table.specs.Programs.{record_of};
+ghost use Rattle.inode_table.specs.declared.store_inode.StoreInode.{StoreInode};
 ghost use Rattle.image_tree.specs.Trees.{count_of};
 ghost use Rattle.plain_tree.specs.Widths.{count_limit};
 ghost use Rattle.path_walk.specs.Elements.{longest_path, name_in, IsElement};
 ghost use Rattle.path_walk.specs.declared.elements.Element.{Element};
+ghost use Rattle.call_parts.specs.Heard.{heard, IsHeard};
 ghost use Rattle.call_parts.specs.Spent.{reply_in, IsSpent};
 ghost use Rattle.call_parts.specs.Parts.{quit, stopped};
 ghost use Rattle.call_parts.specs.Taking.{inode_in, IsHeld};
 ghost use Rattle.call_parts.specs.Seeking.{seek, seen_as, IsParent, IsSeen, IsSight};
 ghost use Rattle.call_parts.specs.OnPaths.{IsSized};
+ghost use Rattle.call_parts.specs.declared.give.GiveUp.{GiveUp};
 ghost use Rattle.call_parts.specs.declared.give.GiveUp.TheVariants as giving;
 ghost use Rattle.call_parts.specs.declared.on_path.OnPath.{OnPath};
+ghost use Rattle.call_parts.specs.declared.quit.Quit.{Quit};
 ghost use Rattle.call_parts.specs.declared.quit.Quit.TheVariants as quitting;
 ghost use Rattle.call_parts.specs.declared.seek.Dots.TheVariants as dots;
+ghost use Rattle.call_parts.specs.declared.seek.Seek.{Seek};
 ghost use Rattle.call_parts.specs.declared.seek.Seek.TheVariants as seeking;
 ghost use Rattle.call_parts.specs.declared.take.Held.{Held};
 ghost use Rattle.making_calls.specs.Making.{named_as, IsNamed, IsThereNamed};
 ghost use Rattle.making_calls.specs.Mkdirs.{leave_made, mkdir_missing, mkdir_named, mkdir_of, mkdir_on, mkdir_program, mkdir_refused, mkdir_reply, mkdir_seen, raise_parent, IsNaming, MkdirFits};
+ghost use Rattle.making_calls.specs.declared.make.Make.{Make};
 ghost use Rattle.making_calls.specs.declared.make.Make.TheVariants as making;
 ghost use Rattle.making_calls.specs.declared.mkdir.Mkdir.TheVariants as mkdir;
 
@@ -31,7 +37,7 @@ use atomic_programs::machines::Came;
 use block_device::Device;
 use call_parts::{
     Answered, Dots, GiveUp, Held, LastName, MOST_LINKS, OnPath, Quit, Seek, Seen, count_of, ending,
-    stopped, store, with_links,
+    stopped, store, told, with_links,
 };
 use directory::Found;
 use fs_layout::{Dinode, Super};
@@ -81,11 +87,44 @@ impl Mkdir {
     }
 
     /// One operation of it in its place.
-    #[tactic(auto, unfolding(crate::specs::Mkdirs::mkdir_of, crate::specs::Mkdirs::MkdirFits, fs_machine::specs::Premises::Honest))]
-    pub fn step<D: Device>(&mut self, hart: u8, core: &mut Core<D>) -> Came<Answered, Kind>
+    #[tactic(auto, unfolding(crate::specs::Mkdirs::mkdir_of, crate::specs::Mkdirs::MkdirFits))]
+    pub fn step<D: Device>(
+        &mut self,
+        replied: &mut Option<Answered>,
+        hart: u8,
+        core: &mut Core<D>,
+    ) -> Came<(), Kind>
         requires may { MayNext hart (mkdir_of self.old) (state_of D.contents D.failures core.old) }
         requires fits { MkdirFits hart (state_of D.contents D.failures core.old) self.old }
-        ensures steps { StepsAt D.contents D.failures D.Called mkdir_of reply_in MkdirFits IsSpent mkdir.Gone hart self.old self.new result core.old core.new }
+        requires none { replied.old ≡ None }
+        ensures steps { StepsAt D.contents D.failures D.Called mkdir_of reply_in MkdirFits IsSpent mkdir.Gone hart self.old self.new (heard result replied.new) core.old core.new }
+        ensures told { IsHeard result replied.new }
+    {
+        match self {
+            Mkdir::Join(_, _) => self.join(replied, hart, core),
+            Mkdir::Seeking(_, _, _) => self.seek(replied, hart, core),
+            Mkdir::Making(_, _, _, _, _, _) => self.make(replied, hart, core),
+            Mkdir::Raising(_, _, _, _, _, _) => self.raise(replied, hart, core),
+            Mkdir::Leaving(_, _, _, _, _) => self.leave(replied, hart, core),
+            Mkdir::Ends(_) => self.quit(replied, hart, core),
+            Mkdir::Gone => unreachable!(),
+        }
+    }
+
+    // One operation of one that joins a transaction.
+    #[tactic(auto, unfolding(crate::specs::Mkdirs::mkdir_of, crate::specs::Mkdirs::MkdirFits, fs_machine::specs::Premises::Honest))]
+    fn join<D: Device>(
+        &mut self,
+        replied: &mut Option<Answered>,
+        hart: u8,
+        core: &mut Core<D>,
+    ) -> Came<(), Kind>
+        requires at { (x : OnPath × List ℕ) × (self.old ≡ mkdir.Join x.0 x.1) }
+        requires may { MayNext hart (mkdir_of self.old) (state_of D.contents D.failures core.old) }
+        requires fits { MkdirFits hart (state_of D.contents D.failures core.old) self.old }
+        requires none { replied.old ≡ None }
+        ensures steps { StepsAt D.contents D.failures D.Called mkdir_of reply_in MkdirFits IsSpent mkdir.Gone hart self.old self.new (heard result replied.new) core.old core.new }
+        ensures told { IsHeard result replied.new }
     {
         match self {
             Mkdir::Join(_, _) => match core.join(hart) {
@@ -96,6 +135,26 @@ impl Mkdir {
                     Came::Ran(Kind::Join)
                 }
             },
+            _ => unreachable!(),
+        }
+    }
+
+    // One operation of one that looks the last name up.
+    #[tactic(auto, unfolding(crate::specs::Mkdirs::mkdir_of, crate::specs::Mkdirs::MkdirFits))]
+    fn seek<D: Device>(
+        &mut self,
+        replied: &mut Option<Answered>,
+        hart: u8,
+        core: &mut Core<D>,
+    ) -> Came<(), Kind>
+        requires at { (x : OnPath × ℕ × Seek) × (self.old ≡ mkdir.Seeking x.0 x.1 x.2) }
+        requires may { MayNext hart (mkdir_of self.old) (state_of D.contents D.failures core.old) }
+        requires fits { MkdirFits hart (state_of D.contents D.failures core.old) self.old }
+        requires none { replied.old ≡ None }
+        ensures steps { StepsAt D.contents D.failures D.Called mkdir_of reply_in MkdirFits IsSpent mkdir.Gone hart self.old self.new (heard result replied.new) core.old core.new }
+        ensures told { IsHeard result replied.new }
+    {
+        match self {
             Mkdir::Seeking(on, _, seek) => match seek.step(hart, on.path.as_slice(), core) {
                 Came::Waits => Came::Waits,
                 Came::Ran(kind) => Came::Ran(kind),
@@ -106,6 +165,26 @@ impl Mkdir {
                 }
                 Came::Stopped => Came::Stopped,
             },
+            _ => unreachable!(),
+        }
+    }
+
+    // One operation of one that makes a directory.
+    #[tactic(auto, unfolding(crate::specs::Mkdirs::mkdir_of, crate::specs::Mkdirs::MkdirFits))]
+    fn make<D: Device>(
+        &mut self,
+        replied: &mut Option<Answered>,
+        hart: u8,
+        core: &mut Core<D>,
+    ) -> Came<(), Kind>
+        requires at { (x : OnPath × ℕ × List ℕ × Element × ℕ × Make) × (self.old ≡ mkdir.Making x.0 x.1 x.2 x.3 x.4 x.5) }
+        requires may { MayNext hart (mkdir_of self.old) (state_of D.contents D.failures core.old) }
+        requires fits { MkdirFits hart (state_of D.contents D.failures core.old) self.old }
+        requires none { replied.old ≡ None }
+        ensures steps { StepsAt D.contents D.failures D.Called mkdir_of reply_in MkdirFits IsSpent mkdir.Gone hart self.old self.new (heard result replied.new) core.old core.new }
+        ensures told { IsHeard result replied.new }
+    {
+        match self {
             Mkdir::Making(on, txn, _, element, _, make) => {
                 let name = &on.path.as_slice()[element.start..element.end];
                 match make.step(hart, txn, name, core) {
@@ -119,6 +198,26 @@ impl Mkdir {
                     Came::Stopped => Came::Stopped,
                 }
             }
+            _ => unreachable!(),
+        }
+    }
+
+    // One operation of one that gives the parent its new count.
+    #[tactic(auto, unfolding(crate::specs::Mkdirs::mkdir_of, crate::specs::Mkdirs::MkdirFits))]
+    fn raise<D: Device>(
+        &mut self,
+        replied: &mut Option<Answered>,
+        hart: u8,
+        core: &mut Core<D>,
+    ) -> Came<(), Kind>
+        requires at { (x : OnPath × ℕ × List ℕ × Held × Held × Option StoreInode) × (self.old ≡ mkdir.Raising x.0 x.1 x.2 x.3 x.4 x.5) }
+        requires may { MayNext hart (mkdir_of self.old) (state_of D.contents D.failures core.old) }
+        requires fits { MkdirFits hart (state_of D.contents D.failures core.old) self.old }
+        requires none { replied.old ≡ None }
+        ensures steps { StepsAt D.contents D.failures D.Called mkdir_of reply_in MkdirFits IsSpent mkdir.Gone hart self.old self.new (heard result replied.new) core.old core.new }
+        ensures told { IsHeard result replied.new }
+    {
+        match self {
             Mkdir::Raising(_, txn, _, _, _, store) => match step_store(store, hart, txn, core) {
                 Came::Waits => Came::Waits,
                 Came::Ran(kind) => Came::Ran(kind),
@@ -130,6 +229,26 @@ impl Mkdir {
                 }
                 Came::Stopped => Came::Stopped,
             },
+            _ => unreachable!(),
+        }
+    }
+
+    // One operation of one that gives the parent up.
+    #[tactic(auto, unfolding(crate::specs::Mkdirs::mkdir_of, crate::specs::Mkdirs::MkdirFits))]
+    fn leave<D: Device>(
+        &mut self,
+        replied: &mut Option<Answered>,
+        hart: u8,
+        core: &mut Core<D>,
+    ) -> Came<(), Kind>
+        requires at { (x : OnPath × ℕ × List ℕ × Held × GiveUp) × (self.old ≡ mkdir.Leaving x.0 x.1 x.2 x.3 x.4) }
+        requires may { MayNext hart (mkdir_of self.old) (state_of D.contents D.failures core.old) }
+        requires fits { MkdirFits hart (state_of D.contents D.failures core.old) self.old }
+        requires none { replied.old ≡ None }
+        ensures steps { StepsAt D.contents D.failures D.Called mkdir_of reply_in MkdirFits IsSpent mkdir.Gone hart self.old self.new (heard result replied.new) core.old core.new }
+        ensures told { IsHeard result replied.new }
+    {
+        match self {
             Mkdir::Leaving(_, txn, _, _, give) => match give.step(hart, txn, core) {
                 Came::Waits => Came::Waits,
                 Came::Ran(kind) => Came::Ran(kind),
@@ -140,16 +259,36 @@ impl Mkdir {
                 }
                 Came::Stopped => Came::Stopped,
             },
-            Mkdir::Ends(quit) => match quit.step(hart, core) {
+            _ => unreachable!(),
+        }
+    }
+
+    // One operation of one that ends the call.
+    #[tactic(auto, unfolding(crate::specs::Mkdirs::mkdir_of, crate::specs::Mkdirs::MkdirFits))]
+    fn quit<D: Device>(
+        &mut self,
+        replied: &mut Option<Answered>,
+        hart: u8,
+        core: &mut Core<D>,
+    ) -> Came<(), Kind>
+        requires at { (x : Quit) × (self.old ≡ mkdir.Ends x) }
+        requires may { MayNext hart (mkdir_of self.old) (state_of D.contents D.failures core.old) }
+        requires fits { MkdirFits hart (state_of D.contents D.failures core.old) self.old }
+        requires none { replied.old ≡ None }
+        ensures steps { StepsAt D.contents D.failures D.Called mkdir_of reply_in MkdirFits IsSpent mkdir.Gone hart self.old self.new (heard result replied.new) core.old core.new }
+        ensures told { IsHeard result replied.new }
+    {
+        match self {
+            Mkdir::Ends(quit) => match told(quit.step(hart, core), replied) {
                 Came::Waits => Came::Waits,
                 Came::Ran(kind) => Came::Ran(kind),
-                Came::Done(answered, kind) => {
+                Came::Done((), kind) => {
                     self.end();
-                    Came::Done(answered, kind)
+                    Came::Done((), kind)
                 }
                 Came::Stopped => Came::Stopped,
             },
-            Mkdir::Gone => unreachable!(),
+            _ => unreachable!(),
         }
     }
 

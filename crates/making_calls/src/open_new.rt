@@ -1,27 +1,34 @@
 //! open with CREATE: of what is there, or of a new file.
-ghost use Rattle.std.specs.Prelude.{◌≡◌, ◌≢◌, ◌∷◌, ◌≤◌, [], false, ℕ, List, length, All, IfSome, IsSome};
+ghost use Rattle.std.specs.Prelude.{◌≡◌, ◌≢◌, ◌∷◌, ◌≤◌, [], false, ℕ, List, None, length, All, IfSome, IsSome};
 ghost use Rattle.atomic_programs.specs.Prog.{bind};
 ghost use Rattle.fs_machine.specs.Steps.{State, state_of};
 ghost use Rattle.fs_machine.specs.Machines.{MayNext};
 ghost use Rattle.fs_machine.specs.Places.{StepsAt};
 ghost use Rattle.path_walk.specs.Elements.{longest_path, name_in, IsElement};
 ghost use Rattle.path_walk.specs.declared.elements.Element.{Element};
+ghost use Rattle.call_parts.specs.Heard.{heard, IsHeard};
 ghost use Rattle.call_parts.specs.Spent.{reply_in, IsSpent};
 ghost use Rattle.call_parts.specs.Parts.{quit, stopped};
 ghost use Rattle.call_parts.specs.Taking.{inode_in, IsHeld};
 ghost use Rattle.call_parts.specs.Seeking.{seek, seen_as, IsParent, IsSeen};
 ghost use Rattle.call_parts.specs.OnPaths.{IsSized};
+ghost use Rattle.call_parts.specs.declared.give.GiveUp.{GiveUp};
 ghost use Rattle.call_parts.specs.declared.give.GiveUp.TheVariants as giving;
+ghost use Rattle.call_parts.specs.declared.quit.Quit.{Quit};
 ghost use Rattle.call_parts.specs.declared.seek.Dots.TheVariants as dots;
+ghost use Rattle.call_parts.specs.declared.seek.Seek.{Seek};
 ghost use Rattle.call_parts.specs.declared.seek.Seek.TheVariants as seeking;
 ghost use Rattle.call_parts.specs.declared.take.Held.{Held};
+ghost use Rattle.call_parts.specs.declared.take.TakeInode.{TakeInode};
 ghost use Rattle.call_parts.specs.declared.take.TakeInode.TheVariants as taking;
 ghost use Rattle.making_calls.specs.Opening.{open_at, open_reply};
 ghost use Rattle.making_calls.specs.Making.{named_as, IsNamed};
 ghost use Rattle.making_calls.specs.Creating.{open_found_in, open_made, open_missing, open_named, open_new, open_new_of, open_seen, open_taken, open_up, HasEnded, IsCreating, OpenNewFits};
 ghost use Rattle.making_calls.specs.declared.install.Opening.{Opening};
+ghost use Rattle.making_calls.specs.declared.make.Make.{Make};
 ghost use Rattle.making_calls.specs.declared.make.Make.TheVariants as making;
 ghost use Rattle.making_calls.specs.declared.open_new.OpenNew.TheVariants as opening_new;
+ghost use Rattle.making_calls.specs.declared.open_old.OpenOld.{OpenOld};
 
 use crate::install::{Install, Opening, ToOpen};
 use crate::make::{Make, Named, Sort};
@@ -29,7 +36,7 @@ use crate::open_old::{OpenOld, at};
 use atomic_programs::machines::Came;
 use block_device::Device;
 use call_parts::{
-    Answered, Dots, GiveUp, Held, LastName, Quit, Seek, Seen, TakeInode, ending, stopped,
+    Answered, Dots, GiveUp, Held, LastName, Quit, Seek, Seen, TakeInode, ending, stopped, told,
 };
 use fs_layout::Super;
 use fs_machine::{Core, Kind, RetiredCore};
@@ -84,11 +91,47 @@ impl OpenNew {
     }
 
     /// One operation of it in its place.
-    #[tactic(auto, unfolding(crate::specs::Creating::open_new_of, crate::specs::Creating::OpenNewFits, fs_machine::specs::Premises::Honest))]
-    pub fn step<D: Device>(&mut self, hart: u8, core: &mut Core<D>) -> Came<Answered, Kind>
+    #[tactic(auto, unfolding(crate::specs::Creating::open_new_of, crate::specs::Creating::OpenNewFits))]
+    pub fn step<D: Device>(
+        &mut self,
+        replied: &mut Option<Answered>,
+        hart: u8,
+        core: &mut Core<D>,
+    ) -> Came<(), Kind>
         requires may { MayNext hart (open_new_of self.old) (state_of D.contents D.failures core.old) }
         requires fits { OpenNewFits hart (state_of D.contents D.failures core.old) self.old }
-        ensures steps { StepsAt D.contents D.failures D.Called open_new_of reply_in OpenNewFits IsSpent opening_new.Gone hart self.old self.new result core.old core.new }
+        requires none { replied.old ≡ None }
+        ensures steps { StepsAt D.contents D.failures D.Called open_new_of reply_in OpenNewFits IsSpent opening_new.Gone hart self.old self.new (heard result replied.new) core.old core.new }
+        ensures told { IsHeard result replied.new }
+    {
+        match self {
+            OpenNew::Join(_, _) => self.join(replied, hart, core),
+            OpenNew::Seeking(_, _, _) => self.seek(replied, hart, core),
+            OpenNew::Up(_, _, _, _, _) => self.take_up(replied, hart, core),
+            OpenNew::Leaving(_, _, _, _, _) => self.leave(replied, hart, core),
+            OpenNew::Taking(_, _, _, _) => self.take(replied, hart, core),
+            OpenNew::Making(_, _, _, _, _) => self.make(replied, hart, core),
+            OpenNew::Made(_, _, _, _, _) => self.leave_made(replied, hart, core),
+            OpenNew::Opens(_) => self.open(replied, hart, core),
+            OpenNew::Ends(_) => self.quit(replied, hart, core),
+            OpenNew::Gone => unreachable!(),
+        }
+    }
+
+    // One operation of one that joins a transaction.
+    #[tactic(auto, unfolding(crate::specs::Creating::open_new_of, crate::specs::Creating::OpenNewFits, fs_machine::specs::Premises::Honest))]
+    fn join<D: Device>(
+        &mut self,
+        replied: &mut Option<Answered>,
+        hart: u8,
+        core: &mut Core<D>,
+    ) -> Came<(), Kind>
+        requires at { (x : Opening × List ℕ) × (self.old ≡ opening_new.Join x.0 x.1) }
+        requires may { MayNext hart (open_new_of self.old) (state_of D.contents D.failures core.old) }
+        requires fits { OpenNewFits hart (state_of D.contents D.failures core.old) self.old }
+        requires none { replied.old ≡ None }
+        ensures steps { StepsAt D.contents D.failures D.Called open_new_of reply_in OpenNewFits IsSpent opening_new.Gone hart self.old self.new (heard result replied.new) core.old core.new }
+        ensures told { IsHeard result replied.new }
     {
         match self {
             OpenNew::Join(_, _) => match core.join(hart) {
@@ -99,6 +142,26 @@ impl OpenNew {
                     Came::Ran(Kind::Join)
                 }
             },
+            _ => unreachable!(),
+        }
+    }
+
+    // One operation of one that looks the last name up.
+    #[tactic(auto, unfolding(crate::specs::Creating::open_new_of, crate::specs::Creating::OpenNewFits))]
+    fn seek<D: Device>(
+        &mut self,
+        replied: &mut Option<Answered>,
+        hart: u8,
+        core: &mut Core<D>,
+    ) -> Came<(), Kind>
+        requires at { (x : Opening × ℕ × Seek) × (self.old ≡ opening_new.Seeking x.0 x.1 x.2) }
+        requires may { MayNext hart (open_new_of self.old) (state_of D.contents D.failures core.old) }
+        requires fits { OpenNewFits hart (state_of D.contents D.failures core.old) self.old }
+        requires none { replied.old ≡ None }
+        ensures steps { StepsAt D.contents D.failures D.Called open_new_of reply_in OpenNewFits IsSpent opening_new.Gone hart self.old self.new (heard result replied.new) core.old core.new }
+        ensures told { IsHeard result replied.new }
+    {
+        match self {
             OpenNew::Seeking(opening, _, seek) => {
                 match seek.step(hart, opening.path.as_slice(), core) {
                     Came::Waits => Came::Waits,
@@ -111,12 +174,52 @@ impl OpenNew {
                     Came::Stopped => Came::Stopped,
                 }
             }
+            _ => unreachable!(),
+        }
+    }
+
+    // One operation of one that takes a reference to what is there.
+    #[tactic(auto, unfolding(crate::specs::Creating::open_new_of, crate::specs::Creating::OpenNewFits, fs_machine::specs::Premises::Honest))]
+    fn take_up<D: Device>(
+        &mut self,
+        replied: &mut Option<Answered>,
+        hart: u8,
+        core: &mut Core<D>,
+    ) -> Came<(), Kind>
+        requires at { (x : Opening × ℕ × List ℕ × Held × ℕ) × (self.old ≡ opening_new.Up x.0 x.1 x.2 x.3 x.4) }
+        requires may { MayNext hart (open_new_of self.old) (state_of D.contents D.failures core.old) }
+        requires fits { OpenNewFits hart (state_of D.contents D.failures core.old) self.old }
+        requires none { replied.old ≡ None }
+        ensures steps { StepsAt D.contents D.failures D.Called open_new_of reply_in OpenNewFits IsSpent opening_new.Gone hart self.old self.new (heard result replied.new) core.old core.new }
+        ensures told { IsHeard result replied.new }
+    {
+        match self {
             OpenNew::Up(_, _, _, _, number) => {
                 let there = core.up(hart, *number);
                 let (opening, txn, list, held, _) = self.taking_up();
                 self.put(up(opening, txn, list, held, there));
                 Came::Ran(Kind::Up)
             }
+            _ => unreachable!(),
+        }
+    }
+
+    // One operation of one that gives the parent up.
+    #[tactic(auto, unfolding(crate::specs::Creating::open_new_of, crate::specs::Creating::OpenNewFits))]
+    fn leave<D: Device>(
+        &mut self,
+        replied: &mut Option<Answered>,
+        hart: u8,
+        core: &mut Core<D>,
+    ) -> Came<(), Kind>
+        requires at { (x : Opening × ℕ × List ℕ × ℕ × GiveUp) × (self.old ≡ opening_new.Leaving x.0 x.1 x.2 x.3 x.4) }
+        requires may { MayNext hart (open_new_of self.old) (state_of D.contents D.failures core.old) }
+        requires fits { OpenNewFits hart (state_of D.contents D.failures core.old) self.old }
+        requires none { replied.old ≡ None }
+        ensures steps { StepsAt D.contents D.failures D.Called open_new_of reply_in OpenNewFits IsSpent opening_new.Gone hart self.old self.new (heard result replied.new) core.old core.new }
+        ensures told { IsHeard result replied.new }
+    {
+        match self {
             OpenNew::Leaving(_, txn, _, _, give) => match give.step(hart, txn, core) {
                 Came::Waits => Came::Waits,
                 Came::Ran(kind) => Came::Ran(kind),
@@ -127,6 +230,26 @@ impl OpenNew {
                 }
                 Came::Stopped => Came::Stopped,
             },
+            _ => unreachable!(),
+        }
+    }
+
+    // One operation of one that takes the inode.
+    #[tactic(auto, unfolding(crate::specs::Creating::open_new_of, crate::specs::Creating::OpenNewFits))]
+    fn take<D: Device>(
+        &mut self,
+        replied: &mut Option<Answered>,
+        hart: u8,
+        core: &mut Core<D>,
+    ) -> Came<(), Kind>
+        requires at { (x : Opening × ℕ × List ℕ × TakeInode) × (self.old ≡ opening_new.Taking x.0 x.1 x.2 x.3) }
+        requires may { MayNext hart (open_new_of self.old) (state_of D.contents D.failures core.old) }
+        requires fits { OpenNewFits hart (state_of D.contents D.failures core.old) self.old }
+        requires none { replied.old ≡ None }
+        ensures steps { StepsAt D.contents D.failures D.Called open_new_of reply_in OpenNewFits IsSpent opening_new.Gone hart self.old self.new (heard result replied.new) core.old core.new }
+        ensures told { IsHeard result replied.new }
+    {
+        match self {
             OpenNew::Taking(_, _, _, take) => match take.step(hart, core) {
                 Came::Waits => Came::Waits,
                 Came::Ran(kind) => Came::Ran(kind),
@@ -137,6 +260,26 @@ impl OpenNew {
                 }
                 Came::Stopped => Came::Stopped,
             },
+            _ => unreachable!(),
+        }
+    }
+
+    // One operation of one that makes a file.
+    #[tactic(auto, unfolding(crate::specs::Creating::open_new_of, crate::specs::Creating::OpenNewFits))]
+    fn make<D: Device>(
+        &mut self,
+        replied: &mut Option<Answered>,
+        hart: u8,
+        core: &mut Core<D>,
+    ) -> Came<(), Kind>
+        requires at { (x : Opening × ℕ × List ℕ × Element × Make) × (self.old ≡ opening_new.Making x.0 x.1 x.2 x.3 x.4) }
+        requires may { MayNext hart (open_new_of self.old) (state_of D.contents D.failures core.old) }
+        requires fits { OpenNewFits hart (state_of D.contents D.failures core.old) self.old }
+        requires none { replied.old ≡ None }
+        ensures steps { StepsAt D.contents D.failures D.Called open_new_of reply_in OpenNewFits IsSpent opening_new.Gone hart self.old self.new (heard result replied.new) core.old core.new }
+        ensures told { IsHeard result replied.new }
+    {
+        match self {
             OpenNew::Making(opening, txn, _, element, make) => {
                 let name = &opening.path.as_slice()[element.start..element.end];
                 match make.step(hart, txn, name, core) {
@@ -150,6 +293,26 @@ impl OpenNew {
                     Came::Stopped => Came::Stopped,
                 }
             }
+            _ => unreachable!(),
+        }
+    }
+
+    // One operation of one that gives the parent of a new file up.
+    #[tactic(auto, unfolding(crate::specs::Creating::open_new_of, crate::specs::Creating::OpenNewFits))]
+    fn leave_made<D: Device>(
+        &mut self,
+        replied: &mut Option<Answered>,
+        hart: u8,
+        core: &mut Core<D>,
+    ) -> Came<(), Kind>
+        requires at { (x : Opening × ℕ × List ℕ × Held × GiveUp) × (self.old ≡ opening_new.Made x.0 x.1 x.2 x.3 x.4) }
+        requires may { MayNext hart (open_new_of self.old) (state_of D.contents D.failures core.old) }
+        requires fits { OpenNewFits hart (state_of D.contents D.failures core.old) self.old }
+        requires none { replied.old ≡ None }
+        ensures steps { StepsAt D.contents D.failures D.Called open_new_of reply_in OpenNewFits IsSpent opening_new.Gone hart self.old self.new (heard result replied.new) core.old core.new }
+        ensures told { IsHeard result replied.new }
+    {
+        match self {
             OpenNew::Made(_, txn, _, _, give) => match give.step(hart, txn, core) {
                 Came::Waits => Came::Waits,
                 Came::Ran(kind) => Came::Ran(kind),
@@ -160,25 +323,65 @@ impl OpenNew {
                 }
                 Came::Stopped => Came::Stopped,
             },
-            OpenNew::Opens(open) => match open.step(hart, core) {
+            _ => unreachable!(),
+        }
+    }
+
+    // One operation of one that opens the inode.
+    #[tactic(auto, unfolding(crate::specs::Creating::open_new_of, crate::specs::Creating::OpenNewFits))]
+    fn open<D: Device>(
+        &mut self,
+        replied: &mut Option<Answered>,
+        hart: u8,
+        core: &mut Core<D>,
+    ) -> Came<(), Kind>
+        requires at { (x : OpenOld) × (self.old ≡ opening_new.Opens x) }
+        requires may { MayNext hart (open_new_of self.old) (state_of D.contents D.failures core.old) }
+        requires fits { OpenNewFits hart (state_of D.contents D.failures core.old) self.old }
+        requires none { replied.old ≡ None }
+        ensures steps { StepsAt D.contents D.failures D.Called open_new_of reply_in OpenNewFits IsSpent opening_new.Gone hart self.old self.new (heard result replied.new) core.old core.new }
+        ensures told { IsHeard result replied.new }
+    {
+        match self {
+            OpenNew::Opens(open) => match open.step(replied, hart, core) {
                 Came::Waits => Came::Waits,
                 Came::Ran(kind) => Came::Ran(kind),
-                Came::Done(answered, kind) => {
+                Came::Done((), kind) => {
                     self.end();
-                    Came::Done(answered, kind)
+                    Came::Done((), kind)
                 }
                 Came::Stopped => Came::Stopped,
             },
-            OpenNew::Ends(quit) => match quit.step(hart, core) {
+            _ => unreachable!(),
+        }
+    }
+
+    // One operation of one that ends the call.
+    #[tactic(auto, unfolding(crate::specs::Creating::open_new_of, crate::specs::Creating::OpenNewFits))]
+    fn quit<D: Device>(
+        &mut self,
+        replied: &mut Option<Answered>,
+        hart: u8,
+        core: &mut Core<D>,
+    ) -> Came<(), Kind>
+        requires at { (x : Quit) × (self.old ≡ opening_new.Ends x) }
+        requires may { MayNext hart (open_new_of self.old) (state_of D.contents D.failures core.old) }
+        requires fits { OpenNewFits hart (state_of D.contents D.failures core.old) self.old }
+        requires none { replied.old ≡ None }
+        ensures steps { StepsAt D.contents D.failures D.Called open_new_of reply_in OpenNewFits IsSpent opening_new.Gone hart self.old self.new (heard result replied.new) core.old core.new }
+        ensures told { IsHeard result replied.new }
+    {
+        match self {
+            OpenNew::Ends(quit) => match told(quit.step(hart, core), replied) {
                 Came::Waits => Came::Waits,
                 Came::Ran(kind) => Came::Ran(kind),
-                Came::Done(answered, kind) => {
+                Came::Done((), kind) => {
                     self.end();
-                    Came::Done(answered, kind)
+                    Came::Done((), kind)
                 }
                 Came::Stopped => Came::Stopped,
             },
-            OpenNew::Gone => unreachable!(),
+            _ => unreachable!(),
         }
     }
 

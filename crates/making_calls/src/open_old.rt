@@ -1,5 +1,5 @@
 //! open without CREATE: of what is there.
-ghost use Rattle.std.specs.Prelude.{◌≡◌, [], ◌≢◌, ◌≤◌, ℕ, List, All, IsSome, length};
+ghost use Rattle.std.specs.Prelude.{◌≡◌, [], ◌≢◌, ◌≤◌, ℕ, List, None, All, IsSome, length};
 ghost use Rattle.atomic_programs.specs.Prog.{bind};
 ghost use Rattle.fs_machine.specs.Steps.{State, state_of};
 ghost use Rattle.fs_machine.specs.Machines.{MayNext};
@@ -7,20 +7,24 @@ ghost use Rattle.fs_machine.specs.Places.{StepsAt};
 ghost use Rattle.file_table.specs.Machines.{IsEarly};
 ghost use Rattle.plain_tree.specs.Steps.{has_driver};
 ghost use Rattle.path_walk.specs.Elements.{longest_path};
+ghost use Rattle.call_parts.specs.Heard.{heard, IsHeard};
 ghost use Rattle.call_parts.specs.Spent.{reply_in, IsSpent};
 ghost use Rattle.call_parts.specs.Parts.{reach, Misses};
 ghost use Rattle.making_calls.specs.Opening.{empties, open_at, open_found, open_old, open_refusal};
 ghost use Rattle.call_parts.specs.Taking.{inode_in, IsHeld, reached_as, IsReached, IsThere};
 ghost use Rattle.making_calls.specs.Opens.{open_old_of, HasEnded, OpenOldFits, IsOpening};
 ghost use Rattle.path_walk.specs.declared.walked.Goal.TheVariants as goals;
+ghost use Rattle.call_parts.specs.declared.quit.Quit.{Quit};
+ghost use Rattle.call_parts.specs.declared.reach.Reach.{Reach};
 ghost use Rattle.call_parts.specs.declared.reach.Reach.TheVariants as reaching;
+ghost use Rattle.making_calls.specs.declared.install.Install.{Install};
 ghost use Rattle.making_calls.specs.declared.install.Opening.{Opening};
 ghost use Rattle.making_calls.specs.declared.open_old.OpenOld.TheVariants as opening_old;
 
 use crate::install::{Install, Opening, ToOpen, has_flag, is_regular};
 use atomic_programs::machines::Came;
 use block_device::Device;
-use call_parts::{Answered, Held, Quit, Reach, Reached, ending, stopped};
+use call_parts::{Answered, Held, Quit, Reach, Reached, ending, stopped, told};
 use directory::is_directory;
 use fs_layout::{Dinode, Super};
 use fs_machine::{Core, Kind, RetiredCore};
@@ -70,11 +74,42 @@ impl OpenOld {
     }
 
     /// One operation of it in its place.
-    #[tactic(auto, unfolding(crate::specs::Opens::open_old_of, crate::specs::Opens::OpenOldFits, fs_machine::specs::Premises::Honest))]
-    pub fn step<D: Device>(&mut self, hart: u8, core: &mut Core<D>) -> Came<Answered, Kind>
+    #[tactic(auto, unfolding(crate::specs::Opens::open_old_of, crate::specs::Opens::OpenOldFits))]
+    pub fn step<D: Device>(
+        &mut self,
+        replied: &mut Option<Answered>,
+        hart: u8,
+        core: &mut Core<D>,
+    ) -> Came<(), Kind>
         requires may { MayNext hart (open_old_of self.old) (state_of D.contents D.failures core.old) }
         requires fits { OpenOldFits hart (state_of D.contents D.failures core.old) self.old }
-        ensures steps { StepsAt D.contents D.failures D.Called open_old_of reply_in OpenOldFits IsSpent opening_old.Gone hart self.old self.new result core.old core.new }
+        requires none { replied.old ≡ None }
+        ensures steps { StepsAt D.contents D.failures D.Called open_old_of reply_in OpenOldFits IsSpent opening_old.Gone hart self.old self.new (heard result replied.new) core.old core.new }
+        ensures told { IsHeard result replied.new }
+    {
+        match self {
+            OpenOld::Join(_, _) => self.join(replied, hart, core),
+            OpenOld::Reaching(_, _, _) => self.reach(replied, hart, core),
+            OpenOld::Installing(_) => self.install(replied, hart, core),
+            OpenOld::Ends(_) => self.quit(replied, hart, core),
+            OpenOld::Gone => unreachable!(),
+        }
+    }
+
+    // One operation of one that joins a transaction.
+    #[tactic(auto, unfolding(crate::specs::Opens::open_old_of, crate::specs::Opens::OpenOldFits, fs_machine::specs::Premises::Honest))]
+    fn join<D: Device>(
+        &mut self,
+        replied: &mut Option<Answered>,
+        hart: u8,
+        core: &mut Core<D>,
+    ) -> Came<(), Kind>
+        requires at { (x : Opening × List ℕ) × (self.old ≡ opening_old.Join x.0 x.1) }
+        requires may { MayNext hart (open_old_of self.old) (state_of D.contents D.failures core.old) }
+        requires fits { OpenOldFits hart (state_of D.contents D.failures core.old) self.old }
+        requires none { replied.old ≡ None }
+        ensures steps { StepsAt D.contents D.failures D.Called open_old_of reply_in OpenOldFits IsSpent opening_old.Gone hart self.old self.new (heard result replied.new) core.old core.new }
+        ensures told { IsHeard result replied.new }
     {
         match self {
             OpenOld::Join(_, _) => match core.join(hart) {
@@ -85,6 +120,26 @@ impl OpenOld {
                     Came::Ran(Kind::Join)
                 }
             },
+            _ => unreachable!(),
+        }
+    }
+
+    // One operation of one that follows the path.
+    #[tactic(auto, unfolding(crate::specs::Opens::open_old_of, crate::specs::Opens::OpenOldFits))]
+    fn reach<D: Device>(
+        &mut self,
+        replied: &mut Option<Answered>,
+        hart: u8,
+        core: &mut Core<D>,
+    ) -> Came<(), Kind>
+        requires at { (x : Opening × ℕ × Reach) × (self.old ≡ opening_old.Reaching x.0 x.1 x.2) }
+        requires may { MayNext hart (open_old_of self.old) (state_of D.contents D.failures core.old) }
+        requires fits { OpenOldFits hart (state_of D.contents D.failures core.old) self.old }
+        requires none { replied.old ≡ None }
+        ensures steps { StepsAt D.contents D.failures D.Called open_old_of reply_in OpenOldFits IsSpent opening_old.Gone hart self.old self.new (heard result replied.new) core.old core.new }
+        ensures told { IsHeard result replied.new }
+    {
+        match self {
             OpenOld::Reaching(opening, _, reach) => {
                 match reach.step(hart, opening.path.as_slice(), core) {
                     Came::Waits => Came::Waits,
@@ -97,25 +152,65 @@ impl OpenOld {
                     Came::Stopped => Came::Stopped,
                 }
             }
-            OpenOld::Installing(install) => match install.step(hart, core) {
+            _ => unreachable!(),
+        }
+    }
+
+    // One operation of one that gets a place and a descriptor.
+    #[tactic(auto, unfolding(crate::specs::Opens::open_old_of, crate::specs::Opens::OpenOldFits))]
+    fn install<D: Device>(
+        &mut self,
+        replied: &mut Option<Answered>,
+        hart: u8,
+        core: &mut Core<D>,
+    ) -> Came<(), Kind>
+        requires at { (x : Install) × (self.old ≡ opening_old.Installing x) }
+        requires may { MayNext hart (open_old_of self.old) (state_of D.contents D.failures core.old) }
+        requires fits { OpenOldFits hart (state_of D.contents D.failures core.old) self.old }
+        requires none { replied.old ≡ None }
+        ensures steps { StepsAt D.contents D.failures D.Called open_old_of reply_in OpenOldFits IsSpent opening_old.Gone hart self.old self.new (heard result replied.new) core.old core.new }
+        ensures told { IsHeard result replied.new }
+    {
+        match self {
+            OpenOld::Installing(install) => match install.step(replied, hart, core) {
                 Came::Waits => Came::Waits,
                 Came::Ran(kind) => Came::Ran(kind),
-                Came::Done(answered, kind) => {
+                Came::Done((), kind) => {
                     self.end();
-                    Came::Done(answered, kind)
+                    Came::Done((), kind)
                 }
                 Came::Stopped => Came::Stopped,
             },
-            OpenOld::Ends(quit) => match quit.step(hart, core) {
+            _ => unreachable!(),
+        }
+    }
+
+    // One operation of one that ends the call.
+    #[tactic(auto, unfolding(crate::specs::Opens::open_old_of, crate::specs::Opens::OpenOldFits))]
+    fn quit<D: Device>(
+        &mut self,
+        replied: &mut Option<Answered>,
+        hart: u8,
+        core: &mut Core<D>,
+    ) -> Came<(), Kind>
+        requires at { (x : Quit) × (self.old ≡ opening_old.Ends x) }
+        requires may { MayNext hart (open_old_of self.old) (state_of D.contents D.failures core.old) }
+        requires fits { OpenOldFits hart (state_of D.contents D.failures core.old) self.old }
+        requires none { replied.old ≡ None }
+        ensures steps { StepsAt D.contents D.failures D.Called open_old_of reply_in OpenOldFits IsSpent opening_old.Gone hart self.old self.new (heard result replied.new) core.old core.new }
+        ensures told { IsHeard result replied.new }
+    {
+        match self {
+            OpenOld::Ends(quit) => match told(quit.step(hart, core), replied) {
                 Came::Waits => Came::Waits,
                 Came::Ran(kind) => Came::Ran(kind),
-                Came::Done(answered, kind) => {
+                Came::Done((), kind) => {
                     self.end();
-                    Came::Done(answered, kind)
+                    Came::Done((), kind)
                 }
                 Came::Stopped => Came::Stopped,
             },
-            OpenOld::Gone => unreachable!(),
+            _ => unreachable!(),
         }
     }
 

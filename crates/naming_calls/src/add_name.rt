@@ -1,5 +1,5 @@
 //! Another name for a file that has one link more.
-ghost use Rattle.std.specs.Prelude.{◌≡◌, ℕ, IsSome, IsTrue};
+ghost use Rattle.std.specs.Prelude.{◌≡◌, ℕ, IsSome, IsTrue, None, List, Option};
 ghost use Rattle.fs_machine.specs.Steps.{State, state_of};
 ghost use Rattle.fs_machine.specs.Machines.{MayNext};
 ghost use Rattle.fs_machine.specs.Places.{StepsAt};
@@ -9,11 +9,20 @@ ghost use Rattle.directory.specs.Entering.{entered_of};
 ghost use Rattle.directory.specs.Programs.{is_live_directory};
 ghost use Rattle.path_walk.specs.Elements.{name_in, IsElement};
 ghost use Rattle.path_walk.specs.Programs.{loaded};
+ghost use Rattle.call_parts.specs.Heard.{heard, IsHeard};
 ghost use Rattle.call_parts.specs.Spent.{reply_in, IsSpent};
 ghost use Rattle.call_parts.specs.Taking.{inode_in, IsHeld};
 ghost use Rattle.call_parts.specs.Seeking.{seen_as, IsSeen, IsSight};
 ghost use Rattle.naming_calls.specs.AddTurns.{EnteredTo, Enters, HasEnded, IsEntering, Leaves, LeftTo, Seeks, SoughtTo, Takes, TookTo};
 ghost use Rattle.naming_calls.specs.Links.{add_name, add_of, leave_file, leave_named, name_entered, name_found, name_missing, name_seen, no_room, take_back, AddFits, HasRoom, IsLinking};
+ghost use Rattle.call_parts.specs.declared.give.GiveUp.{GiveUp as GiveUpState};
+ghost use Rattle.call_parts.specs.declared.quit.Quit.{Quit as QuitState};
+ghost use Rattle.call_parts.specs.declared.seek.Seek.{Seek as SeekState};
+ghost use Rattle.call_parts.specs.declared.tail.Ending.{Ending as EndingState};
+ghost use Rattle.call_parts.specs.declared.take.TakeInode.{TakeInode as TakeState};
+ghost use Rattle.naming_calls.specs.declared.add_name.Linking.{Linking as LinkingState};
+ghost use Rattle.naming_calls.specs.declared.lower.Lower.{Lower as LowerState};
+ghost use Rattle.plain_tree.specs.declared.answer.Answer.{Answer as AnswerState};
 ghost use Rattle.naming_calls.specs.declared.add_name.AddName.TheVariants as adding;
 
 use crate::lower::{Lower, to_child};
@@ -21,7 +30,7 @@ use atomic_programs::machines::{Came, Stepped, put};
 use block_device::Device;
 use call_parts::{
     Answered, Dots, Ending, GiveUp, Held, LastName, Quit, Seek, Seen, TakeInode, ending, number_of,
-    stopped,
+    stopped, told,
 };
 use directory::{Enter, Entered, Room};
 use fs_layout::Super;
@@ -78,10 +87,43 @@ impl AddName {
 
     /// One operation of it in its place.
     #[tactic(auto, unfolding(crate::specs::Links::add_of, crate::specs::Links::AddFits))]
-    pub fn step<D: Device>(&mut self, hart: u8, core: &mut Core<D>) -> Came<Answered, Kind>
+    pub fn step<D: Device>(
+        &mut self,
+        replied: &mut Option<Answered>,
+        hart: u8,
+        core: &mut Core<D>,
+    ) -> Came<(), Kind>
         requires may { MayNext hart (add_of self.old) (state_of D.contents D.failures core.old) }
         requires fits { AddFits hart (state_of D.contents D.failures core.old) self.old }
-        ensures steps { StepsAt D.contents D.failures D.Called add_of reply_in AddFits IsSpent adding.Gone hart self.old self.new result core.old core.new }
+        requires none { replied.old ≡ None }
+        ensures steps { StepsAt D.contents D.failures D.Called add_of reply_in AddFits IsSpent adding.Gone hart self.old self.new (heard result replied.new) core.old core.new }
+        ensures told { IsHeard result replied.new }
+    {
+        match self {
+            AddName::Seeking(_, _, _, _) => self.seek(replied, hart, core),
+            AddName::Entering(_, _, _, _, _, _) => self.enter(replied, hart, core),
+            AddName::Leaving(_, _, _, _, _, _) => self.leave(replied, hart, core),
+            AddName::Taking(_, _, _) => self.take_up(replied, hart, core),
+            AddName::Lowering(_) => self.lower(replied, hart, core),
+            AddName::Ends(_) => self.quit(replied, hart, core),
+            AddName::Gone => unreachable!(),
+        }
+    }
+
+    // A step while the new name is looked up.
+    #[tactic(auto, unfolding(crate::specs::Links::add_of, crate::specs::Links::AddFits))]
+    fn seek<D: Device>(
+        &mut self,
+        replied: &mut Option<Answered>,
+        hart: u8,
+        core: &mut Core<D>,
+    ) -> Came<(), Kind>
+        requires seeking { (x : LinkingState × ℕ × ℕ × SeekState) × (self.old ≡ adding.Seeking x.0 x.1 x.2 x.3) }
+        requires may { MayNext hart (add_of self.old) (state_of D.contents D.failures core.old) }
+        requires fits { AddFits hart (state_of D.contents D.failures core.old) self.old }
+        requires none { replied.old ≡ None }
+        ensures steps { StepsAt D.contents D.failures D.Called add_of reply_in AddFits IsSpent adding.Gone hart self.old self.new (heard result replied.new) core.old core.new }
+        ensures told { IsHeard result replied.new }
     {
         match self {
             AddName::Seeking(l, _, _, seek) => match seek.step(hart, l.new.as_slice(), core) {
@@ -93,7 +135,26 @@ impl AddName {
                 }
                 Came::Stopped => Came::Stopped,
             },
-            AddName::Entering(_, _, _, _, _, _) => self.enter(hart, core),
+            _ => unreachable!(),
+        }
+    }
+
+    // A step while the directory is given up.
+    #[tactic(auto, unfolding(crate::specs::Links::add_of, crate::specs::Links::AddFits))]
+    fn leave<D: Device>(
+        &mut self,
+        replied: &mut Option<Answered>,
+        hart: u8,
+        core: &mut Core<D>,
+    ) -> Came<(), Kind>
+        requires leaving { (x : LinkingState × ℕ × List ℕ × ℕ × Option AnswerState × GiveUpState) × (self.old ≡ adding.Leaving x.0 x.1 x.2 x.3 x.4 x.5) }
+        requires may { MayNext hart (add_of self.old) (state_of D.contents D.failures core.old) }
+        requires fits { AddFits hart (state_of D.contents D.failures core.old) self.old }
+        requires none { replied.old ≡ None }
+        ensures steps { StepsAt D.contents D.failures D.Called add_of reply_in AddFits IsSpent adding.Gone hart self.old self.new (heard result replied.new) core.old core.new }
+        ensures told { IsHeard result replied.new }
+    {
+        match self {
             AddName::Leaving(_, txn, _, _, _, give) => match give.step(hart, txn, core) {
                 Came::Waits => Came::Waits,
                 Came::Ran(kind) => Came::Ran(kind),
@@ -103,6 +164,26 @@ impl AddName {
                 }
                 Came::Stopped => Came::Stopped,
             },
+            _ => unreachable!(),
+        }
+    }
+
+    // A step while the file is taken again.
+    #[tactic(auto, unfolding(crate::specs::Links::add_of, crate::specs::Links::AddFits))]
+    fn take_up<D: Device>(
+        &mut self,
+        replied: &mut Option<Answered>,
+        hart: u8,
+        core: &mut Core<D>,
+    ) -> Came<(), Kind>
+        requires taking { (x : EndingState × ℕ × TakeState) × (self.old ≡ adding.Taking x.0 x.1 x.2) }
+        requires may { MayNext hart (add_of self.old) (state_of D.contents D.failures core.old) }
+        requires fits { AddFits hart (state_of D.contents D.failures core.old) self.old }
+        requires none { replied.old ≡ None }
+        ensures steps { StepsAt D.contents D.failures D.Called add_of reply_in AddFits IsSpent adding.Gone hart self.old self.new (heard result replied.new) core.old core.new }
+        ensures told { IsHeard result replied.new }
+    {
+        match self {
             AddName::Taking(_, _, take) => match take.step(hart, core) {
                 Came::Waits => Came::Waits,
                 Came::Ran(kind) => Came::Ran(kind),
@@ -112,35 +193,82 @@ impl AddName {
                 }
                 Came::Stopped => Came::Stopped,
             },
-            AddName::Lowering(lower) => match lower.step(hart, core) {
+            _ => unreachable!(),
+        }
+    }
+
+    // A step while it is stored with one link less.
+    #[tactic(auto, unfolding(crate::specs::Links::add_of, crate::specs::Links::AddFits))]
+    fn lower<D: Device>(
+        &mut self,
+        replied: &mut Option<Answered>,
+        hart: u8,
+        core: &mut Core<D>,
+    ) -> Came<(), Kind>
+        requires lowering { (x : LowerState) × (self.old ≡ adding.Lowering x) }
+        requires may { MayNext hart (add_of self.old) (state_of D.contents D.failures core.old) }
+        requires fits { AddFits hart (state_of D.contents D.failures core.old) self.old }
+        requires none { replied.old ≡ None }
+        ensures steps { StepsAt D.contents D.failures D.Called add_of reply_in AddFits IsSpent adding.Gone hart self.old self.new (heard result replied.new) core.old core.new }
+        ensures told { IsHeard result replied.new }
+    {
+        match self {
+            AddName::Lowering(lower) => match lower.step(replied, hart, core) {
                 Came::Waits => Came::Waits,
                 Came::Ran(kind) => Came::Ran(kind),
-                Came::Done(answered, kind) => {
+                Came::Done((), kind) => {
                     self.end();
-                    Came::Done(answered, kind)
+                    Came::Done((), kind)
                 }
                 Came::Stopped => Came::Stopped,
             },
-            AddName::Ends(quit) => match quit.step(hart, core) {
+            _ => unreachable!(),
+        }
+    }
+
+    // A step while the call ends.
+    #[tactic(auto, unfolding(crate::specs::Links::add_of, crate::specs::Links::AddFits))]
+    fn quit<D: Device>(
+        &mut self,
+        replied: &mut Option<Answered>,
+        hart: u8,
+        core: &mut Core<D>,
+    ) -> Came<(), Kind>
+        requires ends { (x : QuitState) × (self.old ≡ adding.Ends x) }
+        requires may { MayNext hart (add_of self.old) (state_of D.contents D.failures core.old) }
+        requires fits { AddFits hart (state_of D.contents D.failures core.old) self.old }
+        requires none { replied.old ≡ None }
+        ensures steps { StepsAt D.contents D.failures D.Called add_of reply_in AddFits IsSpent adding.Gone hart self.old self.new (heard result replied.new) core.old core.new }
+        ensures told { IsHeard result replied.new }
+    {
+        match self {
+            AddName::Ends(quit) => match told(quit.step(hart, core), replied) {
                 Came::Waits => Came::Waits,
                 Came::Ran(kind) => Came::Ran(kind),
-                Came::Done(answered, kind) => {
+                Came::Done((), kind) => {
                     self.end();
-                    Came::Done(answered, kind)
+                    Came::Done((), kind)
                 }
                 Came::Stopped => Came::Stopped,
             },
-            AddName::Gone => unreachable!(),
+            _ => unreachable!(),
         }
     }
 
     // A step while the name is entered.
     #[tactic(auto, unfolding(crate::specs::Links::add_of, crate::specs::Links::AddFits))]
-    fn enter<D: Device>(&mut self, hart: u8, core: &mut Core<D>) -> Came<Answered, Kind>
+    fn enter<D: Device>(
+        &mut self,
+        replied: &mut Option<Answered>,
+        hart: u8,
+        core: &mut Core<D>,
+    ) -> Came<(), Kind>
         requires at { IsEntering self.old }
         requires may { MayNext hart (add_of self.old) (state_of D.contents D.failures core.old) }
         requires fits { AddFits hart (state_of D.contents D.failures core.old) self.old }
-        ensures steps { StepsAt D.contents D.failures D.Called add_of reply_in AddFits IsSpent adding.Gone hart self.old self.new result core.old core.new }
+        requires none { replied.old ≡ None }
+        ensures steps { StepsAt D.contents D.failures D.Called add_of reply_in AddFits IsSpent adding.Gone hart self.old self.new (heard result replied.new) core.old core.new }
+        ensures told { IsHeard result replied.new }
     {
         match self {
             AddName::Entering(_, txn, _, _, _, place) => match mem::replace(place, None) {

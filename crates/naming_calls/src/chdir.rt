@@ -1,5 +1,5 @@
 //! chdir: another current directory.
-ghost use Rattle.std.specs.Prelude.{◌≡◌, [], ◌≢◌, ◌≤◌, ℕ, All, IsSome, length};
+ghost use Rattle.std.specs.Prelude.{◌≡◌, [], ◌≢◌, ◌≤◌, ℕ, All, IsSome, length, None, List};
 ghost use Rattle.atomic_programs.specs.declared.machines.Came.TheVariants as came;
 ghost use Rattle.fs_machine.specs.Steps.{State, state_of};
 ghost use Rattle.fs_machine.specs.Machines.{MayNext};
@@ -7,6 +7,7 @@ ghost use Rattle.fs_machine.specs.Places.{StepsAt};
 ghost use Rattle.fs_machine.specs.declared.kind.Kind.TheVariants as kinds;
 ghost use Rattle.file_table.specs.Machines.{IsEarly};
 ghost use Rattle.path_walk.specs.Elements.{longest_path};
+ghost use Rattle.call_parts.specs.Heard.{heard, IsHeard};
 ghost use Rattle.call_parts.specs.Spent.{reply_in, IsSpent};
 ghost use Rattle.call_parts.specs.Parts.{Misses, drop_quit};
 ghost use Rattle.naming_calls.specs.Moving.{chdir_at, chdir_found, chdir_program, chdir_reply};
@@ -14,12 +15,15 @@ ghost use Rattle.call_parts.specs.Taking.{inode_in, IsHeld, reached_as, IsReache
 ghost use Rattle.naming_calls.specs.Chdirs.{chdir_of, ChdirFits, JoinedTo, Joins, ReachedTo, Reaches, Settles};
 ghost use Rattle.call_parts.specs.OnPaths.{IsOnPath};
 ghost use Rattle.plain_tree.specs.declared.answer.Answer.TheVariants as answers;
+ghost use Rattle.call_parts.specs.declared.on_path.OnPath.{OnPath as OnPathState};
+ghost use Rattle.call_parts.specs.declared.quit.Quit.{Quit as QuitState};
+ghost use Rattle.call_parts.specs.declared.reach.Reach.{Reach as ReachState};
 ghost use Rattle.naming_calls.specs.declared.chdir.Chdir.TheVariants as chdir;
 ghost use Rattle.call_parts.specs.declared.quit.Quit.TheVariants as quitting;
 
 use atomic_programs::machines::Came;
 use block_device::Device;
-use call_parts::{Answered, Held, OnPath, Quit, Reach, Reached, ending, stopped};
+use call_parts::{Answered, Held, OnPath, Quit, Reach, Reached, ending, stopped, told};
 use directory::is_directory;
 use fs_layout::Super;
 use fs_machine::{Core, Kind, RetiredCore};
@@ -64,10 +68,44 @@ impl Chdir {
 
     /// One operation of it in its place.
     #[tactic(auto, unfolding(crate::specs::Chdirs::chdir_of, crate::specs::Chdirs::ChdirFits, fs_machine::specs::Premises::Honest))]
-    pub fn step<D: Device>(&mut self, hart: u8, core: &mut Core<D>) -> Came<Answered, Kind>
+    pub fn step<D: Device>(
+        &mut self,
+        replied: &mut Option<Answered>,
+        hart: u8,
+        core: &mut Core<D>,
+    ) -> Came<(), Kind>
         requires may { MayNext hart (chdir_of self.old) (state_of D.contents D.failures core.old) }
         requires fits { ChdirFits hart (state_of D.contents D.failures core.old) self.old }
-        ensures steps { StepsAt D.contents D.failures D.Called chdir_of reply_in ChdirFits IsSpent chdir.Gone hart self.old self.new result core.old core.new }
+        requires none { replied.old ≡ None }
+        ensures steps { StepsAt D.contents D.failures D.Called chdir_of reply_in ChdirFits IsSpent chdir.Gone hart self.old self.new (heard result replied.new) core.old core.new }
+        ensures told { IsHeard result replied.new }
+    {
+        match self {
+            Chdir::Join(_, _) => self.join(replied, hart, core),
+            Chdir::Reaching(_, _, _) => self.reach(replied, hart, core),
+            Chdir::Settle(_, _, _, _) => {
+                self.settle(hart, core);
+                Came::Ran(Kind::Unlock)
+            }
+            Chdir::Ends(_) => self.quit(replied, hart, core),
+            Chdir::Gone => unreachable!(),
+        }
+    }
+
+    // A step while a transaction is joined.
+    #[tactic(auto, unfolding(crate::specs::Chdirs::chdir_of, crate::specs::Chdirs::ChdirFits, fs_machine::specs::Premises::Honest))]
+    fn join<D: Device>(
+        &mut self,
+        replied: &mut Option<Answered>,
+        hart: u8,
+        core: &mut Core<D>,
+    ) -> Came<(), Kind>
+        requires joining { (x : OnPathState × List ℕ) × (self.old ≡ chdir.Join x.0 x.1) }
+        requires may { MayNext hart (chdir_of self.old) (state_of D.contents D.failures core.old) }
+        requires fits { ChdirFits hart (state_of D.contents D.failures core.old) self.old }
+        requires none { replied.old ≡ None }
+        ensures steps { StepsAt D.contents D.failures D.Called chdir_of reply_in ChdirFits IsSpent chdir.Gone hart self.old self.new (heard result replied.new) core.old core.new }
+        ensures told { IsHeard result replied.new }
     {
         match self {
             Chdir::Join(_, _) => match core.join(hart) {
@@ -77,6 +115,26 @@ impl Chdir {
                     Came::Ran(Kind::Join)
                 }
             },
+            _ => unreachable!(),
+        }
+    }
+
+    // A step while what the path leads to is taken.
+    #[tactic(auto, unfolding(crate::specs::Chdirs::chdir_of, crate::specs::Chdirs::ChdirFits))]
+    fn reach<D: Device>(
+        &mut self,
+        replied: &mut Option<Answered>,
+        hart: u8,
+        core: &mut Core<D>,
+    ) -> Came<(), Kind>
+        requires reaching { (x : OnPathState × ℕ × ReachState) × (self.old ≡ chdir.Reaching x.0 x.1 x.2) }
+        requires may { MayNext hart (chdir_of self.old) (state_of D.contents D.failures core.old) }
+        requires fits { ChdirFits hart (state_of D.contents D.failures core.old) self.old }
+        requires none { replied.old ≡ None }
+        ensures steps { StepsAt D.contents D.failures D.Called chdir_of reply_in ChdirFits IsSpent chdir.Gone hart self.old self.new (heard result replied.new) core.old core.new }
+        ensures told { IsHeard result replied.new }
+    {
+        match self {
             Chdir::Reaching(on, _, reach) => match reach.step(hart, on.path.as_slice(), core) {
                 Came::Waits => Came::Waits,
                 Came::Ran(kind) => Came::Ran(kind),
@@ -86,20 +144,36 @@ impl Chdir {
                 }
                 Came::Stopped => Came::Stopped,
             },
-            Chdir::Settle(_, _, _, _) => {
-                self.settle(hart, core);
-                Came::Ran(Kind::Unlock)
-            }
-            Chdir::Ends(quit) => match quit.step(hart, core) {
+            _ => unreachable!(),
+        }
+    }
+
+    // A step while the call ends.
+    #[tactic(auto, unfolding(crate::specs::Chdirs::chdir_of, crate::specs::Chdirs::ChdirFits))]
+    fn quit<D: Device>(
+        &mut self,
+        replied: &mut Option<Answered>,
+        hart: u8,
+        core: &mut Core<D>,
+    ) -> Came<(), Kind>
+        requires ends { (x : QuitState) × (self.old ≡ chdir.Ends x) }
+        requires may { MayNext hart (chdir_of self.old) (state_of D.contents D.failures core.old) }
+        requires fits { ChdirFits hart (state_of D.contents D.failures core.old) self.old }
+        requires none { replied.old ≡ None }
+        ensures steps { StepsAt D.contents D.failures D.Called chdir_of reply_in ChdirFits IsSpent chdir.Gone hart self.old self.new (heard result replied.new) core.old core.new }
+        ensures told { IsHeard result replied.new }
+    {
+        match self {
+            Chdir::Ends(quit) => match told(quit.step(hart, core), replied) {
                 Came::Waits => Came::Waits,
                 Came::Ran(kind) => Came::Ran(kind),
-                Came::Done(answered, kind) => {
+                Came::Done((), kind) => {
                     self.end();
-                    Came::Done(answered, kind)
+                    Came::Done((), kind)
                 }
                 Came::Stopped => Came::Stopped,
             },
-            Chdir::Gone => unreachable!(),
+            _ => unreachable!(),
         }
     }
 

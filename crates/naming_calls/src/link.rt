@@ -1,5 +1,5 @@
 //! link: another name for a file.
-ghost use Rattle.std.specs.Prelude.{◌≡◌, ◌≢◌, ◌≤◌, ◌<◌, ◌+◌, ◌∷◌, [], ℕ, All, IfNone, IsSome, length};
+ghost use Rattle.std.specs.Prelude.{◌≡◌, ◌≢◌, ◌≤◌, ◌<◌, ◌+◌, ◌∷◌, [], ℕ, All, IfNone, IsSome, length, None, List};
 ghost use Rattle.atomic_programs.specs.declared.machines.Came.TheVariants as came;
 ghost use Rattle.fs_machine.specs.Steps.{State, state_of};
 ghost use Rattle.fs_machine.specs.Machines.{MayNext};
@@ -8,6 +8,7 @@ ghost use Rattle.fs_machine.specs.declared.kind.Kind.TheVariants as kinds;
 ghost use Rattle.inode_table.specs.Programs.{record_of};
 ghost use Rattle.path_walk.specs.Elements.{longest_path, most_elements};
 ghost use Rattle.plain_tree.specs.Widths.{count_limit};
+ghost use Rattle.call_parts.specs.Heard.{heard, IsHeard};
 ghost use Rattle.call_parts.specs.Spent.{reply_in, IsSpent};
 ghost use Rattle.call_parts.specs.Parts.{Misses, quit};
 ghost use Rattle.call_parts.specs.Taking.{inode_in, kept_by, reached_as, IsHeld, IsReached, IsThere};
@@ -15,6 +16,10 @@ ghost use Rattle.call_parts.specs.OnPaths.{IsSized};
 ghost use Rattle.naming_calls.specs.Unlinking.{links_of};
 ghost use Rattle.naming_calls.specs.Links.{link_at, link_found, link_joined, link_of, link_program, link_refused, link_reply, raise_file, HasRoom, IsLinking, LinkFits};
 ghost use Rattle.plain_tree.specs.declared.answer.Answer.TheVariants as answers;
+ghost use Rattle.call_parts.specs.declared.quit.Quit.{Quit as QuitState};
+ghost use Rattle.call_parts.specs.declared.reach.Reach.{Reach as ReachState};
+ghost use Rattle.naming_calls.specs.declared.add_name.AddName.{AddName as AddNameState};
+ghost use Rattle.naming_calls.specs.declared.add_name.Linking.{Linking as LinkingState};
 ghost use Rattle.naming_calls.specs.declared.link.Link.TheVariants as linking;
 ghost use Rattle.naming_calls.specs.LinkTurns.{HasEnded, IsRaising, JoinedTo, Joins, RaisedTo, Raises, ReachedTo, Reaches, Unlocks};
 
@@ -23,7 +28,8 @@ use crate::lower::{links, retire_store};
 use atomic_programs::machines::{Came, Stepped, put};
 use block_device::Device;
 use call_parts::{
-    Answered, Held, MOST_LINKS, Quit, Reach, Reached, count_of, ending, stopped, store, with_links,
+    Answered, Held, MOST_LINKS, Quit, Reach, Reached, count_of, ending, stopped, store, told,
+    with_links,
 };
 use directory::is_directory;
 use fs_layout::{Dinode, Super};
@@ -77,10 +83,46 @@ impl Link {
 
     /// One operation of it in its place.
     #[tactic(auto, unfolding(crate::specs::Links::link_of, crate::specs::Links::LinkFits, fs_machine::specs::Premises::Honest))]
-    pub fn step<D: Device>(&mut self, hart: u8, core: &mut Core<D>) -> Came<Answered, Kind>
+    pub fn step<D: Device>(
+        &mut self,
+        replied: &mut Option<Answered>,
+        hart: u8,
+        core: &mut Core<D>,
+    ) -> Came<(), Kind>
         requires may { MayNext hart (link_of self.old) (state_of D.contents D.failures core.old) }
         requires fits { LinkFits hart (state_of D.contents D.failures core.old) self.old }
-        ensures steps { StepsAt D.contents D.failures D.Called link_of reply_in LinkFits IsSpent linking.Gone hart self.old self.new result core.old core.new }
+        requires none { replied.old ≡ None }
+        ensures steps { StepsAt D.contents D.failures D.Called link_of reply_in LinkFits IsSpent linking.Gone hart self.old self.new (heard result replied.new) core.old core.new }
+        ensures told { IsHeard result replied.new }
+    {
+        match self {
+            Link::Join(_, _) => self.join(replied, hart, core),
+            Link::Reaching(_, _, _) => self.reach(replied, hart, core),
+            Link::Raising(_, _, _, _, _) => self.raise(replied, hart, core),
+            Link::Unlock(_, _, _, _) => {
+                self.unlock(hart, core);
+                Came::Ran(Kind::Unlock)
+            }
+            Link::Naming(_) => self.name(replied, hart, core),
+            Link::Ends(_) => self.quit(replied, hart, core),
+            Link::Gone => unreachable!(),
+        }
+    }
+
+    // A step while a transaction is joined.
+    #[tactic(auto, unfolding(crate::specs::Links::link_of, crate::specs::Links::LinkFits, fs_machine::specs::Premises::Honest))]
+    fn join<D: Device>(
+        &mut self,
+        replied: &mut Option<Answered>,
+        hart: u8,
+        core: &mut Core<D>,
+    ) -> Came<(), Kind>
+        requires joining { (x : LinkingState × List ℕ) × (self.old ≡ linking.Join x.0 x.1) }
+        requires may { MayNext hart (link_of self.old) (state_of D.contents D.failures core.old) }
+        requires fits { LinkFits hart (state_of D.contents D.failures core.old) self.old }
+        requires none { replied.old ≡ None }
+        ensures steps { StepsAt D.contents D.failures D.Called link_of reply_in LinkFits IsSpent linking.Gone hart self.old self.new (heard result replied.new) core.old core.new }
+        ensures told { IsHeard result replied.new }
     {
         match self {
             Link::Join(_, _) => match core.join(hart) {
@@ -90,6 +132,26 @@ impl Link {
                     Came::Ran(Kind::Join)
                 }
             },
+            _ => unreachable!(),
+        }
+    }
+
+    // A step while what the old path leads to is taken.
+    #[tactic(auto, unfolding(crate::specs::Links::link_of, crate::specs::Links::LinkFits))]
+    fn reach<D: Device>(
+        &mut self,
+        replied: &mut Option<Answered>,
+        hart: u8,
+        core: &mut Core<D>,
+    ) -> Came<(), Kind>
+        requires reaching { (x : LinkingState × ℕ × ReachState) × (self.old ≡ linking.Reaching x.0 x.1 x.2) }
+        requires may { MayNext hart (link_of self.old) (state_of D.contents D.failures core.old) }
+        requires fits { LinkFits hart (state_of D.contents D.failures core.old) self.old }
+        requires none { replied.old ≡ None }
+        ensures steps { StepsAt D.contents D.failures D.Called link_of reply_in LinkFits IsSpent linking.Gone hart self.old self.new (heard result replied.new) core.old core.new }
+        ensures told { IsHeard result replied.new }
+    {
+        match self {
             Link::Reaching(l, _, reach) => match reach.step(hart, l.old.as_slice(), core) {
                 Came::Waits => Came::Waits,
                 Came::Ran(kind) => Came::Ran(kind),
@@ -99,40 +161,82 @@ impl Link {
                 }
                 Came::Stopped => Came::Stopped,
             },
-            Link::Raising(_, _, _, _, _) => self.raise(hart, core),
-            Link::Unlock(_, _, _, _) => {
-                self.unlock(hart, core);
-                Came::Ran(Kind::Unlock)
-            }
-            Link::Naming(add) => match add.step(hart, core) {
+            _ => unreachable!(),
+        }
+    }
+
+    // A step while the new name is entered.
+    #[tactic(auto, unfolding(crate::specs::Links::link_of, crate::specs::Links::LinkFits))]
+    fn name<D: Device>(
+        &mut self,
+        replied: &mut Option<Answered>,
+        hart: u8,
+        core: &mut Core<D>,
+    ) -> Came<(), Kind>
+        requires naming { (x : AddNameState) × (self.old ≡ linking.Naming x) }
+        requires may { MayNext hart (link_of self.old) (state_of D.contents D.failures core.old) }
+        requires fits { LinkFits hart (state_of D.contents D.failures core.old) self.old }
+        requires none { replied.old ≡ None }
+        ensures steps { StepsAt D.contents D.failures D.Called link_of reply_in LinkFits IsSpent linking.Gone hart self.old self.new (heard result replied.new) core.old core.new }
+        ensures told { IsHeard result replied.new }
+    {
+        match self {
+            Link::Naming(add) => match add.step(replied, hart, core) {
                 Came::Waits => Came::Waits,
                 Came::Ran(kind) => Came::Ran(kind),
-                Came::Done(answered, kind) => {
+                Came::Done((), kind) => {
                     self.end();
-                    Came::Done(answered, kind)
+                    Came::Done((), kind)
                 }
                 Came::Stopped => Came::Stopped,
             },
-            Link::Ends(quit) => match quit.step(hart, core) {
+            _ => unreachable!(),
+        }
+    }
+
+    // A step while the call ends.
+    #[tactic(auto, unfolding(crate::specs::Links::link_of, crate::specs::Links::LinkFits))]
+    fn quit<D: Device>(
+        &mut self,
+        replied: &mut Option<Answered>,
+        hart: u8,
+        core: &mut Core<D>,
+    ) -> Came<(), Kind>
+        requires ends { (x : QuitState) × (self.old ≡ linking.Ends x) }
+        requires may { MayNext hart (link_of self.old) (state_of D.contents D.failures core.old) }
+        requires fits { LinkFits hart (state_of D.contents D.failures core.old) self.old }
+        requires none { replied.old ≡ None }
+        ensures steps { StepsAt D.contents D.failures D.Called link_of reply_in LinkFits IsSpent linking.Gone hart self.old self.new (heard result replied.new) core.old core.new }
+        ensures told { IsHeard result replied.new }
+    {
+        match self {
+            Link::Ends(quit) => match told(quit.step(hart, core), replied) {
                 Came::Waits => Came::Waits,
                 Came::Ran(kind) => Came::Ran(kind),
-                Came::Done(answered, kind) => {
+                Came::Done((), kind) => {
                     self.end();
-                    Came::Done(answered, kind)
+                    Came::Done((), kind)
                 }
                 Came::Stopped => Came::Stopped,
             },
-            Link::Gone => unreachable!(),
+            _ => unreachable!(),
         }
     }
 
     // A step while the file is stored.
     #[tactic(auto, unfolding(crate::specs::Links::link_of, crate::specs::Links::LinkFits))]
-    fn raise<D: Device>(&mut self, hart: u8, core: &mut Core<D>) -> Came<Answered, Kind>
+    fn raise<D: Device>(
+        &mut self,
+        replied: &mut Option<Answered>,
+        hart: u8,
+        core: &mut Core<D>,
+    ) -> Came<(), Kind>
         requires at { IsRaising self.old }
         requires may { MayNext hart (link_of self.old) (state_of D.contents D.failures core.old) }
         requires fits { LinkFits hart (state_of D.contents D.failures core.old) self.old }
-        ensures steps { StepsAt D.contents D.failures D.Called link_of reply_in LinkFits IsSpent linking.Gone hart self.old self.new result core.old core.new }
+        requires none { replied.old ≡ None }
+        ensures steps { StepsAt D.contents D.failures D.Called link_of reply_in LinkFits IsSpent linking.Gone hart self.old self.new (heard result replied.new) core.old core.new }
+        ensures told { IsHeard result replied.new }
     {
         match self {
             Link::Raising(_, txn, _, _, place) => match mem::replace(place, None) {

@@ -1,21 +1,26 @@
 //! What is left of an unlink whose name is gone: the counts of links go down.
-ghost use Rattle.std.specs.Prelude.{◌≡◌, ℕ, IsSome, pos};
+ghost use Rattle.std.specs.Prelude.{◌≡◌, ℕ, IsSome, None, pos};
 ghost use Rattle.fs_layout.specs.declared.inode.Dinode.{Dinode as DinodeState};
 ghost use Rattle.fs_machine.specs.Steps.{State, state_of};
 ghost use Rattle.fs_machine.specs.Machines.{MayNext};
 ghost use Rattle.fs_machine.specs.Places.{StepsAt};
 ghost use Rattle.inode_table.specs.Machines.{store_of, StoreFits};
 ghost use Rattle.file_table.specs.Machines.{IsEarly};
+ghost use Rattle.call_parts.specs.Heard.{heard, IsHeard};
 ghost use Rattle.call_parts.specs.Spent.{reply_in, IsSpent};
 ghost use Rattle.call_parts.specs.Taking.{inode_in, IsHeld};
 ghost use Rattle.naming_calls.specs.Unlinking.{links_of, lower_child, lower_of, lower_parent, lowered, store_held, with_link_less, AreHeld, LowerFits};
 ghost use Rattle.naming_calls.specs.LowerTurns.{IsStoringChild, IsStoringParent, Leaves, LeftTo, StoredChildTo, StoredParentTo, StoresChild, StoresParent};
+ghost use Rattle.call_parts.specs.declared.give.GiveUp.{GiveUp as GiveUpState};
+ghost use Rattle.call_parts.specs.declared.quit.Quit.{Quit as QuitState};
+ghost use Rattle.call_parts.specs.declared.tail.Ending.{Ending as EndingState};
+ghost use Rattle.call_parts.specs.declared.take.Held.{Held as HeldState};
 ghost use Rattle.call_parts.specs.declared.quit.Quit.TheVariants as quitting;
 ghost use Rattle.naming_calls.specs.declared.lower.Lower.TheVariants as lowering;
 
 use atomic_programs::machines::{Came, Stepped, put};
 use block_device::Device;
-use call_parts::{Answered, Ending, GiveUp, Held, Quit};
+use call_parts::{Answered, Ending, GiveUp, Held, Quit, told};
 use directory::is_directory;
 use fs_layout::Dinode;
 use fs_machine::{Core, Kind, RetiredCore};
@@ -60,13 +65,43 @@ impl Lower {
 
     /// One operation of it in its place.
     #[tactic(auto, unfolding(crate::specs::Unlinking::lower_of, crate::specs::Unlinking::LowerFits))]
-    pub fn step<D: Device>(&mut self, hart: u8, core: &mut Core<D>) -> Came<Answered, Kind>
+    pub fn step<D: Device>(
+        &mut self,
+        replied: &mut Option<Answered>,
+        hart: u8,
+        core: &mut Core<D>,
+    ) -> Came<(), Kind>
         requires may { MayNext hart (lower_of self.old) (state_of D.contents D.failures core.old) }
         requires fits { LowerFits hart (state_of D.contents D.failures core.old) self.old }
-        ensures steps { StepsAt D.contents D.failures D.Called lower_of reply_in LowerFits IsSpent lowering.Gone hart self.old self.new result core.old core.new }
+        requires none { replied.old ≡ None }
+        ensures steps { StepsAt D.contents D.failures D.Called lower_of reply_in LowerFits IsSpent lowering.Gone hart self.old self.new (heard result replied.new) core.old core.new }
+        ensures told { IsHeard result replied.new }
     {
         match self {
-            Lower::Parent(_, _, _, _, _) => self.store_parent(hart, core),
+            Lower::Parent(_, _, _, _, _) => self.store_parent(replied, hart, core),
+            Lower::Leaving(_, _, _, _) => self.leave(replied, hart, core),
+            Lower::Child(_, _, _, _) => self.store_child(replied, hart, core),
+            Lower::Ends(_) => self.quit(replied, hart, core),
+            Lower::Gone => unreachable!(),
+        }
+    }
+
+    // A step while the directory is given up.
+    #[tactic(auto, unfolding(crate::specs::Unlinking::lower_of, crate::specs::Unlinking::LowerFits))]
+    fn leave<D: Device>(
+        &mut self,
+        replied: &mut Option<Answered>,
+        hart: u8,
+        core: &mut Core<D>,
+    ) -> Came<(), Kind>
+        requires leaving { (x : EndingState × ℕ × HeldState × GiveUpState) × (self.old ≡ lowering.Leaving x.0 x.1 x.2 x.3) }
+        requires may { MayNext hart (lower_of self.old) (state_of D.contents D.failures core.old) }
+        requires fits { LowerFits hart (state_of D.contents D.failures core.old) self.old }
+        requires none { replied.old ≡ None }
+        ensures steps { StepsAt D.contents D.failures D.Called lower_of reply_in LowerFits IsSpent lowering.Gone hart self.old self.new (heard result replied.new) core.old core.new }
+        ensures told { IsHeard result replied.new }
+    {
+        match self {
             Lower::Leaving(_, txn, _, give) => match give.step(hart, txn, core) {
                 Came::Waits => Came::Waits,
                 Came::Ran(kind) => Came::Ran(kind),
@@ -76,27 +111,53 @@ impl Lower {
                 }
                 Came::Stopped => Came::Stopped,
             },
-            Lower::Child(_, _, _, _) => self.store_child(hart, core),
-            Lower::Ends(quit) => match quit.step(hart, core) {
+            _ => unreachable!(),
+        }
+    }
+
+    // A step while the call ends.
+    #[tactic(auto, unfolding(crate::specs::Unlinking::lower_of, crate::specs::Unlinking::LowerFits))]
+    fn quit<D: Device>(
+        &mut self,
+        replied: &mut Option<Answered>,
+        hart: u8,
+        core: &mut Core<D>,
+    ) -> Came<(), Kind>
+        requires ends { (x : QuitState) × (self.old ≡ lowering.Ends x) }
+        requires may { MayNext hart (lower_of self.old) (state_of D.contents D.failures core.old) }
+        requires fits { LowerFits hart (state_of D.contents D.failures core.old) self.old }
+        requires none { replied.old ≡ None }
+        ensures steps { StepsAt D.contents D.failures D.Called lower_of reply_in LowerFits IsSpent lowering.Gone hart self.old self.new (heard result replied.new) core.old core.new }
+        ensures told { IsHeard result replied.new }
+    {
+        match self {
+            Lower::Ends(quit) => match told(quit.step(hart, core), replied) {
                 Came::Waits => Came::Waits,
                 Came::Ran(kind) => Came::Ran(kind),
-                Came::Done(answered, kind) => {
+                Came::Done((), kind) => {
                     self.end();
-                    Came::Done(answered, kind)
+                    Came::Done((), kind)
                 }
                 Came::Stopped => Came::Stopped,
             },
-            Lower::Gone => unreachable!(),
+            _ => unreachable!(),
         }
     }
 
     // A step while the directory is stored.
     #[tactic(auto, unfolding(crate::specs::Unlinking::lower_of, crate::specs::Unlinking::LowerFits))]
-    fn store_parent<D: Device>(&mut self, hart: u8, core: &mut Core<D>) -> Came<Answered, Kind>
+    fn store_parent<D: Device>(
+        &mut self,
+        replied: &mut Option<Answered>,
+        hart: u8,
+        core: &mut Core<D>,
+    ) -> Came<(), Kind>
         requires at { IsStoringParent self.old }
         requires may { MayNext hart (lower_of self.old) (state_of D.contents D.failures core.old) }
         requires fits { LowerFits hart (state_of D.contents D.failures core.old) self.old }
-        ensures steps { StepsAt D.contents D.failures D.Called lower_of reply_in LowerFits IsSpent lowering.Gone hart self.old self.new result core.old core.new }
+        requires none { replied.old ≡ None }
+        ensures steps { StepsAt D.contents D.failures D.Called lower_of reply_in LowerFits IsSpent lowering.Gone hart self.old self.new (heard result replied.new) core.old core.new }
+        ensures told { IsHeard result replied.new }
     {
         match self {
             Lower::Parent(_, txn, _, _, place) => match mem::replace(place, None) {
@@ -126,11 +187,18 @@ impl Lower {
 
     // A step while what was named is stored.
     #[tactic(auto, unfolding(crate::specs::Unlinking::lower_of, crate::specs::Unlinking::LowerFits))]
-    fn store_child<D: Device>(&mut self, hart: u8, core: &mut Core<D>) -> Came<Answered, Kind>
+    fn store_child<D: Device>(
+        &mut self,
+        replied: &mut Option<Answered>,
+        hart: u8,
+        core: &mut Core<D>,
+    ) -> Came<(), Kind>
         requires at { IsStoringChild self.old }
         requires may { MayNext hart (lower_of self.old) (state_of D.contents D.failures core.old) }
         requires fits { LowerFits hart (state_of D.contents D.failures core.old) self.old }
-        ensures steps { StepsAt D.contents D.failures D.Called lower_of reply_in LowerFits IsSpent lowering.Gone hart self.old self.new result core.old core.new }
+        requires none { replied.old ≡ None }
+        ensures steps { StepsAt D.contents D.failures D.Called lower_of reply_in LowerFits IsSpent lowering.Gone hart self.old self.new (heard result replied.new) core.old core.new }
+        ensures told { IsHeard result replied.new }
     {
         match self {
             Lower::Child(_, txn, _, place) => match mem::replace(place, None) {

@@ -1,5 +1,5 @@
 //! unlink: a name removed.
-ghost use Rattle.std.specs.Prelude.{◌≡◌, ◌≢◌, ◌≤◌, ◌<◌, ◌∷◌, [], ℕ, All, IfSome, IsSome, length};
+ghost use Rattle.std.specs.Prelude.{◌≡◌, ◌≢◌, ◌≤◌, ◌<◌, ◌∷◌, [], ℕ, All, IfSome, IsSome, length, None, List};
 ghost use Rattle.fs_machine.specs.Steps.{State, state_of};
 ghost use Rattle.fs_machine.specs.Machines.{MayNext};
 ghost use Rattle.fs_machine.specs.Places.{StepsAt};
@@ -7,6 +7,7 @@ ghost use Rattle.directory.specs.Machines.{IsSlot};
 ghost use Rattle.directory.specs.Programs.{most_slots};
 ghost use Rattle.file_table.specs.Machines.{IsEarly};
 ghost use Rattle.path_walk.specs.Elements.{longest_path};
+ghost use Rattle.call_parts.specs.Heard.{heard, IsHeard};
 ghost use Rattle.call_parts.specs.Spent.{reply_in, IsSpent};
 ghost use Rattle.call_parts.specs.Parts.{quit};
 ghost use Rattle.call_parts.specs.Taking.{inode_in, IsHeld};
@@ -14,6 +15,12 @@ ghost use Rattle.call_parts.specs.Seeking.{seen_as, IsSeen};
 ghost use Rattle.call_parts.specs.OnPaths.{IsOnPath};
 ghost use Rattle.naming_calls.specs.Unlinking.{clear_name, see_child, unless_entries, unlink_found, unlink_joined, unlink_of, unlink_program, unlink_reply, unlink_seen, unlink_up, IsRemoving, UnlinkFits};
 ghost use Rattle.naming_calls.specs.UnlinkTurns.{ClearedTo, Clears, HasEnded, IsClearing, IsLooking, JoinedTo, Joins, LookedTo, Looks, ReferredTo, Refers, Seeks, SoughtTo, Takes, TookTo};
+ghost use Rattle.call_parts.specs.declared.on_path.OnPath.{OnPath as OnPathState};
+ghost use Rattle.call_parts.specs.declared.quit.Quit.{Quit as QuitState};
+ghost use Rattle.call_parts.specs.declared.seek.Seek.{Seek as SeekState};
+ghost use Rattle.call_parts.specs.declared.take.TakeInode.{TakeInode as TakeState};
+ghost use Rattle.naming_calls.specs.declared.lower.Lower.{Lower as LowerState};
+ghost use Rattle.naming_calls.specs.declared.unlink.Removing.{Removing as RemovingState};
 ghost use Rattle.naming_calls.specs.declared.unlink.Unlink.TheVariants as unlinking;
 
 use crate::lower::Lower;
@@ -21,7 +28,7 @@ use atomic_programs::machines::{Came, Stepped, put};
 use block_device::Device;
 use call_parts::{
     Answered, Dots, Ending, Held, LastName, OnPath, Quit, Seek, Seen, TakeInode, ending, number_of,
-    stopped,
+    stopped, told,
 };
 use directory::{Change, Found, PutEntry, Search, Searched, Sought, is_directory};
 use fs_layout::Super;
@@ -100,10 +107,45 @@ impl Unlink {
 
     /// One operation of it in its place.
     #[tactic(auto, unfolding(crate::specs::Unlinking::unlink_of, crate::specs::Unlinking::UnlinkFits, fs_machine::specs::Premises::Honest))]
-    pub fn step<D: Device>(&mut self, hart: u8, core: &mut Core<D>) -> Came<Answered, Kind>
+    pub fn step<D: Device>(
+        &mut self,
+        replied: &mut Option<Answered>,
+        hart: u8,
+        core: &mut Core<D>,
+    ) -> Came<(), Kind>
         requires may { MayNext hart (unlink_of self.old) (state_of D.contents D.failures core.old) }
         requires fits { UnlinkFits hart (state_of D.contents D.failures core.old) self.old }
-        ensures steps { StepsAt D.contents D.failures D.Called unlink_of reply_in UnlinkFits IsSpent unlinking.Gone hart self.old self.new result core.old core.new }
+        requires none { replied.old ≡ None }
+        ensures steps { StepsAt D.contents D.failures D.Called unlink_of reply_in UnlinkFits IsSpent unlinking.Gone hart self.old self.new (heard result replied.new) core.old core.new }
+        ensures told { IsHeard result replied.new }
+    {
+        match self {
+            Unlink::Join(_, _) => self.join(replied, hart, core),
+            Unlink::Seeking(_, _, _) => self.seek(replied, hart, core),
+            Unlink::Refer(_, _, _) => self.refer(replied, hart, core),
+            Unlink::Taking(_, _, _) => self.take_up(replied, hart, core),
+            Unlink::Looking(_, _, _, _) => self.look(replied, hart, core),
+            Unlink::Clearing(_, _, _, _, _) => self.clear(replied, hart, core),
+            Unlink::Lowering(_) => self.lower(replied, hart, core),
+            Unlink::Ends(_) => self.quit(replied, hart, core),
+            Unlink::Gone => unreachable!(),
+        }
+    }
+
+    // A step while a transaction is joined.
+    #[tactic(auto, unfolding(crate::specs::Unlinking::unlink_of, crate::specs::Unlinking::UnlinkFits, fs_machine::specs::Premises::Honest))]
+    fn join<D: Device>(
+        &mut self,
+        replied: &mut Option<Answered>,
+        hart: u8,
+        core: &mut Core<D>,
+    ) -> Came<(), Kind>
+        requires joining { (x : OnPathState × List ℕ) × (self.old ≡ unlinking.Join x.0 x.1) }
+        requires may { MayNext hart (unlink_of self.old) (state_of D.contents D.failures core.old) }
+        requires fits { UnlinkFits hart (state_of D.contents D.failures core.old) self.old }
+        requires none { replied.old ≡ None }
+        ensures steps { StepsAt D.contents D.failures D.Called unlink_of reply_in UnlinkFits IsSpent unlinking.Gone hart self.old self.new (heard result replied.new) core.old core.new }
+        ensures told { IsHeard result replied.new }
     {
         match self {
             Unlink::Join(_, _) => match core.join(hart) {
@@ -113,6 +155,26 @@ impl Unlink {
                     Came::Ran(Kind::Join)
                 }
             },
+            _ => unreachable!(),
+        }
+    }
+
+    // A step while the name is looked up.
+    #[tactic(auto, unfolding(crate::specs::Unlinking::unlink_of, crate::specs::Unlinking::UnlinkFits))]
+    fn seek<D: Device>(
+        &mut self,
+        replied: &mut Option<Answered>,
+        hart: u8,
+        core: &mut Core<D>,
+    ) -> Came<(), Kind>
+        requires seeking { (x : OnPathState × ℕ × SeekState) × (self.old ≡ unlinking.Seeking x.0 x.1 x.2) }
+        requires may { MayNext hart (unlink_of self.old) (state_of D.contents D.failures core.old) }
+        requires fits { UnlinkFits hart (state_of D.contents D.failures core.old) self.old }
+        requires none { replied.old ≡ None }
+        ensures steps { StepsAt D.contents D.failures D.Called unlink_of reply_in UnlinkFits IsSpent unlinking.Gone hart self.old self.new (heard result replied.new) core.old core.new }
+        ensures told { IsHeard result replied.new }
+    {
+        match self {
             Unlink::Seeking(on, _, seek) => match seek.step(hart, on.path.as_slice(), core) {
                 Came::Waits => Came::Waits,
                 Came::Ran(kind) => Came::Ran(kind),
@@ -122,11 +184,51 @@ impl Unlink {
                 }
                 Came::Stopped => Came::Stopped,
             },
+            _ => unreachable!(),
+        }
+    }
+
+    // A reference to what it names is taken.
+    #[tactic(auto, unfolding(crate::specs::Unlinking::unlink_of, crate::specs::Unlinking::UnlinkFits, fs_machine::specs::Premises::Honest))]
+    fn refer<D: Device>(
+        &mut self,
+        replied: &mut Option<Answered>,
+        hart: u8,
+        core: &mut Core<D>,
+    ) -> Came<(), Kind>
+        requires referring { (x : RemovingState × ℕ × ℕ) × (self.old ≡ unlinking.Refer x.0 x.1 x.2) }
+        requires may { MayNext hart (unlink_of self.old) (state_of D.contents D.failures core.old) }
+        requires fits { UnlinkFits hart (state_of D.contents D.failures core.old) self.old }
+        requires none { replied.old ≡ None }
+        ensures steps { StepsAt D.contents D.failures D.Called unlink_of reply_in UnlinkFits IsSpent unlinking.Gone hart self.old self.new (heard result replied.new) core.old core.new }
+        ensures told { IsHeard result replied.new }
+    {
+        match self {
             Unlink::Refer(_, _, number) => {
                 let up = core.up(hart, *number);
                 self.referred(up);
                 Came::Ran(Kind::Up)
             }
+            _ => unreachable!(),
+        }
+    }
+
+    // A step while that is locked and loaded.
+    #[tactic(auto, unfolding(crate::specs::Unlinking::unlink_of, crate::specs::Unlinking::UnlinkFits))]
+    fn take_up<D: Device>(
+        &mut self,
+        replied: &mut Option<Answered>,
+        hart: u8,
+        core: &mut Core<D>,
+    ) -> Came<(), Kind>
+        requires taking { (x : RemovingState × ℕ × TakeState) × (self.old ≡ unlinking.Taking x.0 x.1 x.2) }
+        requires may { MayNext hart (unlink_of self.old) (state_of D.contents D.failures core.old) }
+        requires fits { UnlinkFits hart (state_of D.contents D.failures core.old) self.old }
+        requires none { replied.old ≡ None }
+        ensures steps { StepsAt D.contents D.failures D.Called unlink_of reply_in UnlinkFits IsSpent unlinking.Gone hart self.old self.new (heard result replied.new) core.old core.new }
+        ensures told { IsHeard result replied.new }
+    {
+        match self {
             Unlink::Taking(_, _, take) => match take.step(hart, core) {
                 Came::Waits => Came::Waits,
                 Came::Ran(kind) => Came::Ran(kind),
@@ -136,37 +238,82 @@ impl Unlink {
                 }
                 Came::Stopped => Came::Stopped,
             },
-            Unlink::Looking(_, _, _, _) => self.look(hart, core),
-            Unlink::Clearing(_, _, _, _, _) => self.clear(hart, core),
-            Unlink::Lowering(lower) => match lower.step(hart, core) {
+            _ => unreachable!(),
+        }
+    }
+
+    // A step while the counts go down.
+    #[tactic(auto, unfolding(crate::specs::Unlinking::unlink_of, crate::specs::Unlinking::UnlinkFits))]
+    fn lower<D: Device>(
+        &mut self,
+        replied: &mut Option<Answered>,
+        hart: u8,
+        core: &mut Core<D>,
+    ) -> Came<(), Kind>
+        requires lowering { (x : LowerState) × (self.old ≡ unlinking.Lowering x) }
+        requires may { MayNext hart (unlink_of self.old) (state_of D.contents D.failures core.old) }
+        requires fits { UnlinkFits hart (state_of D.contents D.failures core.old) self.old }
+        requires none { replied.old ≡ None }
+        ensures steps { StepsAt D.contents D.failures D.Called unlink_of reply_in UnlinkFits IsSpent unlinking.Gone hart self.old self.new (heard result replied.new) core.old core.new }
+        ensures told { IsHeard result replied.new }
+    {
+        match self {
+            Unlink::Lowering(lower) => match lower.step(replied, hart, core) {
                 Came::Waits => Came::Waits,
                 Came::Ran(kind) => Came::Ran(kind),
-                Came::Done(answered, kind) => {
+                Came::Done((), kind) => {
                     self.end();
-                    Came::Done(answered, kind)
+                    Came::Done((), kind)
                 }
                 Came::Stopped => Came::Stopped,
             },
-            Unlink::Ends(quit) => match quit.step(hart, core) {
+            _ => unreachable!(),
+        }
+    }
+
+    // A step while the call ends.
+    #[tactic(auto, unfolding(crate::specs::Unlinking::unlink_of, crate::specs::Unlinking::UnlinkFits))]
+    fn quit<D: Device>(
+        &mut self,
+        replied: &mut Option<Answered>,
+        hart: u8,
+        core: &mut Core<D>,
+    ) -> Came<(), Kind>
+        requires ends { (x : QuitState) × (self.old ≡ unlinking.Ends x) }
+        requires may { MayNext hart (unlink_of self.old) (state_of D.contents D.failures core.old) }
+        requires fits { UnlinkFits hart (state_of D.contents D.failures core.old) self.old }
+        requires none { replied.old ≡ None }
+        ensures steps { StepsAt D.contents D.failures D.Called unlink_of reply_in UnlinkFits IsSpent unlinking.Gone hart self.old self.new (heard result replied.new) core.old core.new }
+        ensures told { IsHeard result replied.new }
+    {
+        match self {
+            Unlink::Ends(quit) => match told(quit.step(hart, core), replied) {
                 Came::Waits => Came::Waits,
                 Came::Ran(kind) => Came::Ran(kind),
-                Came::Done(answered, kind) => {
+                Came::Done((), kind) => {
                     self.end();
-                    Came::Done(answered, kind)
+                    Came::Done((), kind)
                 }
                 Came::Stopped => Came::Stopped,
             },
-            Unlink::Gone => unreachable!(),
+            _ => unreachable!(),
         }
     }
 
     // A step while it is searched for entries.
     #[tactic(auto, unfolding(crate::specs::Unlinking::unlink_of, crate::specs::Unlinking::UnlinkFits))]
-    fn look<D: Device>(&mut self, hart: u8, core: &mut Core<D>) -> Came<Answered, Kind>
+    fn look<D: Device>(
+        &mut self,
+        replied: &mut Option<Answered>,
+        hart: u8,
+        core: &mut Core<D>,
+    ) -> Came<(), Kind>
         requires at { IsLooking self.old }
         requires may { MayNext hart (unlink_of self.old) (state_of D.contents D.failures core.old) }
         requires fits { UnlinkFits hart (state_of D.contents D.failures core.old) self.old }
-        ensures steps { StepsAt D.contents D.failures D.Called unlink_of reply_in UnlinkFits IsSpent unlinking.Gone hart self.old self.new result core.old core.new }
+        requires none { replied.old ≡ None }
+        ensures steps { StepsAt D.contents D.failures D.Called unlink_of reply_in UnlinkFits IsSpent unlinking.Gone hart self.old self.new (heard result replied.new) core.old core.new }
+        ensures told { IsHeard result replied.new }
     {
         match self {
             Unlink::Looking(_, _, _, place) => match mem::replace(place, None) {
@@ -196,11 +343,18 @@ impl Unlink {
 
     // A step while the name is cleared.
     #[tactic(auto, unfolding(crate::specs::Unlinking::unlink_of, crate::specs::Unlinking::UnlinkFits))]
-    fn clear<D: Device>(&mut self, hart: u8, core: &mut Core<D>) -> Came<Answered, Kind>
+    fn clear<D: Device>(
+        &mut self,
+        replied: &mut Option<Answered>,
+        hart: u8,
+        core: &mut Core<D>,
+    ) -> Came<(), Kind>
         requires at { IsClearing self.old }
         requires may { MayNext hart (unlink_of self.old) (state_of D.contents D.failures core.old) }
         requires fits { UnlinkFits hart (state_of D.contents D.failures core.old) self.old }
-        ensures steps { StepsAt D.contents D.failures D.Called unlink_of reply_in UnlinkFits IsSpent unlinking.Gone hart self.old self.new result core.old core.new }
+        requires none { replied.old ≡ None }
+        ensures steps { StepsAt D.contents D.failures D.Called unlink_of reply_in UnlinkFits IsSpent unlinking.Gone hart self.old self.new (heard result replied.new) core.old core.new }
+        ensures told { IsHeard result replied.new }
     {
         match self {
             Unlink::Clearing(_, txn, _, _, place) => match mem::replace(place, None) {

@@ -2,6 +2,7 @@
 ghost use Rattle.std.specs.Prelude.{◌≡◌, ◌<◌, [], Some, None};
 ghost use Rattle.fs_machine.specs.Steps.{state_of};
 ghost use Rattle.fs_machine.specs.Machines.{MayNext};
+ghost use Rattle.call_parts.specs.Heard.{heard, IsHeard};
 ghost use Rattle.syscalls.specs.Machines.{running_of, RunningFits};
 ghost use Rattle.syscalls.specs.Places.{HasEnded, StepsCall};
 
@@ -15,6 +16,7 @@ use fs_machine::{Core, Kind, RetiredCore};
 use fs_tables::Listed;
 use making_calls::{Mkdir, OpenNew, OpenOld};
 use naming_calls::{Chdir, Link, Unlink};
+use plain_tree::Reply;
 
 /// A call under way. A call without a path has its hart's list beside it, which it doesn't need, until it has replied.
 pub enum Running {
@@ -40,27 +42,38 @@ const MOST_BYTES: usize = 4096;
 const _: () = prove!(size_of::<Running>() <= MOST_BYTES);
 
 impl Running {
-    /// One operation of the call in its place. Nothing of it is left there but that it has ended, once it has replied.
+    /// One operation of the call in its place. Once it has replied, nothing of it is left there but that it has ended, and its reply, with its list,
+    /// stands where `answered` says. Both places are empty before, and `spare` is so after it.
     #[tactic(auto, unfolding(crate::specs::Machines::running_of, crate::specs::Machines::RunningFits))]
-    pub fn step<D: Device>(&mut self, hart: u8, core: &mut Core<D>) -> Came<Answered, Kind>
+    pub fn step<D: Device>(
+        &mut self,
+        answered: &mut Option<Answered>,
+        spare: &mut Option<Reply>,
+        hart: u8,
+        core: &mut Core<D>,
+    ) -> Came<(), Kind>
         requires hart { hart < HARTS }
         requires may { MayNext hart (running_of self.old) (state_of D.contents D.failures core.old) }
         requires fits { RunningFits hart (state_of D.contents D.failures core.old) self.old }
-        ensures steps { StepsCall D.contents D.failures D.Called hart self.old self.new result core.old core.new }
+        requires none { answered.old ≡ None }
+        requires spare { spare.old ≡ None }
+        ensures steps { StepsCall D.contents D.failures D.Called hart self.old self.new (heard result answered.new) core.old core.new }
+        ensures told { IsHeard result answered.new }
+        ensures spare { spare.new ≡ None }
     {
         match self {
-            Running::Open(m) => m.step(hart, core),
-            Running::Create(m) => m.step(hart, core),
-            Running::Link(m) => m.step(hart, core),
-            Running::Mkdir(m) => m.step(hart, core),
-            Running::Chdir(m) => m.step(hart, core),
-            Running::Dup(m, list) => dup(m, list, hart, core),
-            Running::Close(m, list) => close(m, list, hart, core),
-            Running::Fstat(m, list) => fstat(m, list, hart, core),
-            Running::Read(m, list) => read(m, list, hart, core),
-            Running::Write(m, list) => write(m, list, hart, core),
-            Running::Unlink(m) => m.step(hart, core),
-            Running::Inherit(m, list) => inherit(m, list, hart, core),
+            Running::Open(m) => m.step(answered, hart, core),
+            Running::Create(m) => m.step(answered, hart, core),
+            Running::Link(m) => m.step(answered, hart, core),
+            Running::Mkdir(m) => m.step(answered, hart, core),
+            Running::Chdir(m) => m.step(answered, hart, core),
+            Running::Dup(m, list) => dup(m, list, answered, spare, hart, core),
+            Running::Close(m, list) => close(m, list, answered, spare, hart, core),
+            Running::Fstat(m, list) => fstat(m, list, answered, spare, hart, core),
+            Running::Read(m, list) => read(m, list, answered, spare, hart, core),
+            Running::Write(m, list) => write(m, list, answered, spare, hart, core),
+            Running::Unlink(m) => m.step(answered, hart, core),
+            Running::Inherit(m, list) => inherit(m, list, answered, spare, hart, core),
         }
     }
 

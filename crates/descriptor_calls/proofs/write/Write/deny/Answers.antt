@@ -23,4 +23,5 @@ returns g c =
         others = c.unlock.ensures.others;
         called = search rules;
       };
+      told = c.requires.none;
     }

@@ -21,4 +21,5 @@ returns-in-Ends g c =
           ends_so d.contents d.failures d.Called finish_of (λ x. x) write_call_of (λ reply. reply) (λ _. after_piece w.fd w.bytes (behind w) end) WriteCallFits (λ _. Unit {0}) write.Gone h c.take-finish.result c.args.self.now c.left.new.self c.step.result
           tt c.in-Ends.kind _ c.args.core.now c.step.new.core (ap write_call_of is) (done_so c.step.result tt c.in-Ends.kind c.put_back.result c.put_back.ensures.came c.in-Ends.is)
           (refl, c.left.ensures.0) (c.left.ensures.1 h new tt) tt c.step.ensures.moves c.step.ensures.honest c.step.ensures.still c.step.ensures.others c.step.ensures.called;
+      told = c.requires.none;
     }

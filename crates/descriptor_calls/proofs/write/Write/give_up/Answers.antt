@@ -23,4 +23,5 @@ returns g c =
         others = c.give-ended.ensures.others;
         called = search rules;
       };
+      told = c.requires.none;
     }

@@ -28,4 +28,5 @@ returns-in-Ends g c =
           ends_so d.contents d.failures d.Called load_of (λ x. x) write_call_of (λ reply. reply) (write_loaded w.sizes w.fd w.bytes w.piece (behind w) file) WriteCallFits (λ _. Unit {0}) write.Gone h c.take-load.result c.args.self.now
           c.loaded.new.self c.step.result c.in-Ends.inode c.in-Ends.kind _ c.args.core.now c.step.new.core (ap write_call_of is) (done_so c.step.result c.in-Ends.inode c.in-Ends.kind c.put_back.result c.put_back.ensures.came c.in-Ends.is)
           (refl, c.loaded.ensures.0) (c.loaded.ensures.1 h new (held.1, own_on h file.number guard old new c.step.ensures.tables held.3)) tt c.step.ensures.moves c.step.ensures.honest c.step.ensures.still c.step.ensures.others c.step.ensures.called;
+      told = c.requires.none;
     }

@@ -19,4 +19,5 @@ returns-in-Some g c =
     record {
       steps = ran_at (LockOpen w.fd) (write_locked w.sizes w.fd w.bytes w.piece (behind w)) (c.in-Some.file, c.in-Some.guard.value.content) (ap write_call_of c.in-Lock.is) (c.in-Some.ensures.ran Passes) tt c.locked.ensures.0
           (c.locked.ensures.1 h new (had.1, c.in-Some.ensures.own)) c.lock_open.ensures.others (inl (ap (λ l. l.cache.device) c.lock_open.ensures.log));
+      told = c.requires.none;
     }

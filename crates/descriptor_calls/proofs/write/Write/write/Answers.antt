@@ -33,4 +33,5 @@ returns-in-Done g c =
           inside_done c.step.ensures.steps more (ap write_call_of c.in-Writing.is ∙ ap (λ (b : List ℕ). bind (write_of b part) more) (sym c.part_of.ensures.part)) written c.in-Done.kind c.in-Done.is
           (ap write_call_of c.wrote.ensures ∙ give_so w guard.value.number offset written (some_written guard written inode) (number_written guard written inode))
           (λ _. subst (λ (m : Write). WriteCallFits h new m) (sym c.wrote.ensures) (held.0, c.step.ensures.kept ∙ held.1, own_written h guard written old new c.step.ensures.tables inode held.2));
+      told = c.requires.none;
     }

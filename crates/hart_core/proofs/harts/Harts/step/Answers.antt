@@ -8,7 +8,7 @@ use Rattle.fs_machine.specs.LogPart.{Passes}
 use Rattle.fs_machine.specs.Steps.{state_of}
 use Rattle.syscalls.specs.Machines.{running_of}
 use Rattle.hart_core.specs.Blocks.{blocks, code, MayStep}
-use Rattle.hart_core.specs.Harts.{HartsOf, said, outcome_of, programs_of}
+use Rattle.hart_core.specs.Harts.{HartsOf, said, outcome_of, outcome_with, programs_of}
 use Rattle.hart_core.proofs.Stepping.{all_set, idle_past, honest_past}
 use Rattle.hart_core.proofs.Seats.{is_at}
 use Rattle.hart_core.proofs.harts.Harts.step.Goals as goal
@@ -38,11 +38,11 @@ returns-clause-makes g c =
     let less = c.if-hart-ge-HARTS.false in
     let left = get_or c.step.new.self.calls h None in
     subst
-    (λ (v : HartsOf _). plain_makes blocks code (Step h (said c.step.result t)) (programs_of g.D.Device.contents g.D.Device.failures v)
-    ≡ record { came = outcome_of c.step.result; after = programs_of g.D.Device.contents g.D.Device.failures (record { core = c.step.new.core; stopped = c.step.new.stopped; children = w.children; calls = c.step.new.self.calls }) })
+    (λ (v : HartsOf _). plain_makes blocks code (Step h (said (outcome_with c.step.result c.step.new.replied) t)) (programs_of g.D.Device.contents g.D.Device.failures v)
+    ≡ record { came = outcome_of (outcome_with c.step.result c.step.new.replied); after = programs_of g.D.Device.contents g.D.Device.failures (record { core = c.step.new.core; stopped = c.step.new.stopped; children = w.children; calls = c.step.new.self.calls }) })
     c.self.view_is
-    (step_gives blocks code running_of (state_of g.D.Device.contents g.D.Device.failures w.core) w.stopped w.calls.calls h (get_or w.calls.calls h None) left (set w.calls.calls h None) c.step.new.self.calls (is_at w.calls.calls h (omega (arith, eight, less))) refl (c.step.ensures.kept ∙ sym (set-set w.calls.calls h None left)) (said c.step.result t)
-    (outcome_of c.step.result) t c.step.new.stopped c.step.ensures.makes)
+    (step_gives blocks code running_of (state_of g.D.Device.contents g.D.Device.failures w.core) w.stopped w.calls.calls h (get_or w.calls.calls h None) left (set w.calls.calls h None) c.step.new.self.calls (is_at w.calls.calls h (omega (arith, eight, less))) refl (c.step.ensures.kept ∙ sym (set-set w.calls.calls h None left)) (said (outcome_with c.step.result c.step.new.replied) t)
+    (outcome_of (outcome_with c.step.result c.step.new.replied)) t c.step.new.stopped c.step.ensures.makes)
 
 pub returns-clause-honest : goal.returns-clause-honest
 returns-clause-honest g c =
@@ -52,9 +52,9 @@ returns-clause-honest g c =
     let eight = c.self.invariant.0.long in
     let less = c.if-hart-ge-HARTS.false in
     let left = get_or c.step.new.self.calls h None in
-    subst (λ (v : HartsOf _). PlainHonest blocks code (Step h (said c.step.result t)) (programs_of g.D.Device.contents g.D.Device.failures v)) c.self.view_is
+    subst (λ (v : HartsOf _). PlainHonest blocks code (Step h (said (outcome_with c.step.result c.step.new.replied) t)) (programs_of g.D.Device.contents g.D.Device.failures v)) c.self.view_is
     (honest_here blocks code running_of (state_of g.D.Device.contents g.D.Device.failures w.core) w.stopped w.calls.calls h (get_or w.calls.calls h None) left (set w.calls.calls h None) c.step.new.self.calls (is_at w.calls.calls h (omega (arith, eight, less))) refl (c.step.ensures.kept ∙ sym (set-set w.calls.calls h None left))
-    (said c.step.result t) c.step.ensures.honest)
+    (said (outcome_with c.step.result c.step.new.replied) t) c.step.ensures.honest)
 
 -- there is no such hart
 pub returns-then-hart-ge-HARTS-clause-makes : goal.returns-then-hart-ge-HARTS-clause-makes

@@ -1,24 +1,30 @@
-use Rattle.std.proofs.Common.{subst}
+use Rattle.std.proofs.Common.{subst, sym}
 use Rattle.atomic_programs.specs.Calls.{Step}
-use Rattle.hart_core.specs.Harts.{said, outcome_of, shared_of}
-use Rattle.hart_core.specs.Worlds.{WorldOf, Makes}
+use Rattle.hart_core.specs.Harts.{said, outcome_of, outcome_with, shared_of}
+use Rattle.hart_core.specs.Worlds.{Answers, WorldOf, Makes}
+use Rattle.hart_core.specs.declared.outcome.Outcome.{Outcome}
 use Rattle.hart_core.proofs.Worlds.{may_here, made_step, world_stepped}
 use Rattle.hart_core.proofs.world.World.step.Goals as goal
 
-pub step-requires : goal.step-requires
-step-requires g c =
+pub step-told-requires : goal.step-told-requires
+step-told-requires g c =
     let w = c.self.inside in
-    record { may = may_here g.D.Device.contents g.D.Device.failures w.sizes w.harts c.self.invariant c.args.hart }
+    record { may = may_here g.D.Device.contents g.D.Device.failures w.sizes w.harts c.self.invariant.0 c.args.hart; none = c.self.invariant.1 }
 
 pub invariant_of-self : goal.invariant_of-self
 invariant_of-self g c =
     let w = c.self.inside in
-    world_stepped g.D.Device.contents g.D.Device.failures w.sizes w.harts c.self.invariant c.args.hart (said c.step.result (shared_of g.D.Device.contents g.D.Device.failures c.step.new.self)) c.step.result c.step.new.self
-    c.step.ensures.honest c.step.ensures.makes c.step.ensures.children
+    let r = outcome_with c.step-told.result c.step-told.new.replied in (
+      world_stepped g.D.Device.contents g.D.Device.failures w.sizes w.harts c.self.invariant.0 c.args.hart (said r (shared_of g.D.Device.contents g.D.Device.failures c.step-told.new.self)) r c.step-told.new.self
+          c.step-told.ensures.honest c.step-told.ensures.makes c.step-told.ensures.children,
+      c.outcome.ensures.none,
+    )
 
 pub returns-clause-makes : goal.returns-clause-makes
 returns-clause-makes g c =
     let w = c.self.inside in
-    let x = said c.step.result (shared_of g.D.Device.contents g.D.Device.failures c.step.new.self) in
-    subst (λ (v : WorldOf _). Makes g.D.Device.contents g.D.Device.failures v.sizes (Step c.args.hart x) v.harts (outcome_of c.step.result) c.step.new.self) c.self.view_is
-    (made_step g.D.Device.contents g.D.Device.failures w.sizes w.harts c.self.invariant c.args.hart x c.step.result c.step.new.self c.step.ensures.makes c.step.ensures.children)
+    let r = outcome_with c.step-told.result c.step-told.new.replied in
+    let s = shared_of g.D.Device.contents g.D.Device.failures c.step-told.new.self in
+    subst (λ (o : Outcome). Makes g.D.Device.contents g.D.Device.failures c.args.self.now.sizes (Step c.args.hart (said o s)) c.args.self.now.harts (outcome_of o) c.step-told.new.self) (sym c.outcome.ensures.outcome)
+    (subst (λ (v : WorldOf _). Makes g.D.Device.contents g.D.Device.failures v.sizes (Step c.args.hart (said r s)) v.harts (outcome_of r) c.step-told.new.self) c.self.view_is
+    (made_step g.D.Device.contents g.D.Device.failures w.sizes w.harts c.self.invariant.0 c.args.hart (said r s) r c.step-told.new.self c.step-told.ensures.makes c.step-told.ensures.children))

@@ -33,4 +33,5 @@ returns-in-Done g c =
       steps = by_done enter_of entered_of c.in-Some.enter (name_entered at.field-0.sizes at.field-0.old at.field-0.new at.field-3 guard.value.number at.field-2) (ap add_of whole) (EnterFits h new) (λ _. Unit {0}) c.step.result
           (record { moves = step.moves; honest = step.honest; still = step.still; others = step.others; called = step.called }) step.fits r c.in-Done.kind c.in-Done.is next.program
           (λ _. next.fits h new (step.kept ∙ had.1, left_done (λ m. IsOwnInode h at.field-4 (enterer_of m) new × EnterFits h new m) (λ r. IsOwnInode h at.field-4 r.inode new) c.step.result own r c.in-Done.kind c.in-Done.is));
+      told = c.requires.none;
     }

@@ -24,4 +24,5 @@ returns-in-Done g c =
       steps = by_done store_of (λ x. x) c.in-Some.store (λ _. link_raised at.field-0.sizes at.field-0.old at.field-0.new (inode_in at.field-3) at.field-2) (ap link_of whole) (StoreFits h new) (λ _. Unit {0}) c.step.result
           (record { moves = step.moves; honest = step.honest; still = step.still; others = step.others; called = step.called }) step.fits c.in-Done.field-0 c.in-Done.kind c.in-Done.is c.raised.ensures.program
           (λ _. c.raised.ensures.fits h new (step.kept ∙ had.1, had.2, held_stays h at.field-3 old new step.tables had.3));
+      told = c.requires.none;
     }

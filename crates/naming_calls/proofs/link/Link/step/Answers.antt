@@ -1,38 +1,11 @@
-use Rattle.std.proofs.Common.{◌≡◌, ◌≤◌, inl, ap, subst}
-use Rattle.fs_machine.specs.LogPart.{Passes}
-use Rattle.fs_machine.specs.Premises.{Honest}
-use Rattle.fs_machine.specs.Steps.{Join, state_of}
-use Rattle.path_walk.specs.Elements.{most_elements}
-use Rattle.call_parts.specs.Taking.{most_reached, ReachFits}
-use Rattle.call_parts.proofs.Inside.{inside_done, ran_at}
-use Rattle.naming_calls.specs.Links.{link_found, link_joined, link_of, IsLinking, LinkFits}
-use Rattle.naming_calls.specs.LinkTurns.{JoinedTo}
-use Rattle.naming_calls.specs.Turns.{GoesTo}
-use Rattle.naming_calls.specs.declared.link.Link.{Link}
-use Rattle.naming_calls.proofs.Paths.{reach_along}
 use Rattle.naming_calls.proofs.link.Link.step.Goals as goal
 
-pub returns-in-Some : goal.returns-in-Some
-unfolding link_of LinkFits Honest
-returns-in-Some g c =
-    let new = state_of g.D.Device.contents g.D.Device.failures c.join.new.self in
-    let h = c.args.hart in
-    let l = c.in-Join.field-0 in
-    let next : GoesTo link_of LinkFits (link_joined l.sizes l.old l.new) (λ hart s. c.in-Some.txn ≡ hart) c.joined.new.self = subst (λ (m : Link). JoinedTo c.in-Some.txn m c.joined.new.self) c.in-Join.is c.joined.ensures in
-    record {
-      steps = ran_at Join (λ _. link_joined l.sizes l.old l.new) tt (ap link_of c.in-Join.is) (c.in-Some.ensures.ran Passes) tt next.program (next.fits h new c.in-Some.ensures.txn) c.join.ensures.others (inl c.join.ensures.device);
-    }
+pub join-requires-clause-joining : goal.join-requires-clause-joining
+join-requires-clause-joining g c =
+    let at = c.in-Join in
+    ((at.field-0, at.field-1), at.is)
 
-pub returns-in-Done : goal.returns-in-Done
-unfolding link_of LinkFits
-returns-in-Done g c =
-    let s = state_of g.D.Device.contents g.D.Device.failures in
-    let h = c.args.hart in
+pub reach-requires-clause-reaching : goal.reach-requires-clause-reaching
+reach-requires-clause-reaching g c =
     let at = c.in-Reaching in
-    let l = at.l in
-    let old = s c.args.core.now in
-    let had : IsLinking l × (at.field-1 ≡ h) × (most_reached l.old at.reach ≤ most_elements) × ReachFits l.old h old at.reach = subst (λ (m : Link). LinkFits h old m) at.is c.requires.fits in
-    record {
-      steps = inside_done (reach_along c.as_slice.ensures c.step.ensures.steps) (link_found l.sizes l.old l.new) (ap link_of at.is) c.in-Done.reached c.in-Done.kind c.in-Done.is c.reached.ensures.program
-          (λ reached. c.reached.ensures.fits h (s c.step.new.core) (had.1, reached));
-    }
+    ((at.field-0, at.field-1, at.field-2), at.is)

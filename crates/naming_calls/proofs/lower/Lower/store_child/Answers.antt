@@ -26,4 +26,5 @@ returns-in-Done g c =
       steps = by_done store_of (λ x. x) c.in-Some.store (λ _. quit at.field-0.sizes (inode_in at.field-2 ∷ []) at.field-0.list at.field-0.reply) (ap lower_of whole) (StoreFits h new) (λ _. Unit {0}) c.step.result
           (record { moves = step.moves; honest = step.honest; still = step.still; others = step.others; called = step.called }) step.fits c.in-Done.field-0 c.in-Done.kind c.in-Done.is c.stored_child.ensures.program
           (λ _. c.stored_child.ensures.fits h new (step.kept ∙ had.1, held_stays h at.field-2 old new step.tables had.2));
+      told = c.requires.none;
     }

@@ -33,4 +33,5 @@ returns-in-Done g c =
       steps = by_done (put_of Free) record_in c.in-Some.clear (name_cleared at.field-0 guard.value.number (inode_in at.field-3)) (ap unlink_of whole) (PutFits h new) (λ _. Unit {0}) c.step.result
           (record { moves = step.moves; honest = step.honest; still = step.still; others = step.others; called = step.called }) step.fits r c.in-Done.kind c.in-Done.is next.program
           (λ _. next.fits h new (step.kept ∙ had.1, left_done (λ m. AreHeld h (record { reference = at.field-2; inode = putter_of m }) at.field-3 new × PutFits h new m) (λ r. AreHeld h (record { reference = at.field-2; inode = r }) at.field-3 new) c.step.result (cleared_held h at.field-2 guard at.field-3 old new c.step.result step.tables had.2 step.inode step.fits) r c.in-Done.kind c.in-Done.is));
+      told = c.requires.none;
     }

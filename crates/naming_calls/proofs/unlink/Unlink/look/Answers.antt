@@ -36,6 +36,7 @@ returns-in-Done g c =
       steps = by_done (search_of Entry) found_of c.in-Some.search (unless_entries on.sizes on.path (inode_in at.field-0.parent) at.field-0.slot at.field-0.list guard.value) (ap unlink_of whole) (SearchFits h new) (λ _. Unit {0}) c.step.result
           (record { moves = step.moves; honest = step.honest; still = step.still; others = step.others; called = step.called }) step.fits r c.in-Done.kind c.in-Done.is (c.searched.ensures.program ∙ ap (λ (v : Inode). unless_entries on.sizes on.path (inode_in at.field-0.parent) at.field-0.slot at.field-0.list v r.found) (ap (λ (g : GuardState Inode). g.value) same))
           (λ _. c.searched.ensures.fits h new (had.0, removing_stays h at.field-0 old new step.tables had.1, held, had.3));
+      told = c.requires.none;
     }
 
 pub returns-in-Waits : goal.returns-in-Waits
@@ -61,6 +62,7 @@ returns-in-Waits g c =
           (ap (λ place. unlink_of (unlinking.Looking r at.field-1 at.field-2 place)) c.put.ensures
           ∙ ap (λ (g : GuardState Inode). let p : P Reply = bind (search_of Entry m) (unless_entries on.sizes on.path (inode_in r.parent) r.slot r.list g.value) in p) same)
           (λ _. subst (λ place. UnlinkFits h new (unlinking.Looking r at.field-1 at.field-2 place)) (sym c.put.ensures) (had.0, removing_stays h r old new step.tables had.1, held.0, had.3, held.1));
+      told = c.requires.none;
     }
 
 pub returns-in-Stopped : goal.returns-in-Stopped
@@ -86,4 +88,5 @@ returns-in-Stopped g c =
           (ap (λ place. unlink_of (unlinking.Looking r at.field-1 at.field-2 place)) c.put-in-Stopped.ensures
           ∙ ap (λ (g : GuardState Inode). let p : P Reply = bind (search_of Entry m) (unless_entries on.sizes on.path (inode_in r.parent) r.slot r.list g.value) in p) same)
           (λ _. subst (λ place. UnlinkFits h new (unlinking.Looking r at.field-1 at.field-2 place)) (sym c.put-in-Stopped.ensures) (had.0, removing_stays h r old new step.tables had.1, held.0, had.3, held.1));
+      told = c.requires.none;
     }

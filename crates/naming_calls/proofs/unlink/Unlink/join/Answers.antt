@@ -1,0 +1,22 @@
+use Rattle.std.proofs.Common.{◌≡◌, inl, ap, subst}
+use Rattle.fs_machine.specs.LogPart.{Passes}
+use Rattle.fs_machine.specs.Premises.{Honest}
+use Rattle.fs_machine.specs.Steps.{Join, state_of}
+use Rattle.call_parts.proofs.Inside.{ran_at}
+use Rattle.naming_calls.specs.Turns.{GoesTo}
+use Rattle.naming_calls.specs.Unlinking.{unlink_joined, unlink_of, UnlinkFits}
+use Rattle.naming_calls.specs.UnlinkTurns.{JoinedTo}
+use Rattle.naming_calls.specs.declared.unlink.Unlink.{Unlink}
+use Rattle.naming_calls.proofs.unlink.Unlink.join.Goals as goal
+
+pub returns-in-Some : goal.returns-in-Some
+unfolding unlink_of UnlinkFits Honest
+returns-in-Some g c =
+    let new = state_of g.D.Device.contents g.D.Device.failures c.join.new.self in
+    let h = c.args.hart in
+    let on = c.in-Join.field-0 in
+    let next : GoesTo unlink_of UnlinkFits (unlink_joined on.sizes on.path) (λ hart s. c.in-Some.txn ≡ hart) c.joined.new.self = subst (λ (m : Unlink). JoinedTo c.in-Some.txn m c.joined.new.self) c.in-Join.is c.joined.ensures in
+    record {
+      steps = ran_at Join (λ _. unlink_joined on.sizes on.path) tt (ap unlink_of c.in-Join.is) (c.in-Some.ensures.ran Passes) tt next.program (next.fits h new c.in-Some.ensures.txn) c.join.ensures.others (inl c.join.ensures.device);
+      told = c.requires.none;
+    }
