@@ -231,16 +231,13 @@ fn start(world: &mut World<MemoryDisk>, rows: &mut [Row]) -> Result<(), Workload
     Ok(())
 }
 
-// A step of each hart, and how many have replied. The replies hand the calls back.
+// A step of each hart, and how many have replied.
 fn turn(world: &mut World<MemoryDisk>, rows: &mut [Row]) -> Result<usize, WorkloadError> {
     let mut replied = 0usize;
     for row in rows.iter_mut() {
         match world.step(row.hart) {
-            Outcome::Done(Reply { answer, call }) => {
-                if answer != row.wanted {
-                    return Err(WorkloadError::Wrong);
-                }
-                row.call = call;
+            Outcome::Done(reply) => {
+                take(row, reply)?;
                 replied = replied.saturating_add(1);
             }
             Outcome::Stopped(_) => return Err(WorkloadError::Device),
@@ -248,4 +245,14 @@ fn turn(world: &mut World<MemoryDisk>, rows: &mut [Row]) -> Result<usize, Worklo
         }
     }
     Ok(replied)
+}
+
+// The reply is the one that is wanted, and hands its call back.
+fn take(row: &mut Row, reply: Reply) -> Result<(), WorkloadError> {
+    let Reply { answer, call } = reply;
+    if answer != row.wanted {
+        return Err(WorkloadError::Wrong);
+    }
+    row.call = call;
+    Ok(())
 }
