@@ -6,3 +6,6 @@ pub mod Enough
 pub mod Once
 pub mod Sound
 pub mod Laws
+pub mod Ordered
+pub mod Moved
+pub mod Kept

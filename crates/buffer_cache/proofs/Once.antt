@@ -1,5 +1,5 @@
 -- A list of which at most one passes a test: where that stands.
-use Rattle.std.proofs.Common.{◌≡◌, ℕ, zero, suc, ◌+◌, ◌-◌, ◌<◌, ◌≤◌, List, [], ◌∷◌, length, Bool, true, false, cond, not, refl, sym, ◌∙◌, ap, arith, Some, None, nat_lt}
+use Rattle.std.proofs.Common.{◌≡◌, ℕ, zero, suc, ◌+◌, ◌<◌, ◌≤◌, List, [], ◌∷◌, length, Bool, true, false, cond, not, refl, ◌∙◌, ap, arith, Some, None, nat_lt}
 use Rattle.std.specs.List.{position, position_or_len, slice_get}
 use Rattle.std.proofs.lemmas.Bool.Decides.{nat_tests}
 use Rattle.std.proofs.lemmas.Option.{slice_get_within, same_Some, none-some}
@@ -7,7 +7,7 @@ use Rattle.buffer_cache.specs.Lists.{count_of}
 use Rattle.buffer_cache.proofs.Firsts.{pick}
 
 -- what passes is counted
-counted_at : {X : Type 0} (p : X → Bool) (xs : List X) (i : ℕ) (x : X) → slice_get xs i ≡ Some x → p x ≡ true → 1 ≤ count_of p xs
+pub counted_at : {X : Type 0} (p : X → Bool) (xs : List X) (i : ℕ) (x : X) → slice_get xs i ≡ Some x → p x ≡ true → 1 ≤ count_of p xs
 counted_at p [] i x at is = absurd (none-some x at)
 counted_at {X} p (y ∷ xs) zero x at is = let here : p y ≡ true = ap p (same_Some y x at) ∙ is in by_test (p y) here
   where

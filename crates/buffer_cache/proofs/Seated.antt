@@ -1,27 +1,28 @@
 -- How the slots go on with their seats.
-use Rattle.std.proofs.Common.{◌≡◌, ◌≢◌, ℕ, ◌+◌, ◌<◌, ◌≤◌, List, [], ◌∷◌, ◌++◌, length, get_or, set, take, drop, Bool, true, false, cond, not, ◌&&◌, refl, sym, ◌∙◌, ap, subst, arith, Option, Some, None, IsSome, is_some, is_none, if◌then◌else◌, ◌==◌}
+use Rattle.std.proofs.Common.{◌≡◌, ◌≢◌, ℕ, zero, suc, ◌+◌, ◌<◌, ◌≤◌, List, [], ◌∷◌, length, get_or, set, Bool, true, false, cond, not, ◌&&◌, refl, sym, ◌∙◌, ap, subst, arith, Option, Some, None, IsSome, is_some, is_none, if◌then◌else◌, ◌==◌}
 use Rattle.std.specs.Prelude.{slice_get, slice_set, Result, Ok, Err, OnOk, OnErr}
 use Rattle.std.specs.Option.{MatchOption}
 use Rattle.std.specs.List.{position, find}
 use Rattle.std.proofs.lemmas.Bool.Decides.{nat_tests}
-use Rattle.std.proofs.lemmas.List.{set-get_or, take_at}
-use Rattle.std.proofs.lemmas.Option.{slice_get_within, same_Some}
-use Rattle.sleep_lock.specs.SleepLock.{SlotState, GuardState, filled, emptied}
+use Rattle.std.proofs.lemmas.List.{set-get_or}
+use Rattle.std.proofs.lemmas.Option.{slice_get_within, get_or_from_slice_get, same_Some, none-some}
+use Rattle.sleep_lock.specs.SleepLock.{SlotState, GuardState, filled}
 use Rattle.sleep_lock.specs.Row.{lock_at, lock_of, unlocked, IsOut}
 use Rattle.sleep_lock.proofs.Lists.{set_same, slice_get-set_same, slice_get-set_other}
 use Rattle.buffer_cache.specs.Buffers.{BufferState}
-use Rattle.buffer_cache.specs.Lists.{change_first, change_to_end, count_of}
-use Rattle.buffer_cache.specs.Seats.{SeatState, has_block, is_free, seat_of, kept, with_holder, without_holder, with_content, with_pin, as_new, with_seat, given_back, IsHeld, IsGuardOf}
+use Rattle.buffer_cache.specs.Lists.{change_first, count_of}
+use Rattle.buffer_cache.specs.Seats.{SeatState, has_block, is_free, seat_of, kept, with_holder, without_holder, with_content, with_pin, as_new, with_seat, IsHeld, IsGuardOf}
 use Rattle.buffer_cache.specs.Rows.{has_number, InsideFits, SlotFits, AllSeated, IsSeated}
 use Rattle.buffer_cache.specs.Getting.{get_of, get_by, get_new, guard_of}
 use Rattle.buffer_cache.specs.declared.got.Got.{Got}
 use Rattle.buffer_cache.specs.declared.got.Got.TheVariants.{Held, Waits}
-use Rattle.buffer_cache.proofs.Firsts.{pick, place_first, place_change, no_place, first_passes, first_counted, count_same, count_to_end}
+use Rattle.buffer_cache.proofs.Once.{once_at}
+use Rattle.buffer_cache.proofs.Firsts.{pick, place_first, place_change, first_counted, count_same}
 
 abbrev pub Row : Type 0
 Row = List (SlotState BufferState)
 
-same_number : (n : ℕ) → (n == n) ≡ true
+pub same_number : (n : ℕ) → (n == n) ≡ true
 same_number n = grind (arith, nat_tests)
 
 not_equal : (m n : ℕ) → (m == n) ≡ false → m ≢ n
@@ -39,6 +40,11 @@ seated_at slots p (t ∷ ts) s all e =
     (λ _ here. subst (λ u. SlotFits u (slice_get slots u.number)) (same_Some t s here) all.0)
     (λ _ here. seated_at slots p ts s all.1 here)
     e
+
+pub slot_at : (slots : Row) (ss : List SeatState) (i : ℕ) (s : SeatState) → slice_get ss i ≡ Some s → AllSeated slots ss → SlotFits s (slice_get slots s.number)
+slot_at slots [] i s at all = absurd (none-some s at)
+slot_at slots (t ∷ ts) zero s at all = subst (λ (u : SeatState). SlotFits u (slice_get slots u.number)) (same_Some t s at) all.0
+slot_at slots (t ∷ ts) (suc i) s at all = slot_at slots ts i s at all.1
 
 pub slot_within : (slots : Row) (s : SeatState) → SlotFits s (slice_get slots s.number) → s.number < length slots
 slot_within slots s fits = by_slot (slice_get slots s.number) refl fits
@@ -110,27 +116,6 @@ seated_change slots p f (t ∷ ts) s y e keeps fits within apart all =
     ))
     e
 
-seated_push : (slots : Row) (ss : List SeatState) (x : SeatState) → AllSeated slots ss → SlotFits x (slice_get slots x.number) → AllSeated slots (ss ++ x ∷ [])
-seated_push slots [] x all fits = (fits, tt)
-seated_push slots (s ∷ ss) x all fits = (all.0, seated_push slots ss x all.1 fits)
-
-pub seated_to_end : (slots : Row) (p : SeatState → Bool) (f : SeatState → SeatState) (ss : List SeatState) (s : SeatState) (y : SlotState BufferState)
-    → find p ss ≡ Some s → (f s).number ≡ s.number → SlotFits (f s) (Some y) → s.number < length slots → count_of (has_number s.number) ss ≤ 1 → AllSeated slots ss
-    → AllSeated (slice_set slots s.number y) (change_to_end p f ss)
-seated_to_end slots p f [] s y e keeps fits within apart all = tt
-seated_to_end slots p f (t ∷ ts) s y e keeps fits within apart all =
-    pick (p t) (λ w. (if w then Some t else find p ts) ≡ Some s → AllSeated (slice_set slots s.number y) (if w then ts ++ f t ∷ [] else t ∷ change_to_end p f ts))
-    (λ _ here.
-    let is = same_Some t s here in
-    seated_push (slice_set slots s.number y) ts (f t) (seated_others slots ts s.number y (others_none s.number t s _ is refl apart) all.1) (seated_here slots f t s y is keeps fits within))
-    (λ _ here.
-    let more = first_counted (has_number s.number) p ts s here (same_number s.number) in
-    let isnt = counted_out (has_number s.number t) _ more apart in (
-      subst (λ o. SlotFits t o) (sym (slice_get-set_other slots s.number t.number y (not_equal t.number s.number isnt))) all.0,
-      seated_to_end slots p f ts s y here keeps fits within (omega (arith, apart)) all.1,
-    ))
-    e
-
 -- a change of the seat alone
 seated_same : (slots : Row) (p : SeatState → Bool) (f : SeatState → SeatState) (ss : List SeatState)
     → ((s : SeatState) → find p ss ≡ Some s → SlotFits s (slice_get slots s.number) → SlotFits (f s) (slice_get slots (f s).number)) → AllSeated slots ss → AllSeated slots (change_first p f ss)
@@ -147,11 +132,6 @@ apart_change p f ss keeps apart n =
     let a = count_same (has_number n) p f ss (λ s _ e. ap (λ (m : ℕ). m == n) (sym (keeps s)) ∙ e) in
     omega (arith, a, apart n)
 
-apart_to_end : (p : SeatState → Bool) (f : SeatState → SeatState) (ss : List SeatState) → ((s : SeatState) → (f s).number ≡ s.number) → ((n : ℕ) → count_of (has_number n) ss ≤ 1) → (n : ℕ) → count_of (has_number n) (change_to_end p f ss) ≤ 1
-apart_to_end p f ss keeps apart n =
-    let a = count_to_end (has_number n) p f ss (λ s e. ap (λ (m : ℕ). m == n) (sym (keeps s)) ∙ e) in
-    omega (arith, a, apart n)
-
 -- the lock of a slot with this buffer in it, and of one that gave it away
 lock_in : (slots : Row) (n hart : ℕ) (v : BufferState) → slice_get slots n ≡ Some (filled n v)
     → lock_of slots n hart ≡ (slice_set slots n (record { number = n; inside = None; holder = Some hart }), Some (record { number = n; hart = hart; value = v }))
@@ -163,6 +143,11 @@ unfolding lock_of
 lock_out slots n hart other e =
     ap (lock_at slots n hart) e ∙ ap (λ (w : Row). let r : Row × Option (GuardState BufferState) = (w, None) in r) (set_same slots n _ e)
 
+-- what a get answers
+pub get_free : (hart b : ℕ) (ss : List SeatState) (s : SeatState) → seat_of b ss ≡ None → find is_free ss ≡ Some s → get_of hart b ss ≡ (change_first is_free (as_new hart b) ss, Held (guard_of hart b s None))
+unfolding get_of
+get_free hart b ss s none e = ap (get_by hart b ss) none ∙ ap (get_new hart b ss) e
+
 -- a buffer that a get found, in the hand or out
 abbrev pub LendGives : Row → List SeatState → ℕ → ℕ → ℕ → SeatState → Option (GuardState BufferState) → Type 0
 LendGives slots ss i hart b s None = ((set ss i s, Waits) ≡ get_of hart b ss) × IsSeated slots (set ss i s)
@@ -170,19 +155,15 @@ LendGives slots ss i hart b s (Some g) =
     ((set ss i (with_holder hart s), Held (record { number = g.number; hart = g.hart; value = record { block = b; content = g.value.content } })) ≡ get_of hart b ss)
     × IsSeated slots (set ss i (with_holder hart s))
 
-get_out : (hart b other : ℕ) (ss : List SeatState) (s : SeatState) → seat_of b ss ≡ Some s → s.holder ≡ Some other → get_of hart b ss ≡ (ss, Waits)
+pub get_out : (hart b other : ℕ) (ss : List SeatState) (s : SeatState) → seat_of b ss ≡ Some s → s.holder ≡ Some other → get_of hart b ss ≡ (ss, Waits)
 unfolding get_of
 get_out hart b other ss s e out =
     ap (get_by hart b ss) e ∙ ap (λ (h : Option ℕ). if is_some h then (ss, Waits) else (with_seat b (with_holder hart) ss, Held (guard_of hart b s s.content))) out
 
-get_in : (hart b : ℕ) (ss : List SeatState) (s : SeatState) → seat_of b ss ≡ Some s → s.holder ≡ None → get_of hart b ss ≡ (with_seat b (with_holder hart) ss, Held (guard_of hart b s s.content))
+pub get_in : (hart b : ℕ) (ss : List SeatState) (s : SeatState) → seat_of b ss ≡ Some s → s.holder ≡ None → get_of hart b ss ≡ (with_seat b (with_holder hart) ss, Held (guard_of hart b s s.content))
 unfolding get_of
 get_in hart b ss s e none =
     ap (get_by hart b ss) e ∙ ap (λ (h : Option ℕ). if is_some h then (ss, Waits) else (with_seat b (with_holder hart) ss, Held (guard_of hart b s s.content))) none
-
-get_free : (hart b : ℕ) (ss : List SeatState) (s : SeatState) → seat_of b ss ≡ None → find is_free ss ≡ Some s → get_of hart b ss ≡ (change_first is_free (as_new hart b) ss, Held (guard_of hart b s None))
-unfolding get_of
-get_free hart b ss s none e = ap (get_by hart b ss) none ∙ ap (get_new hart b ss) e
 
 pub lend_gives : (slots new : Row) (ss : List SeatState) (i hart b : ℕ) (s : SeatState) (r : Option (GuardState BufferState))
     → position (has_block b) ss ≡ Some i → s ≡ get_or ss i s → IsSeated slots ss → (new, r) ≡ lock_of slots s.number hart → LendGives new ss i hart b s r
@@ -220,9 +201,7 @@ lend_gives slots new ss i hart b s r at is seated lock = by_holder s.holder refl
 -- a free buffer, for a block that none has
 abbrev pub RenewGives : Row → List SeatState → ℕ → ℕ → ℕ → SeatState → Option (GuardState BufferState) → Type 0
 RenewGives slots ss i hart b s None = ⊥
-RenewGives slots ss i hart b s (Some g) =
-    ((set ss i (as_new hart b s), Held (record { number = g.number; hart = g.hart; value = record { block = b; content = None } })) ≡ get_of hart b ss)
-    × IsSeated slots (set ss i (as_new hart b s))
+RenewGives slots ss i hart b s (Some g) = (g.number ≡ s.number) × (g.hart ≡ hart) × IsSeated slots (set ss i (as_new hart b s))
 
 free_in : (p : Bool) (h : Option ℕ) → (not p && is_none h) ≡ true → h ≡ None
 free_in true h e = absurd (cc e)
@@ -230,27 +209,27 @@ free_in false None e = refl
 free_in false (Some k) e = absurd (cc e)
 
 pub renew_gives : (slots new : Row) (ss : List SeatState) (i hart b : ℕ) (s : SeatState) (r : Option (GuardState BufferState))
-    → position (has_block b) ss ≡ None → position is_free ss ≡ Some i → s ≡ get_or ss i s → IsSeated slots ss → (new, r) ≡ lock_of slots s.number hart → RenewGives new ss i hart b s r
-renew_gives slots new ss i hart b s r none at is seated lock =
-    let there = slot_in s (slice_get slots s.number) fits (free_in s.pinned s.holder (first_passes is_free ss s first)) in
+    → slice_get ss i ≡ Some s → is_free s ≡ true → IsSeated slots ss → (new, r) ≡ lock_of slots s.number hart → RenewGives new ss i hart b s r
+renew_gives slots new ss i hart b s r at free seated lock =
+    let there = slot_in s (slice_get slots s.number) fits (free_in s.pinned s.holder free) in
     let locked = lock ∙ lock_in slots s.number hart there.0 there.1 in
     let left : SlotState BufferState = record { number = s.number; inside = None; holder = Some hart } in
-    let set_is : set ss i (as_new hart b s) ≡ change_first is_free (as_new hart b) ss = place_change is_free (as_new hart b) ss i s _ at (ap (as_new hart b) (sym is)) in
-    let got : (set ss i (as_new hart b s), Held (record { number = s.number; hart = hart; value = record { block = b; content = None } })) ≡ get_of hart b ss =
-    ap (λ (w : List SeatState). let q : List SeatState × Got = (w, Held (guard_of hart b s None)) in q) set_is
-    ∙ sym (get_free hart b ss s (no_place (has_block b) ss none) first) in
-    let seated_then : IsSeated (slice_set slots s.number left) (change_first is_free (as_new hart b) ss) = record {
-      all = seated_change slots is_free (as_new hart b) ss s left first refl (refl, refl, tt) (slot_within slots s fits) (seated.apart s.number) seated.all;
-      apart = apart_change is_free (as_new hart b) ss (λ _. refl) seated.apart;
+    let set_is : set ss i (as_new hart b s) ≡ change_first (has_number s.number) (as_new hart b) ss = place_change (has_number s.number) (as_new hart b) ss i s _ place (ap (as_new hart b) (get_or_from_slice_get ss i s s at)) in
+    let seated_then : IsSeated (slice_set slots s.number left) (change_first (has_number s.number) (as_new hart b) ss) = record {
+      all = seated_change slots (has_number s.number) (as_new hart b) ss s left first refl (refl, refl, tt) (slot_within slots s fits) (seated.apart s.number) seated.all;
+      apart = apart_change (has_number s.number) (as_new hart b) ss (λ _. refl) seated.apart;
     } in
     let P : Row × Option (GuardState BufferState) → Type 0 = λ w. RenewGives w.0 ss i hart b s w.1 in
-    subst P (sym locked) (got, subst (λ (w : List SeatState). IsSeated (slice_set slots s.number left) w) (sym set_is) seated_then)
+    subst P (sym locked) (refl, refl, subst (λ (w : List SeatState). IsSeated (slice_set slots s.number left) w) (sym set_is) seated_then)
   where
-    first : find is_free ss ≡ Some s
-    first = place_first is_free ss i s at ∙ ap (λ (w : SeatState). Some w) (sym is)
+    place : position (has_number s.number) ss ≡ Some i
+    place = once_at (has_number s.number) ss i s (seated.apart s.number) at (same_number s.number)
+
+    first : find (has_number s.number) ss ≡ Some s
+    first = place_first (has_number s.number) ss i s place ∙ ap (λ (w : SeatState). Some w) (get_or_from_slice_get ss i s s at)
 
     fits : SlotFits s (slice_get slots s.number)
-    fits = seated_at slots is_free ss s seated.all first
+    fits = slot_at slots ss i s at seated.all
 
 -- the seat that a guard holds
 pub held_seat : (ss : List SeatState) (g : GuardState BufferState) → IsHeld ss g → (s : SeatState) × (seat_of g.value.block ss ≡ Some s) × IsGuardOf g s
@@ -301,7 +280,7 @@ seated_pinned slots ss b pinned seated = record {
 }
 
 -- a guard given back into its slot
-pub seated_given_back : (slots : Row) (ss : List SeatState) (g : GuardState BufferState) → IsSeated slots ss → IsHeld ss g → g.value.content ≡ kept g.value.block ss → IsSeated (unlocked slots g) (given_back g.value.block ss)
+pub seated_given_back : (slots : Row) (ss : List SeatState) (g : GuardState BufferState) → IsSeated slots ss → IsHeld ss g → g.value.content ≡ kept g.value.block ss → IsSeated (unlocked slots g) (with_seat g.value.block without_holder ss)
 unfolding unlocked
 seated_given_back slots ss g seated held unchanged =
     let at = held_seat ss g held in
@@ -309,11 +288,11 @@ seated_given_back slots ss g seated held unchanged =
     let fits = seated_at slots (has_block g.value.block) ss s seated.all at.1 in
     let same : g.value.content ≡ s.content = unchanged ∙ ap (λ (o : Option SeatState). kept_of o) at.1 in
     let y : SlotState BufferState = filled s.number g.value in
-    let after : IsSeated (slice_set slots s.number y) (given_back g.value.block ss) = record {
-      all = seated_to_end slots (has_block g.value.block) without_holder ss s y at.1 refl (refl, refl, same) (slot_within slots s fits) (seated.apart s.number) seated.all;
-      apart = apart_to_end (has_block g.value.block) without_holder ss (λ _. refl) seated.apart;
+    let after : IsSeated (slice_set slots s.number y) (with_seat g.value.block without_holder ss) = record {
+      all = seated_change slots (has_block g.value.block) without_holder ss s y at.1 refl (refl, refl, same) (slot_within slots s fits) (seated.apart s.number) seated.all;
+      apart = apart_change (has_block g.value.block) without_holder ss (λ _. refl) seated.apart;
     } in
-    subst (λ (n : ℕ). IsSeated (slice_set slots n (filled n g.value)) (given_back g.value.block ss)) at.2.number after
+    subst (λ (n : ℕ). IsSeated (slice_set slots n (filled n g.value)) (with_seat g.value.block without_holder ss)) at.2.number after
   where
     kept_of : Option SeatState → Option (List ℕ)
     kept_of None = None
@@ -342,24 +321,15 @@ lends_so slots ss i hart b s g t v gives seat value = rw (seat, value) gives
 
 pub renews_so : (slots : Row) (ss : List SeatState) (i hart b : ℕ) (s : SeatState) (g : GuardState BufferState) (t : SeatState) (v : BufferState)
     → RenewGives slots ss i hart b s (Some g) → t ≡ as_new hart b s → v ≡ record { block = b; content = None }
-    → ((set ss i t, Held (record { number = g.number; hart = g.hart; value = v })) ≡ get_of hart b ss) × IsSeated slots (set ss i t)
-renews_so slots ss i hart b s g t v gives seat value = rw (seat, value) gives
+    → (Held (record { number = g.number; hart = g.hart; value = v }) ≡ Held (guard_of hart b s None)) × IsSeated slots (set ss i t)
+renews_so slots ss i hart b s g t v gives seat value = (
+  ap (λ (n : ℕ). Held (record { number = n; hart = g.hart; value = v })) gives.0
+      ∙ ap (λ (h : ℕ). Held (record { number = s.number; hart = h; value = v })) gives.1
+      ∙ ap (λ (w : BufferState). Held (record { number = s.number; hart = hart; value = w })) value,
+  subst (λ (w : SeatState). IsSeated slots (set ss i w)) (sym seat) gives.2,
+)
 
 -- what follows on both sides of a result
 pub either_way : {T E A B P : Type 0} (r : Result T E) → OnOk r A → OnErr r B → (A → P) → (B → P) → P
 either_way (Ok x) a b f g = f a
 either_way (Err e) a b f g = g b
-
--- a list lent as a slice comes back whole
-pub written_back : {X : Type 0} (n : ℕ) (new old : List X) → n ≡ length new → length new ≡ length old → take n (new ++ drop (length new) old) ≡ new
-written_back n new old is same =
-    let front : take (length new) (new ++ drop (length new) old) ≡ new = take_at new (drop (length new) old) (length new) refl in
-    ap (λ (k : ℕ). take k (new ++ drop (length new) old)) is ∙ front
-
-pub held_within : (slots : Row) (ss : List SeatState) (g : GuardState BufferState) → IsSeated slots ss → IsHeld ss g → g.number < length slots
-unfolding IsOut
-held_within slots ss g seated held = slice_get_within slots g.number (emptied g) (held_out slots ss g seated held)
-
--- the same, for the slots and seats as the code left them
-pub seated_as : (slots : Row) (ss : List SeatState) (x : Row) (y : List SeatState) → slots ≡ x → ss ≡ y → IsSeated x y → IsSeated slots ss
-seated_as slots ss x y e f seated = rw (e, f) seated

@@ -4,4 +4,5 @@ pub mod Lists
 pub mod Seats
 pub mod Getting
 pub mod Rows
+pub mod Order
 pub mod Lending

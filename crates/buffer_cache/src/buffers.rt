@@ -1,13 +1,15 @@
 // The buffers, their slots, and the order of giving back.
-ghost use Rattle.std.specs.Prelude.{count_by, ◌≡◌, ◌↔◌, ◌<◌, ◌≤◌, length, position, slice_get, Some, None, IsSome, IsTrue, IfOk, IfSome, OnOk, OnErr};
+ghost use Rattle.std.specs.Prelude.{count_by, ◌≡◌, ◌↔◌, ◌<◌, ◌≤◌, length, position, slice_set, Some, None, IsSome, IsTrue, IfOk, IfSome, OnOk, OnErr};
 ghost use Rattle.std.specs.List.{find};
 ghost use Rattle.sleep_lock.specs.SleepLock.{GuardState};
 ghost use Rattle.buffer_cache.specs.Buffers.{BufferState};
 ghost use Rattle.block_device.specs.Blocks.{block_at, faults_after};
-ghost use Rattle.buffer_cache.specs.Lists.{count_of};
-ghost use Rattle.buffer_cache.specs.Seats.{has_block, is_free, is_held_by, is_pinned, seat_of, kept, IsHeld, with_seat, with_content, with_pin, given_back, without_holder, unused_from};
+ghost use Rattle.buffer_cache.specs.Lists.{change_to_end, count_of};
+ghost use Rattle.buffer_cache.specs.Seats.{has_block, is_free, is_held_by, is_pinned, seat_of, kept, IsHeld, with_seat, with_content, with_pin, given_back, without_holder, as_new, unused_from};
 ghost use Rattle.buffer_cache.specs.Rows.{IsSeated};
-ghost use Rattle.buffer_cache.specs.Getting.{get_of};
+ghost use Rattle.buffer_cache.specs.Order.{numbered, in_order, numbers, is_same, IsOrdered, IsKept};
+ghost use Rattle.buffer_cache.specs.Getting.{get_of, guard_of};
+ghost use Rattle.buffer_cache.specs.declared.got.Got.TheVariants.{Held};
 ghost use Rattle.buffer_cache.specs.Limits.{buffer_count};
 
 use crate::buffer::Buffer;
@@ -19,30 +21,32 @@ use sleep_lock::{Guard, RetiredSlots, Slots};
 use std::alloc::{AllocError, Global};
 use std::marker::Model;
 
-// So many buffers at the end of the list are found soonest by looking from there.
-const LATEST: usize = 8;
+// For blocks whose numbers differ by less than this, the likely places are apart.
+const LIKELY: usize = 256;
 
 /// Forty-six buffers: the memory of a cache, taken before there is one. A contract sees the list of what is kept of
 /// each, in order of giving back.
 #[derive(Drop)]
 pub struct Buffers {
+    // Each in the place of its number, where it stays.
     seats: Vec<Seat>,
+    // Their numbers, in order of giving back.
+    order: [u8; BUFFERS],
     slots: Slots<Buffer>,
-    // The place at which a buffer was found last that isn't one of the latest. It is asked for again when it is given back; and where
-    // blocks are read in turn, the next one stands there then.
-    likely: usize,
+    // By a block's number modulo their count: where such a block was found last. It may have left since.
+    likely: [u8; LIKELY],
 }
 
 impl Model for Buffers {
     ghost use Rattle.std.specs.Prelude.{List};
     ghost use Rattle.buffer_cache.specs.Seats.{SeatState};
-    ghost use Rattle.buffer_cache.specs.Rows.{IsSeated};
+    ghost use Rattle.buffer_cache.specs.Order.{in_order, IsKept};
 
     ghost Value = { List SeatState };
 
-    ghost view = { λ b. b.seats.items };
+    ghost view = { λ b. in_order b.seats.items b.order };
 
-    ghost invariant = { λ b. IsSeated b.slots b.seats.items };
+    ghost invariant = { λ b. IsKept b.slots b.seats.items b.order };
 }
 
 impl Buffers {
@@ -54,8 +58,9 @@ impl Buffers {
         let slots = new_slots(alloc)?;
         Ok(Buffers {
             seats,
+            order: new_order(),
             slots,
-            likely: 0,
+            likely: [0; LIKELY],
         })
     }
 
@@ -75,7 +80,7 @@ impl Buffers {
         requires once { count_of (has_block b) self.now ≤ 1 }
         ensures { IsTrue result ↔ IsSome (seat_of b self.now) }
     {
-        place_of(&self.seats, self.likely, b).is_some()
+        place_of(&self.seats, &self.likely, b).is_some()
     }
 
     // A block's buffer, else the first that is free.
@@ -84,7 +89,14 @@ impl Buffers {
         requires once { count_of (has_block b) self.old ≤ 1 }
         ensures { (self.new, result) ≡ get_of hart b self.old }
     {
-        get_in(&mut self.seats, &mut self.slots, &mut self.likely, hart, b)
+        get_in(
+            &mut self.seats,
+            &self.order,
+            &mut self.slots,
+            &mut self.likely,
+            hart,
+            b,
+        )
     }
 
     // The device's block into a buffer that isn't valid.
@@ -110,7 +122,7 @@ impl Buffers {
         ensures contents { D.contents device.new ≡ D.contents device.old }
         ensures faults { D.failures device.new ≡ faults_after result (D.failures device.old) }
     {
-        fill_in(&mut self.seats, self.likely, device, guard)
+        fill_in(&mut self.seats, &self.likely, device, guard)
     }
 
     // Keeps a guard's bytes.
@@ -120,7 +132,7 @@ impl Buffers {
         requires once { count_of (has_block guard.now.value.block) self.old ≤ 1 }
         ensures { IfSome guard.now.value.content (λ bytes. self.new ≡ with_seat guard.now.value.block (with_content bytes) self.old) }
     {
-        keep_in(&mut self.seats, self.likely, guard)
+        keep_in(&mut self.seats, &self.likely, guard)
     }
 
     // Gives a buffer back, with the bytes that are kept. It is the most recent one then.
@@ -130,9 +142,9 @@ impl Buffers {
         requires once { count_of (has_block guard.value.block) self.old ≤ 1 }
         ensures { self.new ≡ given_back guard.value.block self.old }
     {
-        let b = guard.value().block();
+        let place = guard.number();
         self.slots.unlock(guard);
-        give_back(&mut self.seats, self.likely, b);
+        give_back(&mut self.seats, &mut self.order, place);
     }
 
     // Pins a block's buffer, or takes the pin away.
@@ -141,7 +153,7 @@ impl Buffers {
         requires once { count_of (has_block b) self.old ≤ 1 }
         ensures { self.new ≡ with_seat b (with_pin pinned) self.old }
     {
-        pin_in(&mut self.seats, self.likely, b, pinned);
+        pin_in(&mut self.seats, &self.likely, b, pinned);
     }
 
     // Ends the buffers. A guard that is out may then be ended too.
@@ -150,6 +162,7 @@ impl Buffers {
     {
         let Buffers {
             seats: _,
+            order: _,
             slots,
             likely: _,
         } = self;
@@ -177,19 +190,20 @@ fn new_slots(alloc: Global) -> Result<Slots<Buffer>, AllocError>
     Slots::new(alloc, buffers)
 }
 
-// Where a block's buffer is: most often in this place.
-fn place_of(seats: &[Seat], likely: usize, b: u32) -> Option<usize>
+// Where a block's buffer is: most often where such a block was found last.
+fn place_of(seats: &[Seat], likely: &[u8; LIKELY], b: u32) -> Option<usize>
     requires once { count_of (has_block b) seats.now ≤ 1 }
     ensures { result ≡ position (has_block b) seats.now }
 {
-    if likely < seats.len() && seats[likely].has_block(b) {
-        return Some(likely);
+    let place = likely[b as usize % LIKELY] as usize;
+    if place < seats.len() && seats[place].has_block(b) {
+        return Some(place);
     }
-    latest_of(seats, b)
+    searched_place(seats, b)
 }
 
-// The same, from the most recent one back.
-fn latest_of(seats: &[Seat], b: u32) -> Option<usize>
+// The same, from the end back.
+fn searched_place(seats: &[Seat], b: u32) -> Option<usize>
     requires once { count_of (has_block b) seats.now ≤ 1 }
     ensures { result ≡ position (has_block b) seats.now }
 {
@@ -204,10 +218,17 @@ fn latest_of(seats: &[Seat], b: u32) -> Option<usize>
 }
 
 // The least recently given back buffer that is neither out nor pinned.
-fn first_free(seats: &[Seat]) -> Option<usize>
-    ensures { result ≡ position is_free seats.now }
+fn first_free(seats: &[Seat], order: &[u8; BUFFERS]) -> Option<usize>
+    requires ordered { IsOrdered seats.now order.now }
+    ensures { result ≡ find (λ n. is_free (numbered seats.now n)) order.now }
 {
-    seats.iter().position(|seat| seat.is_free())
+    for n in order {
+        let place = *n as usize;
+        if seats[place].is_free() {
+            return Some(place);
+        }
+    }
+    None
 }
 
 fn count_held(seats: &[Seat], hart: u8) -> usize
@@ -224,27 +245,26 @@ fn count_pinned(seats: &[Seat]) -> usize
 
 fn get_in(
     seats: &mut Vec<Seat>,
+    order: &[u8; BUFFERS],
     slots: &mut Slots<Buffer>,
-    likely: &mut usize,
+    likely: &mut [u8; LIKELY],
     hart: u8,
     b: u32,
 ) -> Got
-    requires free { IsSome (find is_free seats.old.items) }
+    requires free { IsSome (find is_free (in_order seats.old.items order.now)) }
     requires once { count_of (has_block b) seats.old.items ≤ 1 }
-    requires seated { IsSeated slots.old seats.old.items }
-    ensures gives { (seats.new.items, result) ≡ get_of hart b seats.old.items }
-    ensures seated { IsSeated slots.new seats.new.items }
+    requires kept { IsKept slots.old seats.old.items order.now }
+    ensures gives { (in_order seats.new.items order.now, result) ≡ get_of hart b (in_order seats.old.items order.now) }
+    ensures kept { IsKept slots.new seats.new.items order.now }
 {
-    match place_of(seats, *likely, b) {
+    match place_of(seats, likely, b) {
         Some(i) => {
-            if i + LATEST < seats.len() {
-                *likely = i;
-            }
+            likely[b as usize % LIKELY] = i as u8;
             lend(seats, slots, i, hart, b)
         }
         None => {
-            let i = first_free(seats).unwrap();
-            *likely = i;
+            let i = first_free(seats, order).unwrap();
+            likely[b as usize % LIKELY] = i as u8;
             renew(seats, slots, i, hart, b)
         }
     }
@@ -270,10 +290,11 @@ fn lend(seats: &mut Vec<Seat>, slots: &mut Slots<Buffer>, i: usize, hart: u8, b:
 
 // A free buffer, for a block that none has.
 fn renew(seats: &mut Vec<Seat>, slots: &mut Slots<Buffer>, i: usize, hart: u8, b: u32) -> Got
-    requires none { position (has_block b) seats.old.items ≡ None }
-    requires place { position is_free seats.old.items ≡ Some i }
+    requires place { i < length seats.old.items }
+    requires free { IsTrue (is_free (numbered seats.old.items i)) }
     requires seated { IsSeated slots.old seats.old.items }
-    ensures gives { (seats.new.items, result) ≡ get_of hart b seats.old.items }
+    ensures seats { seats.new.items ≡ slice_set seats.old.items i (as_new hart b (numbered seats.old.items i)) }
+    ensures gives { result ≡ Held (guard_of hart b (numbered seats.old.items i) None) }
     ensures seated { IsSeated slots.new seats.new.items }
 {
     let seat = &mut seats[i];
@@ -289,7 +310,7 @@ fn renew(seats: &mut Vec<Seat>, slots: &mut Slots<Buffer>, i: usize, hart: u8, b
 
 fn fill_in<D: Device>(
     seats: &mut Vec<Seat>,
-    likely: usize,
+    likely: &[u8; LIKELY],
     device: &mut D,
     guard: &mut Guard<Buffer>,
 ) -> Result<(), Fault>
@@ -318,7 +339,7 @@ fn fill_in<D: Device>(
     Ok(())
 }
 
-fn keep_in(seats: &mut Vec<Seat>, likely: usize, guard: &Guard<Buffer>)
+fn keep_in(seats: &mut Vec<Seat>, likely: &[u8; LIKELY], guard: &Guard<Buffer>)
     requires held { IsSome (seat_of guard.now.value.block seats.old.items) }
     requires valid { IsSome guard.now.value.content }
     requires once { count_of (has_block guard.now.value.block) seats.old.items ≤ 1 }
@@ -330,7 +351,7 @@ fn keep_in(seats: &mut Vec<Seat>, likely: usize, guard: &Guard<Buffer>)
     seat.keep(buffer.bytes());
 }
 
-fn pin_in(seats: &mut Vec<Seat>, likely: usize, b: u32, pinned: bool)
+fn pin_in(seats: &mut Vec<Seat>, likely: &[u8; LIKELY], b: u32, pinned: bool)
     requires there { IsSome (seat_of b seats.old.items) }
     requires once { count_of (has_block b) seats.old.items ≤ 1 }
     ensures { seats.new.items ≡ with_seat b (with_pin pinned) seats.old.items }
@@ -340,14 +361,41 @@ fn pin_in(seats: &mut Vec<Seat>, likely: usize, b: u32, pinned: bool)
     seat.set_pinned(pinned);
 }
 
-fn give_back(seats: &mut [Seat], likely: usize, b: u32)
-    requires there { IsSome (seat_of b seats.old) }
-    requires once { count_of (has_block b) seats.old ≤ 1 }
-    ensures { seats.new ≡ given_back b seats.old }
+fn give_back(seats: &mut Vec<Seat>, order: &mut [u8; BUFFERS], i: u32)
+    requires place { i < length seats.old.items }
+    requires ordered { IsOrdered seats.old.items order.old }
+    ensures seats { seats.new.items ≡ slice_set seats.old.items i (without_holder (numbered seats.old.items i)) }
+    ensures order { order.new ≡ change_to_end (is_same i) (λ n. n) order.old }
 {
-    let i = place_of(seats, likely, b).unwrap();
-    let seat = &mut seats[i];
+    let seat = &mut seats[i as usize];
     seat.take_back();
-    let rest = &mut seats[i..];
-    rest.rotate_left(1);
+    move_last(order, i as u8);
+}
+
+// From the end on, each number takes the place of the one before it, up to the place of this one, which is the last then.
+fn move_last(order: &mut [u8; BUFFERS], number: u8)
+    requires there { count_of (is_same number) order.old ≡ 1 }
+    ensures { order.new ≡ change_to_end (is_same number) (λ n. n) order.old }
+{
+    let mut next = number;
+    for back in 0..BUFFERS {
+        let place = BUFFERS - 1 - back;
+        let here = order[place];
+        order[place] = next;
+        if here == number {
+            return;
+        }
+        next = here;
+    }
+}
+
+// The numbers from 0 on.
+fn new_order() -> [u8; BUFFERS]
+    ensures { result ≡ numbers }
+{
+    let mut order = [0; BUFFERS];
+    for number in 0..BUFFERS {
+        order[number] = number as u8;
+    }
+    order
 }

@@ -1,7 +1,12 @@
-use Rattle.std.proofs.Common.{◌∙◌}
-use Rattle.buffer_cache.specs.Seats.{is_held_by}
+use Rattle.std.proofs.Common.{◌∙◌, List, sym, ap}
+use Rattle.buffer_cache.specs.Lists.{count_of}
+use Rattle.buffer_cache.specs.Seats.{SeatState, is_held_by}
 use Rattle.buffer_cache.proofs.Firsts.{counted_in}
+use Rattle.buffer_cache.proofs.Ordered.{counted}
 use Rattle.buffer_cache.proofs.buffers.Buffers.held_by.Goals as goal
 
 pub returns : goal.returns
-returns c = counted_in (is_held_by c.args.hart) c.deref.result.now c.args.self.now c.count_held.result c.count_held.ensures (c.deref.ensures.value ∙ c.self.view_is)
+returns c =
+    let p = is_held_by c.args.hart in
+    counted_in p c.deref.result.now c.self.inside.seats.items c.count_held.result c.count_held.ensures c.deref.ensures.value
+    ∙ sym (counted c.self.inside.seats.items c.self.inside.order p c.self.invariant.ordered) ∙ ap (λ (l : List SeatState). count_of p l) c.self.view_is

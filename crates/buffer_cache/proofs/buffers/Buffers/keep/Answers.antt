@@ -1,17 +1,36 @@
-use Rattle.std.proofs.Common.{ℕ, List, Option, Some, None, IsSome, sym, subst}
+use Rattle.std.proofs.Common.{ℕ, List, Option, Some, None, IsSome}
 use Rattle.std.specs.Prelude.{IfSome}
-use Rattle.buffer_cache.specs.Seats.{SeatState, IsHeld}
-use Rattle.buffer_cache.specs.Rows.{IsSeated}
-use Rattle.buffer_cache.proofs.Seated.{seated_filled}
+use Rattle.buffer_cache.specs.Seats.{has_block}
+use Rattle.buffer_cache.specs.Order.{IsKept}
+use Rattle.buffer_cache.proofs.Seated.{held_cached}
+use Rattle.buffer_cache.proofs.Ordered.{once_of}
+use Rattle.buffer_cache.proofs.Kept.{held_of, keeps_filled}
 use Rattle.buffer_cache.proofs.buffers.Buffers.keep.Goals as goal
 
 some_then : (o : Option (List ℕ)) {P : List ℕ → Type 0} (Q : Type 0) → IsSome o → IfSome o P → ((x : List ℕ) → P x → Q) → Q
 some_then None Q some p k = absurd (cc some)
 some_then (Some x) Q some p k = k x p
 
+if_some : (o : Option (List ℕ)) {P Q : List ℕ → Type 0} → IfSome o P → ((x : List ℕ) → P x → Q x) → IfSome o Q
+if_some None p k = p
+if_some (Some x) p k = k x p
+
+pub keep_in-requires-clause-held : goal.keep_in-requires-clause-held
+keep_in-requires-clause-held c =
+    held_cached c.self.inside.seats.items c.args.guard.now
+    (held_of c.self.inside.seats.items c.self.inside.order c.args.self.now c.args.guard.now c.self.invariant.ordered c.self.view_is c.requires.once c.requires.held)
+
+pub keep_in-requires-clause-once : goal.keep_in-requires-clause-once
+keep_in-requires-clause-once c = once_of c.self.inside.seats.items c.self.inside.order c.args.self.now (has_block c.args.guard.now.value.block) c.self.invariant.ordered c.self.view_is c.requires.once
+
 pub invariant_of-self : goal.invariant_of-self
 invariant_of-self c =
-    let items : List SeatState = c.self.inside.seats.items in
-    let held = subst (λ (l : List SeatState). IsHeld l c.args.guard.now) (sym c.self.view_is) c.requires.held in
-    some_then c.args.guard.now.value.content (IsSeated c.self.inside.slots c.keep_in.new.seats.items) c.requires.valid c.keep_in.ensures
-    (λ bytes is. subst (λ (l : List SeatState). IsSeated c.self.inside.slots l) (sym is) (seated_filled c.self.inside.slots items c.args.guard.now bytes c.self.invariant held))
+    let in_ = c.self.inside in
+    some_then c.args.guard.now.value.content (IsKept in_.slots c.keep_in.new.seats.items in_.order) c.requires.valid c.keep_in.ensures
+    (λ bytes to. (keeps_filled in_.slots in_.seats.items in_.order c.args.self.now c.keep_in.new.seats.items c.args.guard.now bytes c.self.invariant c.self.view_is c.requires.once c.requires.held to).all)
+
+pub returns : goal.returns
+returns c =
+    let in_ = c.self.inside in
+    if_some c.args.guard.now.value.content c.keep_in.ensures
+    (λ bytes to. (keeps_filled in_.slots in_.seats.items in_.order c.args.self.now c.keep_in.new.seats.items c.args.guard.now bytes c.self.invariant c.self.view_is c.requires.once c.requires.held to).view)

@@ -1,25 +1,37 @@
-use Rattle.std.proofs.Common.{◌≡◌, ℕ, List, length, sym, ◌∙◌, ap, subst, arith}
-use Rattle.buffer_cache.specs.Buffers.{BufferState}
-use Rattle.buffer_cache.specs.Seats.{SeatState, IsHeld, kept, has_block, without_holder, given_back}
-use Rattle.buffer_cache.proofs.Firsts.{length-change_to_end}
-use Rattle.buffer_cache.proofs.Seated.{held_out, seated_given_back, seated_as, written_back}
+use Rattle.std.proofs.Common.{◌≡◌, ℕ, ◌<◌, length, sym, ◌∙◌, ap, subst, set}
+use Rattle.buffer_cache.specs.Lists.{change_to_end}
+use Rattle.buffer_cache.specs.Seats.{without_holder}
+use Rattle.buffer_cache.specs.Order.{IsKept, numbered, is_same}
+use Rattle.buffer_cache.proofs.Seated.{Row, held_out}
+use Rattle.buffer_cache.proofs.Kept.{held_of, held_number, keeps_given}
 use Rattle.buffer_cache.proofs.buffers.Buffers.release.Goals as goal
 
 pub unlock-requires : goal.unlock-requires
 unlock-requires c =
-    held_out c.self.inside.slots c.self.inside.seats.items c.args.guard c.self.invariant
-    (subst (λ (l : List SeatState). IsHeld l c.args.guard) (sym c.self.view_is) c.requires.held)
+    held_out c.self.inside.slots c.self.inside.seats.items c.args.guard c.self.invariant.seated
+    (held_of c.self.inside.seats.items c.self.inside.order c.args.self.now c.args.guard c.self.invariant.ordered c.self.view_is c.requires.once c.requires.held)
+
+pub give_back-requires-clause-place : goal.give_back-requires-clause-place
+give_back-requires-clause-place c =
+    subst (λ (n : ℕ). n < length c.self.inside.seats.items) (sym c.number-place.ensures)
+    (held_number c.self.inside.seats.items c.self.inside.order c.args.self.now c.args.guard c.self.invariant.ordered c.self.view_is c.requires.once c.requires.held)
+
+pub give_back-requires-clause-ordered : goal.give_back-requires-clause-ordered
+give_back-requires-clause-ordered c = c.self.invariant.ordered
 
 pub invariant_of-self : goal.invariant_of-self
 invariant_of-self c =
-    let items : List SeatState = c.self.inside.seats.items in
-    let held = subst (λ (l : List SeatState). IsHeld l c.args.guard) (sym c.self.view_is) c.requires.held in
-    let unchanged = subst (λ (l : List SeatState). c.args.guard.value.content ≡ kept c.args.guard.value.block l) (sym c.self.view_is) c.requires.unchanged in
-    let seated = seated_given_back c.self.inside.slots items c.args.guard c.self.invariant held unchanged in
-    let b : c.block-b.result ≡ c.args.guard.value.block = c.block-b.ensures ∙ ap (λ (v : BufferState). v.block) c.value.ensures in
-    let given : c.give_back.new.seats ≡ given_back c.args.guard.value.block items =
-    c.give_back.ensures ∙ ap (λ (k : ℕ). given_back k c.deref_mut.result.now) b ∙ ap (given_back c.args.guard.value.block) c.deref_mut.ensures.value in
-    let long : length c.give_back.new.seats ≡ length items = ap (λ (l : List SeatState). length l) given ∙ length-change_to_end (has_block c.args.guard.value.block) without_holder items in
-    let same : length c.deref_mut.result.now ≡ length items = ap (λ (l : List SeatState). length l) c.deref_mut.ensures.value in
-    let back = written_back c.self.inside.seats.len c.give_back.new.seats items (omega (arith, long, c.deref_mut.ensures.len, same)) long in
-    seated_as _ _ _ _ c.unlock.ensures.slots (back ∙ given) seated
+    let in_ = c.self.inside in
+    let seats : c.give_back.new.seats.items ≡ set in_.seats.items c.args.guard.number (without_holder (numbered in_.seats.items c.args.guard.number)) =
+    c.give_back.ensures.seats ∙ ap (λ (n : ℕ). set in_.seats.items n (without_holder (numbered in_.seats.items n))) c.number-place.ensures in
+    let order = c.give_back.ensures.order ∙ ap (λ (n : ℕ). change_to_end (is_same n) (λ k. k) in_.order) c.number-place.ensures in
+    let after = keeps_given in_.slots in_.seats.items in_.order c.args.self.now c.give_back.new.seats.items c.give_back.new.order c.args.guard c.self.invariant c.self.view_is c.requires.once c.requires.held c.requires.unchanged seats order in
+    subst (λ (w : Row). IsKept w c.give_back.new.seats.items c.give_back.new.order) (sym c.unlock.ensures.slots) after.all
+
+pub returns : goal.returns
+returns c =
+    let in_ = c.self.inside in
+    let seats : c.give_back.new.seats.items ≡ set in_.seats.items c.args.guard.number (without_holder (numbered in_.seats.items c.args.guard.number)) =
+    c.give_back.ensures.seats ∙ ap (λ (n : ℕ). set in_.seats.items n (without_holder (numbered in_.seats.items n))) c.number-place.ensures in
+    let order = c.give_back.ensures.order ∙ ap (λ (n : ℕ). change_to_end (is_same n) (λ k. k) in_.order) c.number-place.ensures in
+    (keeps_given in_.slots in_.seats.items in_.order c.args.self.now c.give_back.new.seats.items c.give_back.new.order c.args.guard c.self.invariant c.self.view_is c.requires.once c.requires.held c.requires.unchanged seats order).view

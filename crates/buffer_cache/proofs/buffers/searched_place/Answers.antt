@@ -1,10 +1,10 @@
-use Rattle.std.proofs.Common.{◌≡◌, ℕ, ◌+◌, ◌-◌, ◌<◌, ◌≤◌, length, Some, false, inl, inr, refl, sym, ◌∙◌, ap, subst, arith}
+use Rattle.std.proofs.Common.{◌≡◌, ℕ, ◌+◌, ◌-◌, ◌<◌, ◌≤◌, length, inl, inr, refl, sym, ◌∙◌, ap, arith}
 use Rattle.std.specs.Prelude.{slice_get}
 use Rattle.std.proofs.lemmas.Bool.{cases_eq}
 use Rattle.std.proofs.lemmas.Option.{slice_get_read, slice_get_within, same_Some}
-use Rattle.buffer_cache.specs.Seats.{SeatState, has_block}
+use Rattle.buffer_cache.specs.Seats.{has_block}
 use Rattle.buffer_cache.proofs.Once.{once_at, none_at}
-use Rattle.buffer_cache.proofs.buffers.latest_of.Goals as goal
+use Rattle.buffer_cache.proofs.buffers.searched_place.Goals as goal
 
 pub returns-then-has_block : goal.returns-then-has_block
 returns-then-has_block c =
