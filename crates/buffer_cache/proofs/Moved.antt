@@ -1,8 +1,8 @@
 -- Moving a number to the end.
-use Rattle.std.proofs.Common.{◌≡◌, ◌≢◌, ℕ, zero, suc, ◌+◌, ◌-◌, ◌<◌, ◌≤◌, List, [], ◌∷◌, ◌++◌, length, length-set, get_or, set, take, drop, Bool, true, false, cond, refl, sym, ◌∙◌, ap, subst, arith, if◌then◌else◌, ◌==◌}
+use Rattle.std.proofs.Common.{◌≡◌, ◌≢◌, ℕ, zero, suc, ◌+◌, ◌-◌, ◌<◌, ◌≤◌, List, [], ◌∷◌, ◌++◌, length, length-set, length-drop, get_or, set, take, drop, Bool, true, false, cond, refl, sym, ◌∙◌, ap, subst, arith, if◌then◌else◌, ◌==◌}
 use Rattle.std.specs.List.{range_with_len}
 use Rattle.std.proofs.lemmas.Bool.Decides.{nat_tests}
-use Rattle.std.proofs.lemmas.List.{take-set, take-take, get_or-take, drop-set, take-append-drop, set_split, ext_get_or}
+use Rattle.std.proofs.lemmas.List.{take-set, take-take, get_or-take, drop-set, take-append-drop, set_split, ext_get_or, set-append_right, take_all}
 use Rattle.std.proofs.lemmas.List.FromFn.{length-range_with_len, get_or-range_with_len}
 use Rattle.std.proofs.Math.Seq.{drop-cons}
 use Rattle.buffer_cache.specs.Lists.{change_to_end, count_of}
@@ -124,3 +124,21 @@ are_numbers order long is =
   where
     within : (k : ℕ) → k < 46 → get_or order k 0 ≡ get_or (range_with_len 0 46) k 0
     within k lt = let e : k ≡ 0 + k = omega arith in is k lt ∙ e ∙ sym (get_or-range_with_len 0 46 k 0 lt)
+
+-- the first at the end, behind the others
+only : (ys : List ℕ) (x : ℕ) → length ys ≡ 1 → set ys 0 x ≡ x ∷ []
+only [] x long = absurd (cc long)
+only (y ∷ []) x long = refl
+only (y ∷ z ∷ zs) x long = absurd (cc long)
+
+pub fronted : (front old : List ℕ) (x : ℕ) → length old ≡ 46 → front ≡ take 45 (drop 1 old) → x ≡ get_or old 0 0 → set (front ++ drop 45 old) 45 x ≡ drop 1 old ++ take 1 old
+fronted front [] x long is at = absurd (cc long)
+fronted front (y ∷ ys) x long taken at =
+    let short : length ys ≡ 45 = omega (arith, long) in
+    let is : front ≡ ys = taken ∙ ap (λ (k : ℕ). take k ys) (sym short) ∙ take_all (length ys) ys (omega arith) in
+    let count : length front ≡ 45 = ap (λ (l : List ℕ). length l) is ∙ short in
+    let rest = length-drop 45 (y ∷ ys) in
+    set-append_right front (drop 45 (y ∷ ys)) 45 45 x count (omega arith)
+    ∙ ap (λ (l : List ℕ). front ++ l) (only (drop 45 (y ∷ ys)) x (omega (arith, rest, long)))
+    ∙ ap (λ (k : ℕ). front ++ k ∷ []) at
+    ∙ ap (λ (l : List ℕ). l ++ y ∷ []) is

@@ -1,5 +1,5 @@
 -- A list of which at most one passes a test: where that stands.
-use Rattle.std.proofs.Common.{◌≡◌, ℕ, zero, suc, ◌+◌, ◌<◌, ◌≤◌, List, [], ◌∷◌, length, Bool, true, false, cond, not, refl, ◌∙◌, ap, arith, Some, None, nat_lt}
+use Rattle.std.proofs.Common.{◌≡◌, ℕ, zero, suc, ◌+◌, ◌<◌, ◌≤◌, List, [], ◌∷◌, length, Bool, true, false, cond, not, ◌∙◌, ap, arith, Some, None, nat_lt}
 use Rattle.std.specs.List.{position, position_or_len, slice_get}
 use Rattle.std.proofs.lemmas.Bool.Decides.{nat_tests}
 use Rattle.std.proofs.lemmas.Option.{slice_get_within, same_Some, none-some}
@@ -32,21 +32,3 @@ once_at p xs i x once at is = tests (position_or_len p xs) (length xs) (once_her
   where
     tests : (a n : ℕ) → a ≡ i → i < n → cond (nat_lt a n) (Some a) None ≡ Some i
     tests a n e lt = grind (arith, nat_tests)
-
--- none stands there
-none_here : {X : Type 0} (p : X → Bool) (xs : List X) → ((k : ℕ) (x : X) → slice_get xs k ≡ Some x → p x ≡ false) → position_or_len p xs ≡ length xs
-none_here p [] none = refl
-none_here {X} p (x ∷ xs) none =
-    let more = none_here p xs (λ k y at. none (suc k) y at) in
-    let here = none 0 x refl in
-    by_test (p x) here more
-  where
-    by_test : (t : Bool) → t ≡ false → position_or_len p xs ≡ length xs → cond (not t) (1 + position_or_len p xs) 0 ≡ suc (length xs)
-    by_test true e more = absurd (cc e)
-    by_test false e more = omega (arith, more)
-
-pub none_at : {X : Type 0} (p : X → Bool) (xs : List X) → ((k : ℕ) (x : X) → slice_get xs k ≡ Some x → p x ≡ false) → position p xs ≡ None
-none_at p xs none = tests (position_or_len p xs) (length xs) (none_here p xs none)
-  where
-    tests : (a n : ℕ) → a ≡ n → cond (nat_lt a n) (Some a) None ≡ None
-    tests a n e = grind (arith, nat_tests)

@@ -1,5 +1,5 @@
 // The buffers, their slots, and the order of giving back.
-ghost use Rattle.std.specs.Prelude.{count_by, ◌≡◌, ◌↔◌, ◌<◌, ◌≤◌, length, position, slice_set, Some, None, IsSome, IsTrue, IfOk, IfSome, OnOk, OnErr};
+ghost use Rattle.std.specs.Prelude.{count_by, ◌≡◌, ◌↔◌, ◌<◌, ◌≤◌, ◌++◌, length, take, drop, position, slice_set, Some, None, IsSome, IsTrue, IfOk, IfSome, OnOk, OnErr};
 ghost use Rattle.std.specs.List.{find};
 ghost use Rattle.sleep_lock.specs.SleepLock.{GuardState};
 ghost use Rattle.buffer_cache.specs.Buffers.{BufferState};
@@ -199,22 +199,7 @@ fn place_of(seats: &[Seat], likely: &[u8; LIKELY], b: u32) -> Option<usize>
     if place < seats.len() && seats[place].has_block(b) {
         return Some(place);
     }
-    searched_place(seats, b)
-}
-
-// The same, from the end back.
-fn searched_place(seats: &[Seat], b: u32) -> Option<usize>
-    requires once { count_of (has_block b) seats.now ≤ 1 }
-    ensures { result ≡ position (has_block b) seats.now }
-{
-    let count = seats.len();
-    for back in 0..count {
-        let place = count - 1 - back;
-        if seats[place].has_block(b) {
-            return Some(place);
-        }
-    }
-    None
+    seats.iter().position(|seat| seat.has_block(b))
 }
 
 // The least recently given back buffer that is neither out nor pinned.
@@ -377,6 +362,10 @@ fn move_last(order: &mut [u8; BUFFERS], number: u8)
     requires there { count_of (is_same number) order.old ≡ 1 }
     ensures { order.new ≡ change_to_end (is_same number) (λ n. n) order.old }
 {
+    if order[0] == number {
+        first_to_last(order);
+        return;
+    }
     let mut next = number;
     for back in 0..BUFFERS {
         let place = BUFFERS - 1 - back;
@@ -387,6 +376,16 @@ fn move_last(order: &mut [u8; BUFFERS], number: u8)
         }
         next = here;
     }
+}
+
+// What was taken for another block was mostly the first.
+fn first_to_last(order: &mut [u8; BUFFERS])
+    ensures { order.new ≡ drop 1 order.old ++ take 1 order.old }
+{
+    let old = *order;
+    let front = &mut order[..BUFFERS - 1];
+    front.copy_from_slice(&old[1..]);
+    order[BUFFERS - 1] = old[0];
 }
 
 // The numbers from 0 on.

@@ -3,25 +3,21 @@ ghost use Rattle.std.specs.Prelude.{◌≡◌, ◌↔◌, ◌<◌, length, posit
 ghost use Rattle.block_device.specs.Blocks.{block_at, faults_after};
 ghost use Rattle.buffer_cache.specs.Seats.{has_block, is_free, is_held_by, is_pinned, unused, with_holder, without_holder, with_content, with_pin, as_new};
 
+use crate::buffer::zeros;
 use block_device::{BLOCK_LEN, Device, Fault};
 use std::alloc::{AllocError, Global};
 use std::marker::Model;
 
-/// What the cache keeps of a buffer, in a box, so that who changes the order of buffers moves no more than where they are.
+/// What the cache keeps of a buffer. The bytes are those of the last fill or record. They are in a box, so that who looks for a
+/// block goes through little memory.
 #[derive(Drop)]
 pub(crate) struct Seat {
-    kept: Box<Kept>,
-}
-
-// The bytes are those of the last fill or record.
-#[derive(Drop)]
-struct Kept {
     number: u32,
     block: Option<u32>,
     valid: bool,
     pinned: bool,
     holder: Option<u8>,
-    bytes: [u8; BLOCK_LEN],
+    bytes: Box<[u8; BLOCK_LEN]>,
 }
 
 impl Model for Seat {
@@ -31,11 +27,11 @@ impl Model for Seat {
     ghost Value = { SeatState };
 
     ghost view = { λ s. record {
-      number = s.kept.value.number;
-      block = s.kept.value.block;
-      content = content_of s.kept.value.valid s.kept.value.bytes;
-      pinned = s.kept.value.pinned;
-      holder = s.kept.value.holder;
+      number = s.number;
+      block = s.block;
+      content = content_of s.valid s.bytes.value;
+      pinned = s.pinned;
+      holder = s.holder;
     } };
 }
 
@@ -43,87 +39,84 @@ impl Seat {
     pub fn new(alloc: Global, number: u32) -> Result<Seat, AllocError>
         ensures { IfOk result (λ seat. seat ≡ unused number) }
     {
-        let kept = Kept {
+        Ok(Seat {
             number,
             block: None,
             valid: false,
             pinned: false,
             holder: None,
-            bytes: [0; BLOCK_LEN],
-        };
-        Ok(Seat {
-            kept: Box::new(alloc, kept)?,
+            bytes: zeros(alloc)?,
         })
     }
 
     pub fn number(&self) -> u32
         ensures { result ≡ self.now.number }
     {
-        self.kept.number
+        self.number
     }
 
     pub fn has_block(&self, b: u32) -> bool
         ensures { result ≡ has_block b self.now }
     {
-        self.kept.block == Some(b)
+        self.block == Some(b)
     }
 
     pub fn is_free(&self) -> bool
         ensures { result ≡ is_free self.now }
     {
-        !self.kept.pinned && self.kept.holder.is_none()
+        !self.pinned && self.holder.is_none()
     }
 
     pub fn is_held_by(&self, hart: u8) -> bool
         ensures { result ≡ is_held_by hart self.now }
     {
-        self.kept.holder == Some(hart)
+        self.holder == Some(hart)
     }
 
     pub fn is_pinned(&self) -> bool
         ensures { result ≡ is_pinned self.now }
     {
-        self.kept.pinned
+        self.pinned
     }
 
     pub fn bytes(&self) -> &[u8; BLOCK_LEN]
         requires { IsSome self.now.content }
         ensures { Some result.now ≡ self.now.content }
     {
-        &self.kept.bytes
+        &*self.bytes
     }
 
     pub fn lend(&mut self, hart: u8)
         ensures { self.new ≡ with_holder hart self.old }
     {
-        self.kept.holder = Some(hart);
+        self.holder = Some(hart);
     }
 
     pub fn renew(&mut self, hart: u8, b: u32)
         ensures { self.new ≡ as_new hart b self.old }
     {
-        self.kept.block = Some(b);
-        self.kept.valid = false;
-        self.kept.holder = Some(hart);
+        self.block = Some(b);
+        self.valid = false;
+        self.holder = Some(hart);
     }
 
     pub fn take_back(&mut self)
         ensures { self.new ≡ without_holder self.old }
     {
-        self.kept.holder = None;
+        self.holder = None;
     }
 
     pub fn keep(&mut self, bytes: &[u8; BLOCK_LEN])
         ensures { self.new ≡ with_content bytes.now self.old }
     {
-        self.kept.bytes = *bytes;
-        self.kept.valid = true;
+        *self.bytes = *bytes;
+        self.valid = true;
     }
 
     pub fn set_pinned(&mut self, pinned: bool)
         ensures { self.new ≡ with_pin pinned self.old }
     {
-        self.kept.pinned = pinned;
+        self.pinned = pinned;
     }
 
     // Reads block b of the device.
@@ -136,8 +129,8 @@ impl Seat {
         ensures contents { D.contents device.new ≡ D.contents device.old }
         ensures faults { D.failures device.new ≡ faults_after result (D.failures device.old) }
     {
-        device.read(b, &mut self.kept.bytes)?;
-        self.kept.valid = true;
+        device.read(b, &mut *self.bytes)?;
+        self.valid = true;
         Ok(())
     }
 }
