@@ -10,3 +10,8 @@ pub record BufferState : Type 0 where
 abbrev pub content_of : Bool → List ℕ → Option (List ℕ)
 content_of true bytes = Some bytes
 content_of false bytes = None
+
+-- the block, once it is used
+abbrev pub block_of : Bool → ℕ → Option ℕ
+block_of true b = Some b
+block_of false b = None

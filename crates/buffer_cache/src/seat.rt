@@ -13,7 +13,9 @@ use std::marker::Model;
 #[derive(Drop)]
 pub(crate) struct Seat {
     number: u32,
-    block: Option<u32>,
+    // Of no meaning before the first use. Who looks for a block reads one number of most seats.
+    block: u32,
+    used: bool,
     valid: bool,
     pinned: bool,
     holder: Option<u8>,
@@ -22,13 +24,13 @@ pub(crate) struct Seat {
 
 impl Model for Seat {
     ghost use Rattle.buffer_cache.specs.Seats.{SeatState};
-    ghost use Rattle.buffer_cache.specs.Buffers.{content_of};
+    ghost use Rattle.buffer_cache.specs.Buffers.{block_of, content_of};
 
     ghost Value = { SeatState };
 
     ghost view = { λ s. record {
       number = s.number;
-      block = s.block;
+      block = block_of s.used s.block;
       content = content_of s.valid s.bytes.value;
       pinned = s.pinned;
       holder = s.holder;
@@ -41,7 +43,8 @@ impl Seat {
     {
         Ok(Seat {
             number,
-            block: None,
+            block: 0,
+            used: false,
             valid: false,
             pinned: false,
             holder: None,
@@ -58,7 +61,10 @@ impl Seat {
     pub fn has_block(&self, b: u32) -> bool
         ensures { result ≡ has_block b self.now }
     {
-        self.block == Some(b)
+        if self.block != b {
+            return false;
+        }
+        self.used
     }
 
     pub fn is_free(&self) -> bool
@@ -95,7 +101,8 @@ impl Seat {
     pub fn renew(&mut self, hart: u8, b: u32)
         ensures { self.new ≡ as_new hart b self.old }
     {
-        self.block = Some(b);
+        self.block = b;
+        self.used = true;
         self.valid = false;
         self.holder = Some(hart);
     }
