@@ -1,7 +1,7 @@
 -- The first of a list that passes a test: where it stands, and what changing it does to counts.
 use Rattle.std.proofs.Common.{◌≡◌, ℕ, zero, suc, ◌+◌, ◌<◌, ◌≤◌, List, [], ◌∷◌, ◌++◌, length, get_or, set, Bool, true, false, cond, not, refl, sym, ◌∙◌, ap, subst, arith, Option, Some, None, IsSome, is_some, if◌then◌else◌, nat_lt}
 use Rattle.std.proofs.lemmas.Bool.Decides.{nat_tests}
-use Rattle.std.specs.List.{position, position_or_len, remove, count_by, find}
+use Rattle.std.specs.List.{position, position_or_len, count_by, find}
 use Rattle.std.proofs.lemmas.List.Recursion.{is_count_by}
 use Rattle.buffer_cache.specs.Lists.{change_first, change_to_end, count_of}
 
@@ -67,23 +67,6 @@ change_here {X} p f (x ∷ xs) i d y e lt is = found (p x) i e lt is (λ j g l h
 
 pub place_change : {X : Type 0} (p : X → Bool) (f : X → X) (xs : List X) (i : ℕ) (d y : X) → position p xs ≡ Some i → f (get_or xs i d) ≡ y → set xs i y ≡ change_first p f xs
 place_change p f xs i d y e is = let at = position_some p xs i e in change_here p f xs i d y at.0 at.1 is
-
-to_end_here : {X : Type 0} (p : X → Bool) (f : X → X) (xs : List X) (i : ℕ) (d y : X) → i ≡ position_or_len p xs → i < length xs → f (get_or xs i d) ≡ y
-    → remove (set xs i y) i ++ get_or (set xs i y) i d ∷ [] ≡ change_to_end p f xs
-to_end_here p f [] i d y e lt is = absurd (omega arith)
-to_end_here {X} p f (x ∷ xs) i d y e lt is = found (p x) i e lt is (λ j g l h. to_end_here p f xs j d y g l h)
-  where
-    found : (t : Bool) (i : ℕ) → i ≡ cond (not t) (1 + position_or_len p xs) 0 → i < suc (length xs) → f (get_or (x ∷ xs) i d) ≡ y
-        → ((j : ℕ) → j ≡ position_or_len p xs → j < length xs → f (get_or xs j d) ≡ y → remove (set xs j y) j ++ get_or (set xs j y) j d ∷ [] ≡ change_to_end p f xs)
-        → remove (set (x ∷ xs) i y) i ++ get_or (set (x ∷ xs) i y) i d ∷ [] ≡ (if t then xs ++ f x ∷ [] else x ∷ change_to_end p f xs)
-    found true zero e lt is more = ap (λ (z : X). xs ++ z ∷ []) (sym is)
-    found true (suc i) e lt is more = absurd (omega (arith, e))
-    found false zero e lt is more = absurd (omega (arith, e))
-    found false (suc i) e lt is more = ap (λ (l : List X). x ∷ l) (more i (omega (arith, e)) (omega (arith, lt)) is)
-
-pub place_to_end : {X : Type 0} (p : X → Bool) (f : X → X) (xs : List X) (i : ℕ) (d y : X) → position p xs ≡ Some i → f (get_or xs i d) ≡ y
-    → remove (set xs i y) i ++ get_or (set xs i y) i d ∷ [] ≡ change_to_end p f xs
-place_to_end p f xs i d y e is = let at = position_some p xs i e in to_end_here p f xs i d y at.0 at.1 is
 
 -- lengths
 pub length-change_first : {X : Type 0} (p : X → Bool) (f : X → X) (xs : List X) → length (change_first p f xs) ≡ length xs

@@ -1,5 +1,5 @@
 -- Moving a number to the end.
-use Rattle.std.proofs.Common.{◌≡◌, ◌≢◌, ℕ, zero, suc, ◌+◌, ◌-◌, ◌<◌, ◌≤◌, List, [], ◌∷◌, ◌++◌, length, length-set, length-drop, get_or, set, take, drop, Bool, true, false, cond, refl, sym, ◌∙◌, ap, subst, arith, if◌then◌else◌, ◌==◌}
+use Rattle.std.proofs.Common.{◌≡◌, ◌≢◌, ℕ, zero, suc, ◌+◌, ◌-◌, ◌<◌, ◌≤◌, List, [], ◌∷◌, ◌++◌, length, length-set, length-drop, get_or, set, take, drop, Bool, false, cond, refl, sym, ◌∙◌, ap, subst, arith, if◌then◌else◌, ◌==◌}
 use Rattle.std.specs.List.{range_with_len}
 use Rattle.std.proofs.lemmas.Bool.Decides.{nat_tests}
 use Rattle.std.proofs.lemmas.List.{take-set, take-take, get_or-take, drop-set, take-append-drop, set_split, ext_get_or, set-append_right, take_all}
@@ -8,6 +8,7 @@ use Rattle.std.proofs.Math.Seq.{drop-cons}
 use Rattle.buffer_cache.specs.Lists.{change_to_end, count_of}
 use Rattle.buffer_cache.specs.Order.{is_same, numbers}
 use Rattle.buffer_cache.proofs.Firsts.{pick}
+use Rattle.buffer_cache.proofs.Seated.{same_number}
 
 -- so many numbers at the front are as they were; those behind aren't this number, and were moved by one
 pub record IsMoving (n next k : ℕ) (old new : List ℕ) : Type 0 where
@@ -16,19 +17,16 @@ pub record IsMoving (n next k : ℕ) (old new : List ℕ) : Type 0 where
   pub back : next ∷ drop k new ≡ drop k old ++ n ∷ []
   pub none : count_of (is_same n) (drop k old) ≡ 0
 
-same : (n : ℕ) → (n == n) ≡ true
-same n = grind (arith, nat_tests)
-
 there_counted : (n : ℕ) (front back : List ℕ) → 1 ≤ count_of (is_same n) (front ++ n ∷ back)
 there_counted n [] back =
     let one : ℕ = 1 in
-    let here : cond (n == n) one 0 ≡ one = ap (λ (t : Bool). cond t one 0) (same n) in
+    let here : cond (n == n) one 0 ≡ one = ap (λ (t : Bool). cond t one 0) (same_number n) in
     omega (arith, here)
 there_counted n (m ∷ ms) back = let more = there_counted n ms back in omega (arith, more)
 
 -- a number that stands there once is moved to the end
 moved_here : (n : ℕ) (front back : List ℕ) → count_of (is_same n) (front ++ n ∷ back) ≤ 1 → change_to_end (is_same n) (λ k. k) (front ++ n ∷ back) ≡ front ++ (back ++ n ∷ [])
-moved_here n [] back once = ap (λ (t : Bool). if t then back ++ n ∷ [] else n ∷ change_to_end (is_same n) (λ k. k) back) (same n)
+moved_here n [] back once = ap (λ (t : Bool). if t then back ++ n ∷ [] else n ∷ change_to_end (is_same n) (λ k. k) back) (same_number n)
 moved_here n (m ∷ ms) back once =
     let there = there_counted n ms back in
     pick (m == n) (λ t. cond t 1 0 + count_of (is_same n) (ms ++ n ∷ back) ≤ 1
@@ -36,9 +34,6 @@ moved_here n (m ∷ ms) back once =
     (λ _ two. absurd (omega (arith, two, there)))
     (λ _ one. ap (λ (l : List ℕ). m ∷ l) (moved_here n ms back (omega (arith, one))))
     once
-
-tail_of : (a b : ℕ) (xs ys : List ℕ) → a ∷ xs ≡ b ∷ ys → xs ≡ ys
-tail_of a b xs ys e = cc
 
 front_less : (k : ℕ) (old new : List ℕ) → take (suc k) new ≡ take (suc k) old → take k new ≡ take k old
 front_less k old new e = sym (shorter new) ∙ ap (take k) e ∙ shorter old

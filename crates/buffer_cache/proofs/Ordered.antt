@@ -13,9 +13,7 @@ use Rattle.buffer_cache.specs.Seats.{SeatState, unused, unused_from}
 use Rattle.buffer_cache.specs.Order.{numbered, in_order, numbers, is_same, IsOrdered}
 use Rattle.buffer_cache.proofs.Firsts.{pick, position_some, place_first, place_change, no_place, first_passes, first_counted, none_counted, none_first, count_push}
 use Rattle.buffer_cache.proofs.Once.{counted_at}
-
-same : (n : ℕ) → (n == n) ≡ true
-same n = grind (arith, nat_tests)
+use Rattle.buffer_cache.proofs.Seated.{same_number}
 
 pub is_equal : (m n : ℕ) → (m == n) ≡ true → m ≡ n
 is_equal m n e = grind (arith, nat_tests)
@@ -81,7 +79,7 @@ pub record Changes {X : Type 0} (f : X → X) (g h : ℕ → X) (n : ℕ) : Type
 
 last_none : (n m k : ℕ) → m ≡ n → cond (m == n) 1 0 + k ≤ 1 → k ≡ 0
 last_none n m k is le =
-    let e : (m == n) ≡ true = ap (λ (j : ℕ). j == n) is ∙ same n in
+    let e : (m == n) ≡ true = ap (λ (j : ℕ). j == n) is ∙ same_number n in
     let few : cond true 1 0 + k ≤ 1 = subst (λ (t : Bool). cond t 1 0 + k ≤ 1) e le in
     omega (arith, few)
 
@@ -112,7 +110,7 @@ moved_changes {X} p f g h n is (m ∷ ms) once e =
     → map h (if m == n then ms ++ m ∷ [] else m ∷ change_to_end (is_same n) (λ k. k) ms) ≡ (if t then map g ms ++ f (g m) ∷ [] else g m ∷ change_to_end p f (map g ms)))
     (λ _ _ first.
     let at = is.apart m (same_Some (g m) (g n) first) in
-    ap (λ (t : Bool). map h (if t then ms ++ m ∷ [] else m ∷ change_to_end (is_same n) (λ k. k) ms)) (ap (λ (j : ℕ). j == n) at ∙ same n)
+    ap (λ (t : Bool). map h (if t then ms ++ m ∷ [] else m ∷ change_to_end (is_same n) (λ k. k) ms)) (ap (λ (j : ℕ). j == n) at ∙ same_number n)
     ∙ map_push h ms m
     ∙ ap (λ (l : List X). l ++ h m ∷ []) (map_others g h n is.others ms (last_none n m _ at once))
     ∙ ap (λ (x : X). map g ms ++ x ∷ []) (ap h at ∙ is.here ∙ ap (λ (k : ℕ). f (g k)) (sym at)))
@@ -215,13 +213,13 @@ once_in seats order n ordered lt =
     let all = ordered.all (is_same n) in
     let most = range_apart n 0 46 in
     let count = seats_count seats order ordered in
-    let some = counted_at (is_same n) numbers n n (numbers_at n (omega (arith, lt, count))) (same n) in
+    let some = counted_at (is_same n) numbers n n (numbers_at n (omega (arith, lt, count))) (same_number n) in
     omega (arith, all, most, some)
 
 pub order_at : (seats : List SeatState) (order : List ℕ) (k : ℕ) → IsOrdered seats order → k < length order → get_or order k 0 < length seats
 order_at seats order k ordered lt =
     let n = get_or order k 0 in
-    order_within seats order n ordered (counted_at (is_same n) order k n (slice_get_read order (length order) k n refl lt (get_or_default order k 0 n lt)) (same n))
+    order_within seats order n ordered (counted_at (is_same n) order k n (slice_get_read order (length order) k n refl lt (get_or_default order k 0 n lt)) (same_number n))
 
 -- the order has what the places have
 all_numbered : (seats : List SeatState) (order : List ℕ) → IsOrdered seats order → map (numbered seats) numbers ≡ seats
@@ -284,7 +282,7 @@ first_free_in seats order p o i ordered e at =
     let q : ℕ → Bool = λ n. p (numbered seats n) in
     let found : find q order ≡ Some i = sym e ∙ at in
     record {
-      within = order_within seats order i ordered (first_counted (is_same i) q order i found (same i));
+      within = order_within seats order i ordered (first_counted (is_same i) q order i found (same_number i));
       passes = first_passes q order i found;
       first = find_map p (numbered seats) order ∙ ap (λ (o : Option ℕ). option_map (numbered seats) o) found;
     }
