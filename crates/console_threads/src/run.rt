@@ -15,6 +15,7 @@ use crate::work::run_calls;
 use block_device::MemoryDisk;
 use console::{ConsoleFault, finish, image_disk};
 use console_parts::Mode;
+use hart_core::Event;
 use hart_runner::{Kernel, NoGate, Seat};
 use locked_world::Closed;
 use plain_tree::Call;
@@ -114,26 +115,31 @@ fn tell<L: Ledger, W: Write>(
     if !is_run_on(&closed, image) {
         return Err(ThreadsFault::Strange);
     }
-    if !are_started(closed.events(), asked) {
+    let events = closed.events(alloc)?;
+    let events = events.as_slice();
+    if !are_started(events, asked) {
         return Err(ThreadsFault::Strange);
     }
     closed.one_list_explains_it();
-    print(alloc, mode, image, &closed, out)?;
+    print(alloc, mode, image, &closed, events, out)?;
     Ok(closed.into_disk())
 }
 
-// Prints a run: the lines of its harts, and then what else is wanted of it.
+// Prints a run, which has these events: the lines of its harts, and then what else is wanted of it.
 fn print<L: Ledger, W: Write>(
     alloc: Global,
     mode: Mode,
     image: &[u8],
     closed: &Closed<L>,
+    events: &[Event],
     out: &mut W,
 ) -> Result<(), ConsoleFault>
+    requires { events.now ≡ closed.now.events }
     ensures printed { OnOk result (IsPrinted mode image.now closed.now (W.contents out.old) (W.contents out.new)) }
     ensures unprinted { IfErr result IsUnprinted }
 {
-    let (events, outcomes) = (closed.events(), closed.outcomes());
+    let outcomes = closed.outcomes(alloc)?;
+    let outcomes = outcomes.as_slice();
     let notes = notes_of(alloc, mode, events, outcomes)?;
     write_harts(out, events, outcomes).map_err(ConsoleFault::Write)?;
     finish(alloc, out, mode, image, &notes, Ok(()))

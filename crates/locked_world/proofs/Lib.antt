@@ -6,5 +6,6 @@ pub mod ReadCalls
 pub mod Blocks
 pub mod Keeping
 pub mod Listed
+pub mod Noted
 pub mod Explained
 pub mod Opening

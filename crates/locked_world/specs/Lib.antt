@@ -1,3 +1,4 @@
 pub mod HandedBack
 pub mod Kept
+pub mod Stories
 pub mod Told

@@ -1,8 +1,9 @@
 // What a call hands back when it ends.
-ghost use Rattle.std.specs.Prelude.{◌≡◌, ◌↔◌, IsTrue, length};
+ghost use Rattle.std.specs.Prelude.{◌≡◌, ◌↔◌, IfOk, IsTrue, length};
 ghost use Rattle.locked_world.specs.HandedBack.{HandsBack};
 
 use plain_tree::{Answer, Bytes, Call, Reply};
+use std::alloc::AllocError;
 
 // The bytes of the second, in the memory of the first.
 fn overwritten(bytes: Bytes, from: &Bytes) -> Bytes
@@ -55,6 +56,12 @@ pub fn is_handed_back(given: &Call, back: &Call) -> bool
         },
         _ => given == back,
     }
+}
+
+pub(crate) fn copied(call: &Call) -> Result<Call, AllocError>
+    ensures { IfOk result (λ c. c ≡ call.now) }
+{
+    call.clone()
 }
 
 fn is_same_call(one: &Call, other: &Call) -> bool

@@ -4,9 +4,13 @@
 //! gave, and a `Closed` is its list once it has ended. It takes no lock itself.
 #![tactic(auto)]
 
+mod closed;
 mod handing;
 mod locked;
+mod note;
+mod story;
 
+pub use crate::closed::Closed;
 pub use crate::handing::{filled, is_handed_back, is_same};
-pub use crate::locked::{Begun, Closed, Halt, Locked, NotStarted, Receipt, Share, Told};
+pub use crate::locked::{Begun, Halt, Locked, NotStarted, Receipt, Share, Told};
 pub use hart_core::StartRefused;

@@ -6,10 +6,12 @@ ghost use Rattle.hart_core.specs.Runs.{all_shown, shown};
 ghost use Rattle.locked_world.specs.Kept.{opened, count_of, replies_of, replies_in, replied_by, IsRun, HasOneHistory, LeavesDisk};
 ghost use Rattle.locked_world.specs.Told.{Answers, StartAnswers, halt_for};
 
-use crate::handing::{filled, is_same};
+use crate::closed::Closed;
+use crate::handing::{copied, filled};
+use crate::story::Story;
 use block_device::{Fused, MemoryDisk};
 use fs_machine::Kind;
-use hart_core::{Came, Event, Outcome, StartRefused, Stop, World};
+use hart_core::{Outcome, StartRefused, Stop, World};
 use image_tree::MountFault;
 use plain_tree::{Call, Reply};
 use std::alloc::{AllocError, Global};
@@ -84,8 +86,7 @@ pub enum NotStarted {
 pub struct Locked<L: Ledger> {
     image: Vec<u8>,
     fuse: u64,
-    events: Vec<Event>,
-    outcomes: Vec<Came>,
+    story: Story,
     book: Book<L>,
     world: World<Fused>,
     given: [u64; 8],
@@ -97,30 +98,9 @@ impl<L: Ledger> Model for Locked<L> {
 
     ghost Value = { StoredRun };
 
-    ghost view = { λ s. record { image = s.image.items; fuse = s.fuse; events = s.events.items; outcomes = s.outcomes.items } };
+    ghost view = { λ s. record { image = s.image.items; fuse = s.fuse; events = s.story.events; outcomes = s.story.outcomes } };
 
-    ghost invariant = { λ s. IsKept (record { image = s.image.items; fuse = s.fuse; events = s.events.items; outcomes = s.outcomes.items }) s.book.total s.world s.given s.spare };
-}
-
-/// The list of a locked world that has ended, and the disk that it left. Only `Locked::end` makes one.
-#[derive(Drop)]
-pub struct Closed<L: Ledger> {
-    image: Vec<u8>,
-    fuse: u64,
-    events: Vec<Event>,
-    outcomes: Vec<Came>,
-    disk: MemoryDisk,
-    of: PhantomData<L>,
-}
-
-impl<L: Ledger> Model for Closed<L> {
-    ghost use Rattle.locked_world.specs.Kept.{StoredRun, LeavesDisk as HasLeft};
-
-    ghost Value = { StoredRun };
-
-    ghost view = { λ s. record { image = s.image.items; fuse = s.fuse; events = s.events.items; outcomes = s.outcomes.items } };
-
-    ghost invariant = { λ s. HasLeft (record { image = s.image.items; fuse = s.fuse; events = s.events.items; outcomes = s.outcomes.items }) s.disk };
+    ghost invariant = { λ s. IsKept (record { image = s.image.items; fuse = s.fuse; events = s.story.events; outcomes = s.story.outcomes }) s.book.total s.world s.given s.spare };
 }
 
 impl<L: Ledger> Share<L> {
@@ -224,8 +204,7 @@ impl<L: Ledger> Locked<L> {
         let locked = Locked {
             image,
             fuse,
-            events: Vec::new(alloc),
-            outcomes: Vec::new(alloc),
+            story: Story::new(alloc),
             book,
             world,
             given: [0; 8],
@@ -248,16 +227,14 @@ impl<L: Ledger> Locked<L> {
         let Ok(copies) = copies_of(&call) else {
             return Err((call, NotStarted::NoMemory));
         };
-        if self.events.reserve(1).is_err() || self.outcomes.reserve(1).is_err() {
+        if self.story.make_room().is_err() {
             return Err((call, NotStarted::NoMemory));
         }
         match self.world.start(hart, call) {
             Ok(()) => {
                 let Copies { event, spare, kept } = copies;
                 lay_by(&mut self.spare, hart as usize, spare);
-                self.events
-                    .push_reserved(Event::Start { hart, call: event });
-                self.outcomes.push_reserved(Came::Started);
+                self.story.started(hart, event);
                 self.book.add(&mut share.tally, 1);
                 Ok(Begun {
                     hart,
@@ -267,9 +244,7 @@ impl<L: Ledger> Locked<L> {
             }
             Err((call, why)) => {
                 let event = one_of(copies);
-                self.events
-                    .push_reserved(Event::Start { hart, call: event });
-                self.outcomes.push_reserved(Came::Refused(why));
+                self.story.refused(hart, event, why);
                 Err((call, NotStarted::Refused(why)))
             }
         }
@@ -280,20 +255,17 @@ impl<L: Ledger> Locked<L> {
         ensures answer { Answers self.old hart result self.new share.old.tally.amount share.new.tally.amount }
         ensures hart { share.new.hart ≡ share.old.hart }
     {
-        if self.events.reserve(1).is_err() || self.outcomes.reserve(1).is_err() {
+        if self.story.make_room().is_err() {
             return Told::Stopped(Halt::NoMemory);
         }
         match self.world.step(hart) {
             Outcome::Idle => {
-                self.events.push_reserved(Event::Step { hart });
-                self.outcomes.push_reserved(Came::Stepped(Outcome::Idle));
+                self.story.idle(hart);
                 Told::Idle
             }
             Outcome::Waits => Told::Waits,
             Outcome::Ran(kind) => {
-                self.events.push_reserved(Event::Step { hart });
-                self.outcomes
-                    .push_reserved(Came::Stepped(Outcome::Ran(kind)));
+                self.story.ran(hart, kind);
                 Told::Ran(kind)
             }
             Outcome::Done(reply) => {
@@ -307,9 +279,7 @@ impl<L: Ledger> Locked<L> {
                 };
                 let place = self.given[at];
                 self.given[at] = place + 1;
-                self.events.push_reserved(Event::Step { hart });
-                self.outcomes
-                    .push_reserved(Came::Stepped(Outcome::Done(copy)));
+                self.story.done(hart, copy);
                 self.book.add(&mut share.tally, 1);
                 Told::Done(Receipt {
                     hart,
@@ -319,9 +289,7 @@ impl<L: Ledger> Locked<L> {
                 })
             }
             Outcome::Stopped(stop) => {
-                self.events.push_reserved(Event::Step { hart });
-                self.outcomes
-                    .push_reserved(Came::Stepped(Outcome::Stopped(stop)));
+                self.story.stopped(hart, stop);
                 Told::Stopped(halt_of(stop))
             }
         }
@@ -345,8 +313,7 @@ impl<L: Ledger> Locked<L> {
         let Locked {
             image,
             fuse,
-            events,
-            outcomes,
+            story,
             mut book,
             world,
             given: _,
@@ -354,14 +321,7 @@ impl<L: Ledger> Locked<L> {
         } = self;
         let mut all = merged(shares);
         book.audit(&mut all);
-        Closed {
-            image,
-            fuse,
-            events,
-            outcomes,
-            disk: world.unmount().into_disk(),
-            of: PhantomData,
-        }
+        Closed::new(image, fuse, story, world.unmount().into_disk())
     }
 }
 
@@ -410,52 +370,12 @@ fn merged<L: Ledger>(shares: [Share<L>; 8]) -> ledger::Share<L>
     all
 }
 
-// The first place at which these are not the hart's replies in the list of events and outcomes.
-fn difference(events: &[Event], outcomes: &[Came], hart: u8, replies: &[Reply]) -> Option<u64>
-    requires { length events.now ≡ length outcomes.now }
-    ensures none { IfNone result (replies.now ≡ replies_in hart (all_shown events.now outcomes.now)) }
-    ensures some { IfSome result (λ k. slice_get replies.now k ≢ slice_get (replies_in hart (all_shown events.now outcomes.now)) k) }
-{
-    let mut seen = 0;
-    for i in 0..events.len() {
-        if let Some(reply) = reply_at(hart, &events[i], &outcomes[i]) {
-            if seen >= replies.len() || !is_same(&replies[seen], reply) {
-                return Some(seen as u64);
-            }
-            seen += 1;
-        }
-    }
-    if seen < replies.len() {
-        return Some(seen as u64);
-    }
-    None
-}
-
-// The reply that this event gave to this hart.
-fn reply_at<'a>(hart: u8, event: &Event, outcome: &'a Came) -> Option<&'a Reply>
-    ensures { MatchOption result (replied_by hart (shown event.now outcome.now) ≡ []) (λ r. replied_by hart (shown event.now outcome.now) ≡ r.now ∷ []) }
-{
-    let Event::Step { hart: at } = event else {
-        return None;
-    };
-    let Came::Stepped(Outcome::Done(reply)) = outcome else {
-        return None;
-    };
-    if *at == hart { Some(reply) } else { None }
-}
-
 // Copies of a call: for its event, for its reply, and for its caller.
 #[derive(Drop)]
 struct Copies {
     event: Call,
     spare: Call,
     kept: Call,
-}
-
-fn copied(call: &Call) -> Result<Call, AllocError>
-    ensures { IfOk result (λ c. c ≡ call.now) }
-{
-    call.clone()
 }
 
 fn copies_of(call: &Call) -> Result<Copies, AllocError>
@@ -488,59 +408,4 @@ fn take_spare(spare: &mut [Option<Call>; 8], at: usize) -> Option<Call>
     ensures left { spare.new ≡ slice_set spare.old at None }
 {
     mem::replace(&mut spare[at], None)
-}
-
-impl<L: Ledger> Closed<L> {
-    pub fn image(&self) -> &[u8]
-        ensures { result.now ≡ self.now.image }
-    {
-        self.image.as_slice()
-    }
-
-    pub fn fuse(&self) -> u64
-        ensures { result ≡ self.now.fuse }
-    {
-        self.fuse
-    }
-
-    pub fn events(&self) -> &[Event]
-        ensures { result.now ≡ self.now.events }
-    {
-        self.events.as_slice()
-    }
-
-    /// What each event came to, in their order.
-    pub fn outcomes(&self) -> &[Came]
-        ensures { result.now ≡ self.now.outcomes }
-    {
-        self.outcomes.as_slice()
-    }
-
-    /// The first place, from 0, at which these are not the hart's replies in the list. A missing one differs.
-    pub fn difference(&self, hart: u8, replies: &[Reply]) -> Option<u64>
-        ensures none { IfNone result (replies.now ≡ replies_of hart self.now) }
-        ensures some { IfSome result (λ k. slice_get replies.now k ≢ slice_get (replies_of hart self.now) k) }
-    {
-        difference(
-            self.events.as_slice(),
-            self.outcomes.as_slice(),
-            hart,
-            replies,
-        )
-    }
-
-    /// A law, for a reader; nothing is done. If no step of the run found no room, one list of tree steps explains all calls that were
-    /// started, from the image's tree: as long as no path has the element "..", or where one hart has made all calls.
-    pub fn one_list_explains_it(&self)
-        ensures { HasOneHistory self.now }
-    {
-        let _ = &self.disk;
-    }
-
-    /// The disk as the events have left it.
-    pub fn into_disk(self) -> MemoryDisk
-        ensures { LeavesDisk self result }
-    {
-        self.disk
-    }
 }

@@ -125,9 +125,10 @@ fn call_meeting<L: Ledger, G: Gate + Drop, R: Wait + Clock>(
 // What two calls that met are answered, and how many of the first one's steps stand before the start of the second.
 type Met = (Answer, Answer, usize);
 
-// The meeting of two harts. None where a call isn't answered, or the close is strange.
+// The meeting of two harts. None where a call isn't answered, the close is strange, or its events find no memory.
 fn met<L: Ledger + Send + Sync, G: Gate + Drop + Sync, R: Threads + Wait + Clock + Sync>(
     rt: &R,
+    alloc: Global,
     kernel: Kernel<L, G>,
     seats: [Seat<L>; 8],
     flags: &Flags,
@@ -155,7 +156,10 @@ fn met<L: Ledger + Send + Sync, G: Gate + Drop + Sync, R: Threads + Wait + Clock
     let Ok(closed) = kernel.close(all_of(a, b, others)) else {
         return None;
     };
-    let before = steps_before(closed.events());
+    let Ok(events) = closed.events(alloc) else {
+        return None;
+    };
+    let before = steps_before(events.as_slice());
     let Ok(held) = held else {
         return None;
     };
@@ -181,7 +185,7 @@ fn meet<'a, L: Ledger + Send + Sync, R: Threads + Wait + Clock + Sync>(
     match Kernel::<L, Meeting<'a, R>>::open(alloc, blank, image, u64::MAX, gate) {
         Ok(opened) => {
             let (kernel, seats) = opened;
-            Ok(met(rt, kernel, seats, flags, calls))
+            Ok(met(rt, alloc, kernel, seats, flags, calls))
         }
         Err(fault) => Err(fault),
     }

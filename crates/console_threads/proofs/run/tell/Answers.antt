@@ -6,13 +6,13 @@ use Rattle.console_threads.proofs.run.tell.Goals as goal
 
 pub returns-in_err-print : goal.returns-in_err-print
 returns-in_err-print g c =
-    let is : c.from_residual.result ≡ Err (Console c.in_err-print.field-0.0) = search rules in
+    let is : c.from_residual-in_err-print.result ≡ Err (Console c.in_err-print.field-0.0) = search rules in
     rw is c.in_err-print.ensures.unprinted
 
 pub returns : goal.returns
 returns g c =
     let on = c.is_run_on.ensures.0 (search rules) in
-    let same : c.events.result.now ≡ c.args.closed.events = search rules in
+    let same : c.as_slice-events.result.now ≡ c.args.closed.events = search rules in
     record {
       run = c.args.closed;
       image_is = on.0;

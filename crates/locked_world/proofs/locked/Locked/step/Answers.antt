@@ -17,74 +17,74 @@ use Rattle.locked_world.proofs.locked.Locked.step.Goals as goal
 pub invariant_of-self-in-Idle : goal.invariant_of-self-in-Idle
 invariant_of-self-in-Idle g c =
     let i = c.self.inside in
-    kept_step (record { image = i.image.items; fuse = i.fuse; events = i.events.items; outcomes = i.outcomes.items }) i.book.total i.world i.given i.spare c.self.invariant c.args.hart Passes Idle _ _ c.step.new.self
+    kept_step (record { image = i.image.items; fuse = i.fuse; events = i.story.events; outcomes = i.story.outcomes }) i.book.total i.world i.given i.spare c.self.invariant c.args.hart Passes Idle _ _ c.step.new.self
     refl c.in-Idle.ensures.sizes c.in-Idle.ensures.honest c.in-Idle.ensures.makes
-    (c.push_reserved.ensures.items ∙ ap (λ (z : List Event). z ++ Step c.args.hart ∷ []) c.reserve.ensures.items)
-    (c.push_reserved-in-Idle.ensures.items ∙ ap (λ (z : List Came). z ++ Stepped Idle ∷ []) c.reserve-else-is_err.ensures.items)
+    (c.idle.ensures.events ∙ ap (λ (z : List Event). z ++ Step c.args.hart ∷ []) c.make_room.ensures.same.0)
+    (c.idle.ensures.outcomes ∙ ap (λ (z : List Came). z ++ Stepped Idle ∷ []) c.make_room.ensures.same.1)
 
 pub invariant_of-self-in-Waits : goal.invariant_of-self-in-Waits
 invariant_of-self-in-Waits g c =
     let i = c.self.inside in
-    subst (λ (z : StoredRun). IsKept z i.book.total c.step.new.self i.given i.spare) (λ j. record { image = i.image.items; fuse = i.fuse; events = sym c.reserve.ensures.items j; outcomes = sym c.reserve-else-is_err.ensures.items j })
-    (kept_waits (record { image = i.image.items; fuse = i.fuse; events = i.events.items; outcomes = i.outcomes.items }) i.book.total i.world i.given i.spare c.self.invariant c.args.hart Passes c.step.new.self c.in-Waits.ensures.sizes c.in-Waits.ensures.makes)
+    subst (λ (z : StoredRun). IsKept z i.book.total c.step.new.self i.given i.spare) (λ j. record { image = i.image.items; fuse = i.fuse; events = sym c.make_room.ensures.same.0 j; outcomes = sym c.make_room.ensures.same.1 j })
+    (kept_waits (record { image = i.image.items; fuse = i.fuse; events = i.story.events; outcomes = i.story.outcomes }) i.book.total i.world i.given i.spare c.self.invariant c.args.hart Passes c.step.new.self c.in-Waits.ensures.sizes c.in-Waits.ensures.makes)
 
 pub returns-in-Waits-clause-answer : goal.returns-in-Waits-clause-answer
 returns-in-Waits-clause-answer g c =
     let i = c.self.inside in (
       subst (λ (z : StoredRun). WaitsThere z c.args.hart) c.self.view_is (i.world, c.self.invariant.run, (c.step.new.self.harts, c.in-Waits.ensures.makes)),
-      (λ j. record { image = i.image.items; fuse = i.fuse; events = c.reserve.ensures.items j; outcomes = c.reserve-else-is_err.ensures.items j }) ∙ c.self.view_is,
+      (λ j. record { image = i.image.items; fuse = i.fuse; events = c.make_room.ensures.same.0 j; outcomes = c.make_room.ensures.same.1 j }) ∙ c.self.view_is,
       refl,
     )
 
 pub invariant_of-self-in-Ran : goal.invariant_of-self-in-Ran
 invariant_of-self-in-Ran g c =
     let i = c.self.inside in
-    kept_step (record { image = i.image.items; fuse = i.fuse; events = i.events.items; outcomes = i.outcomes.items }) i.book.total i.world i.given i.spare c.self.invariant c.args.hart Passes (Ran c.in-Ran.kind) _ _ c.step.new.self
+    kept_step (record { image = i.image.items; fuse = i.fuse; events = i.story.events; outcomes = i.story.outcomes }) i.book.total i.world i.given i.spare c.self.invariant c.args.hart Passes (Ran c.in-Ran.kind) _ _ c.step.new.self
     refl c.in-Ran.ensures.sizes c.in-Ran.ensures.honest c.in-Ran.ensures.makes
-    (c.push_reserved-in-Ran.ensures.items ∙ ap (λ (z : List Event). z ++ Step c.args.hart ∷ []) c.reserve.ensures.items)
-    (c.push_reserved-in-Ran-2.ensures.items ∙ ap (λ (z : List Came). z ++ Stepped (Ran c.in-Ran.kind) ∷ []) c.reserve-else-is_err.ensures.items)
+    (c.ran.ensures.events ∙ ap (λ (z : List Event). z ++ Step c.args.hart ∷ []) c.make_room.ensures.same.0)
+    (c.ran.ensures.outcomes ∙ ap (λ (z : List Came). z ++ Stepped (Ran c.in-Ran.kind) ∷ []) c.make_room.ensures.same.1)
 
 pub invariant_of-self-in-Stopped : goal.invariant_of-self-in-Stopped
 invariant_of-self-in-Stopped g c =
     let i = c.self.inside in
-    kept_step (record { image = i.image.items; fuse = i.fuse; events = i.events.items; outcomes = i.outcomes.items }) i.book.total i.world i.given i.spare c.self.invariant c.args.hart (said (Stopped c.in-Stopped.stop) (shared_of contents failures c.step.new.self.harts)) (Stopped c.in-Stopped.stop) _ _ c.step.new.self
+    kept_step (record { image = i.image.items; fuse = i.fuse; events = i.story.events; outcomes = i.story.outcomes }) i.book.total i.world i.given i.spare c.self.invariant c.args.hart (said (Stopped c.in-Stopped.stop) (shared_of contents failures c.step.new.self.harts)) (Stopped c.in-Stopped.stop) _ _ c.step.new.self
     refl c.in-Stopped.ensures.sizes c.in-Stopped.ensures.honest c.in-Stopped.ensures.makes
-    (c.push_reserved-in-Stopped.ensures.items ∙ ap (λ (z : List Event). z ++ Step c.args.hart ∷ []) c.reserve.ensures.items)
-    (c.push_reserved-in-Stopped-2.ensures.items ∙ ap (λ (z : List Came). z ++ Stepped (Stopped c.in-Stopped.stop) ∷ []) c.reserve-else-is_err.ensures.items)
+    (c.stopped.ensures.events ∙ ap (λ (z : List Event). z ++ Step c.args.hart ∷ []) c.make_room.ensures.same.0)
+    (c.stopped.ensures.outcomes ∙ ap (λ (z : List Came). z ++ Stepped (Stopped c.in-Stopped.stop) ∷ []) c.make_room.ensures.same.1)
 
 pub filled-requires : goal.filled-requires
 filled-requires g c =
     let i = c.self.inside in
-    let had = had_spare (record { image = i.image.items; fuse = i.fuse; events = i.events.items; outcomes = i.outcomes.items }) i.book.total i.world i.given i.spare c.self.invariant c.args.hart Passes c.in-Done.reply c.step.new.self c.in-Done.ensures.makes in
+    let had = had_spare (record { image = i.image.items; fuse = i.fuse; events = i.story.events; outcomes = i.story.outcomes }) i.book.total i.world i.given i.spare c.self.invariant c.args.hart Passes c.in-Done.reply c.step.new.self c.in-Done.ensures.makes in
     let same : had.call ≡ c.in-Some.spare = (let q = sym had.spare ∙ sym c.take_spare.ensures.taken ∙ c.in-Some.is in cc (q)) in
     subst (λ (z : Call). HandsBack z c.in-Done.reply.call) same had.back
 
 pub overflow_add-self : goal.overflow_add-self
 overflow_add-self g c =
     let i = c.self.inside in
-    let had = had_spare (record { image = i.image.items; fuse = i.fuse; events = i.events.items; outcomes = i.outcomes.items }) i.book.total i.world i.given i.spare c.self.invariant c.args.hart Passes c.in-Done.reply c.step.new.self c.in-Done.ensures.makes in
-    let few = replies_below c.args.hart (record { image = i.image.items; fuse = i.fuse; events = i.events.items; outcomes = i.outcomes.items }) in
+    let had = had_spare (record { image = i.image.items; fuse = i.fuse; events = i.story.events; outcomes = i.story.outcomes }) i.book.total i.world i.given i.spare c.self.invariant c.args.hart Passes c.in-Done.reply c.step.new.self c.in-Done.ensures.makes in
+    let few = replies_below c.args.hart (record { image = i.image.items; fuse = i.fuse; events = i.story.events; outcomes = i.story.outcomes }) in
     let given = c.self.invariant.given_are c.args.hart (omega (arith, had.below, c.self.invariant.eight)) in
-    record { fits = omega (arith, given, few, i.events.ok, i.events.small) }
+    record { fits = omega (arith, given, few, ap length c.make_room.ensures.same.0, c.make_room.ensures.few) }
 
 pub invariant_of-self-in-Done : goal.invariant_of-self-in-Done
 invariant_of-self-in-Done g c =
     let i = c.self.inside in
-    let had = had_spare (record { image = i.image.items; fuse = i.fuse; events = i.events.items; outcomes = i.outcomes.items }) i.book.total i.world i.given i.spare c.self.invariant c.args.hart Passes c.in-Done.reply c.step.new.self c.in-Done.ensures.makes in
+    let had = had_spare (record { image = i.image.items; fuse = i.fuse; events = i.story.events; outcomes = i.story.outcomes }) i.book.total i.world i.given i.spare c.self.invariant c.args.hart Passes c.in-Done.reply c.step.new.self c.in-Done.ensures.makes in
     let below : c.args.hart < 8 = omega (arith, had.below, c.self.invariant.eight) in
-    kept_done (record { image = i.image.items; fuse = i.fuse; events = i.events.items; outcomes = i.outcomes.items }) i.book.total i.world i.given i.spare c.self.invariant c.args.hart Passes c.in-Done.reply _ _ _ c.step.new.self _
+    kept_done (record { image = i.image.items; fuse = i.fuse; events = i.story.events; outcomes = i.story.outcomes }) i.book.total i.world i.given i.spare c.self.invariant c.args.hart Passes c.in-Done.reply _ _ _ c.step.new.self _
     (search (rules, below)) c.in-Done.ensures.sizes c.in-Done.ensures.honest c.in-Done.ensures.makes
-    (c.push_reserved-in-Done.ensures.items ∙ ap (λ (z : List Event). z ++ Step c.args.hart ∷ []) c.reserve.ensures.items)
-    (c.push_reserved-in-Done-2.ensures.items ∙ (λ j. c.reserve-else-is_err.ensures.items j ++ Stepped (Done (record { answer = c.in-Done.reply.answer; call = c.filled.ensures j })) ∷ []))
+    (c.done.ensures.events ∙ ap (λ (z : List Event). z ++ Step c.args.hart ∷ []) c.make_room.ensures.same.0)
+    (c.done.ensures.outcomes ∙ (λ j. c.make_room.ensures.same.1 j ++ Stepped (Done (record { answer = c.in-Done.reply.answer; call = c.filled.ensures j })) ∷ []))
     c.add.ensures.total c.take_spare.ensures.left
 
 pub returns-in-Some-clause-answer : goal.returns-in-Some-clause-answer
 returns-in-Some-clause-answer g c =
     let i = c.self.inside in
-    let had = had_spare (record { image = i.image.items; fuse = i.fuse; events = i.events.items; outcomes = i.outcomes.items }) i.book.total i.world i.given i.spare c.self.invariant c.args.hart Passes c.in-Done.reply c.step.new.self c.in-Done.ensures.makes in
+    let had = had_spare (record { image = i.image.items; fuse = i.fuse; events = i.story.events; outcomes = i.story.outcomes }) i.book.total i.world i.given i.spare c.self.invariant c.args.hart Passes c.in-Done.reply c.step.new.self c.in-Done.ensures.makes in
     let given = c.self.invariant.given_are c.args.hart (omega (arith, had.below, c.self.invariant.eight)) in
-    let p = c.push_reserved-in-Done.ensures.items ∙ ap (λ (z : List Event). z ++ Step c.args.hart ∷ []) c.reserve.ensures.items in
-    let q = c.push_reserved-in-Done-2.ensures.items ∙ (λ j. c.reserve-else-is_err.ensures.items j ++ Stepped (Done (record { answer = c.in-Done.reply.answer; call = c.filled.ensures j })) ∷ []) in (
+    let p = c.done.ensures.events ∙ ap (λ (z : List Event). z ++ Step c.args.hart ∷ []) c.make_room.ensures.same.0 in
+    let q = c.done.ensures.outcomes ∙ (λ j. c.make_room.ensures.same.1 j ++ Stepped (Done (record { answer = c.in-Done.reply.answer; call = c.filled.ensures j })) ∷ []) in (
       refl,
       given ∙ ap (λ (z : StoredRun). length (replies_of c.args.hart z)) c.self.view_is,
       (λ j. record { image = i.image.items; fuse = i.fuse; events = p j; outcomes = q j }) ∙ ap (λ (z : StoredRun). with_event z (Step c.args.hart) (Stepped (Done c.in-Done.reply))) c.self.view_is,

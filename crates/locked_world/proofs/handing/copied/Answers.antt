@@ -1,5 +1,5 @@
 use Rattle.std.proofs.Common.{rules}
-use Rattle.locked_world.proofs.locked.copied.Goals as goal
+use Rattle.locked_world.proofs.handing.copied.Goals as goal
 
 pub returns : goal.returns
 returns c = search (rules, c.clone.ensures.cases)

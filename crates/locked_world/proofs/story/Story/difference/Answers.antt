@@ -1,0 +1,21 @@
+use Rattle.std.proofs.Common.{◌≡◌, ◌≢◌, ◌∙◌, List, IfNone, IfSome, slice_get, sym, ap, subst}
+use Rattle.plain_tree.specs.declared.answer.Reply.{Reply}
+use Rattle.hart_core.specs.Runs.{all_shown}
+use Rattle.locked_world.specs.Kept.{replies_in}
+use Rattle.locked_world.specs.Stories.{given_to}
+use Rattle.locked_world.proofs.Noted.{told_replies}
+use Rattle.locked_world.proofs.story.Story.difference.Goals as goal
+
+pub returns-clause-none : goal.returns-clause-none
+returns-clause-none c =
+    let i = c.self.inside in
+    let h = c.args.hart in
+    let same = ap (given_to h) c.deref.ensures.value ∙ sym (told_replies h i.notes.items i.calls.items i.replies.items c.self.invariant.harts) ∙ ap (λ s. replies_in h (all_shown s.events s.outcomes)) c.self.view_is in
+    subst (λ (rs : List Reply). IfNone c.difference.result (c.args.replies.now ≡ rs)) same c.difference.ensures.none
+
+pub returns-clause-some : goal.returns-clause-some
+returns-clause-some c =
+    let i = c.self.inside in
+    let h = c.args.hart in
+    let same = ap (given_to h) c.deref.ensures.value ∙ sym (told_replies h i.notes.items i.calls.items i.replies.items c.self.invariant.harts) ∙ ap (λ s. replies_in h (all_shown s.events s.outcomes)) c.self.view_is in
+    subst (λ (rs : List Reply). IfSome c.difference.result (λ k. slice_get c.args.replies.now k ≢ slice_get rs k)) same c.difference.ensures.some

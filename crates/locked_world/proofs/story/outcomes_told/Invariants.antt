@@ -1,0 +1,6 @@
+use Rattle.std.proofs.Common.{◌≡◌, ◌≤◌, ◌++◌, drop}
+use Rattle.locked_world.specs.Stories.{noted_outcomes}
+use Rattle.locked_world.proofs.story.outcomes_told.Given as goal
+
+abbrev pub invariant-loop-i : goal.invariant-loop-i
+invariant-loop-i l = (l.outcomes.items ++ noted_outcomes (drop l.i l.notes) (drop l.place l.replies) ≡ noted_outcomes l.notes l.replies) × (l.place ≤ l.i)
