@@ -17,7 +17,15 @@ use plain_tree::{Call, Reply};
 use std::alloc::{AllocFailed, Global};
 use std::marker::Model;
 use std::sync::ledger::{Blank, Ledger};
-use std::sync::{Condvar, Mutex, Wait};
+use std::sync::{Condvar, Mutex, MutexGuard, Wait};
+use std::thread::yield_now;
+
+// How often a worker looks for the lock before it sleeps until it is free.
+const LOOKS: u32 = 64;
+
+// How many turns it leaves to others between two looks, some tenths of a millisecond. What a step works on lies with the processor that made the last one, and
+// to move it takes longer than a step does: so it is well that each worker makes many steps on end where several wait.
+const TURNS: u32 = 1000;
 
 // What stands under the lock: the world, and how many workers wait for others.
 struct Inside<L: Ledger> {
@@ -284,7 +292,7 @@ impl<L: Ledger, G: Gate + Drop> Kernel<L, G> {
             return Err(CallFault::Memory(Seat { share, replies }, call));
         }
         let hart = share.hart();
-        let started = self.inside.lock(rt).locked.start(&mut share, hart, call);
+        let started = self.enter(rt).locked.start(&mut share, hart, call);
         match started {
             Ok(begun) => {
                 let busy = BusySeat {
@@ -345,6 +353,17 @@ impl<L: Ledger, G: Gate + Drop> Kernel<L, G> {
         }
     }
 
+    // The lock. Where another worker has it, that one goes on for a while before it is looked for again.
+    fn enter<R: Wait>(&self, rt: &R) -> MutexGuard<'_, Inside<L>> {
+        for _ in 0..LOOKS {
+            if let Some(guard) = self.inside.try_lock() {
+                return guard;
+            }
+            stand_aside();
+        }
+        self.inside.lock(rt)
+    }
+
     // Steps of the hart until its call is answered or stopped.
     fn go<R: Wait>(&self, rt: &R, share: &mut Share<L>, tries: &mut u64) -> Ended<L>
         ensures hart { share.new.hart ≡ share.old.hart }
@@ -354,37 +373,53 @@ impl<L: Ledger, G: Gate + Drop> Kernel<L, G> {
         for _ in rt.forever() {
             self.gate.at(rt, hart, *tries);
             *tries = tries.saturating_add(1);
-            let mut guard = self.inside.lock(rt);
-            let told = guard.locked.step(share, hart);
-            if matches!(told, Told::Waits) {
-                guard.waiting = guard.waiting.saturating_add(1);
-                let mut guard = self.moved.wait(rt, guard);
-                guard.waiting = guard.waiting.saturating_sub(1);
-                drop(guard);
-                continue;
-            }
-            let wakes = guard.waiting > 0 && may_free(&told);
-            drop(guard);
-            if wakes {
-                self.moved.notify_all();
-            }
-            match told {
-                Told::Done(receipt) => return Ended::Done(receipt),
-                Told::Stopped(stop) => return Ended::Halts(stop),
-                _ => {}
+            let mut guard = self.enter(rt);
+            match guard.locked.step(share, hart) {
+                Told::Ran(kind) => self.leave(guard, may_free(kind)),
+                Told::Waits => self.wait(rt, guard),
+                Told::Idle => self.leave(guard, true),
+                Told::Done(receipt) => {
+                    self.leave(guard, true);
+                    return Ended::Done(receipt);
+                }
+                Told::Stopped(stop) => {
+                    self.leave(guard, true);
+                    return Ended::Halts(stop);
+                }
             }
         }
         unreachable!()
     }
+
+    // Gives the lock up, and wakes those who wait where what was done may have freed what they wait for.
+    fn leave(&self, guard: MutexGuard<'_, Inside<L>>, may_free: bool) {
+        let wakes = may_free && guard.waiting > 0;
+        drop(guard);
+        if wakes {
+            self.moved.notify_all();
+        }
+    }
+
+    // Waits until another worker may have freed something.
+    fn wait<R: Wait>(&self, rt: &R, mut guard: MutexGuard<'_, Inside<L>>) {
+        guard.waiting = guard.waiting.saturating_add(1);
+        let mut guard = self.moved.wait(rt, guard);
+        guard.waiting = guard.waiting.saturating_sub(1);
+        drop(guard);
+    }
 }
 
-// Whether a worker that waits may go on after this step. One that takes a lock, a buffer or a place in a transaction, or reads a block
+// Whether a worker that waits may go on after a step of this kind. One that takes a lock, a buffer or a place in a transaction, or reads a block
 // into a buffer, frees nothing.
-fn may_free<L: Ledger>(told: &Told<L>) -> bool {
-    !matches!(
-        told,
-        Told::Ran(Kind::Lock | Kind::Get | Kind::Read | Kind::Join)
-    )
+fn may_free(kind: Kind) -> bool {
+    !matches!(kind, Kind::Lock | Kind::Get | Kind::Read | Kind::Join)
+}
+
+// Leaves others their turns.
+fn stand_aside() {
+    for _ in 0..TURNS {
+        yield_now();
+    }
 }
 
 // Does not return.
