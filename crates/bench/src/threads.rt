@@ -31,8 +31,8 @@ impl Crew {
     }
 }
 
-// How often each hart makes its calls.
-const ROUNDS: u32 = 1000;
+// How often each hart makes its calls: so often that the kernel's opening counts for little.
+const ROUNDS: u32 = 5000;
 
 const FILES: u32 = 8;
 
