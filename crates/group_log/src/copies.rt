@@ -120,22 +120,16 @@ pub(crate) fn write_head<D: Device>(cache: &mut Cache<D>, start: u32, blocks: &[
     ensures seats { cache.new.seats ≡ cache.old.seats }
     ensures seen { (k : ℕ) → k ≢ start → seen D.contents cache.new k ≡ seen D.contents cache.old k }
 {
-    let head = head_of(blocks);
+    let mut head = [0; BLOCK_LEN];
+    name_blocks(&mut head, blocks);
     outcome(cache.write_uncached(start, &head))
 }
 
-// The bytes of a head with these blocks.
-fn head_of(blocks: &[u32]) -> Block
-    requires { length blocks.now ≤ LOG_HEAD_LEN }
-    ensures { result ≡ head_block blocks.now }
+// Makes a block of zeros a head with these blocks.
+fn name_blocks(head: &mut Block, blocks: &[u32])
+    requires zeros { head.old ≡ replicate BLOCK_LEN 0 }
+    requires short { length blocks.now ≤ LOG_HEAD_LEN }
+    ensures { head.new ≡ head_block blocks.now }
 {
-    let mut head = zeros();
-    write_log_head(&mut head, blocks);
-    head
-}
-
-fn zeros() -> Block
-    ensures { result ≡ replicate BLOCK_LEN 0 }
-{
-    [0; BLOCK_LEN]
+    write_log_head(head, blocks);
 }
