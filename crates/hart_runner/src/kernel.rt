@@ -16,16 +16,17 @@ use locked_world::{
 use plain_tree::{Call, Reply};
 use std::alloc::{AllocFailed, Global};
 use std::marker::Model;
+use std::sync::atomic::AtomicU64;
 use std::sync::ledger::{Blank, Ledger};
 use std::sync::{Condvar, Mutex, MutexGuard, Wait};
-use std::thread::yield_now;
+use std::time::Duration;
 
 // How often a worker looks for the lock before it sleeps until it is free.
 const LOOKS: u32 = 64;
 
-// How many turns it leaves to others between two looks, some tenths of a millisecond. What a step works on lies with the processor that made the last one, and
-// to move it takes longer than a step does: so it is well that each worker makes many steps on end where several wait.
-const TURNS: u32 = 1000;
+// So many microseconds it sleeps between two looks. What a step works on lies with the processor that made the last one, and to move it takes longer than
+// many steps do: so it is well that each worker makes many on end where several wait.
+const ASIDE: u64 = 1000;
 
 // What stands under the lock: the world, and how many workers wait for others.
 struct Inside<L: Ledger> {
@@ -359,7 +360,7 @@ impl<L: Ledger, G: Gate + Drop> Kernel<L, G> {
             if let Some(guard) = self.inside.try_lock() {
                 return guard;
             }
-            stand_aside();
+            stand_aside(rt);
         }
         self.inside.lock(rt)
     }
@@ -415,11 +416,9 @@ fn may_free(kind: Kind) -> bool {
     !matches!(kind, Kind::Lock | Kind::Get | Kind::Read | Kind::Join)
 }
 
-// Leaves others their turns.
-fn stand_aside() {
-    for _ in 0..TURNS {
-        yield_now();
-    }
+// Leaves others their turns for a while.
+fn stand_aside<R: Wait>(rt: &R) {
+    AtomicU64::new(0).park_timeout(rt, 0, Duration::from_micros(ASIDE));
 }
 
 // Does not return.
