@@ -1,14 +1,23 @@
 -- What a call says.
-use Rattle.std.specs.Prelude.{ℕ, ◌≡◌, ◌+◌, ◌++◌, ◌∷◌, [], List, map, length, Result, Ok, Err}
-use Rattle.plain_tree.specs.declared.answer.Reply.{Reply}
+use Rattle.std.specs.Prelude.{ℕ, ◌≡◌, ◌+◌, ◌++◌, ◌∷◌, [], length}
 use Rattle.plain_tree.specs.declared.call.Call.{Call}
 use Rattle.locked_world.specs.HandedBack.{HandsBack}
 use Rattle.locked_world.specs.declared.locked.Receipt.{Receipt}
+use Rattle.locked_world.specs.declared.locked.Told.{Told}
+use Rattle.locked_world.specs.declared.locked.Told.TheVariants as told
 use Rattle.hart_runner.specs.Seats.{SeatV, BusyV, busy_of}
 use Rattle.hart_runner.specs.declared.kernel.CallFault.{CallFault}
 use Rattle.hart_runner.specs.declared.kernel.CallFault.TheVariants.{Start, Memory, Stopped}
 use Rattle.hart_runner.specs.declared.kernel.Ended.{Ended}
 use Rattle.hart_runner.specs.declared.kernel.Ended.TheVariants.{Done, Halts}
+
+-- a hart's steps on end, at the count a before and b after
+abbrev pub CameTo : {L : _} → ℕ → ℕ → Told L → ℕ → Type 0
+CameTo hart a told.Idle b = b ≡ a
+CameTo hart a told.Waits b = b ≡ a
+CameTo hart a (told.Ran kind) b = b ≡ a
+CameTo hart a (told.Done r) b = (r.hart ≡ hart) × (b ≡ a + 1)
+CameTo hart a (told.Stopped why) b = b ≡ a
 
 -- a hart's steps to the end of its call, at the count a before and b after
 abbrev pub WentOn : {L : _} → ℕ → ℕ → Ended L → ℕ → Type 0

@@ -4,7 +4,7 @@ ghost use Rattle.block_device.specs.Blocks.{blocks_of};
 ghost use Rattle.image_tree.specs.Damage.{IsWellFormed, JudgesFault};
 ghost use Rattle.locked_world.specs.Kept.{replies_of, count_of};
 ghost use Rattle.hart_runner.specs.Seats.{kept_view, kept_of, busy_of, IsListed, OneDiffers, Differs};
-ghost use Rattle.hart_runner.specs.Calls.{WentOn, IsAnswered, IsRefused, StillBusy};
+ghost use Rattle.hart_runner.specs.Calls.{WentOn, CameTo, IsAnswered, IsRefused, StillBusy};
 
 use crate::gate::Gate;
 use fs_machine::Kind;
@@ -27,6 +27,9 @@ const LOOKS: u32 = 64;
 // So many microseconds it sleeps between two looks. What a step works on lies with the processor that made the last one, and to move it takes longer than
 // many steps do: so it is well that each worker makes many on end where several wait.
 const ASIDE: u64 = 1000;
+
+// So many steps of its call a worker makes on end under the lock where the gate is always open.
+const ON_END: u32 = 64;
 
 // What stands under the lock: the world, and how many workers wait for others.
 struct Inside<L: Ledger> {
@@ -371,13 +374,14 @@ impl<L: Ledger, G: Gate + Drop> Kernel<L, G> {
         ensures went { WentOn share.old.hart share.old.tally.amount result share.new.tally.amount }
     {
         let hart = share.hart();
+        let most = self.most_on_end();
         for _ in rt.forever() {
             self.gate.at(rt, hart, *tries);
-            *tries = tries.saturating_add(1);
             let mut guard = self.enter(rt);
-            match guard.locked.step(share, hart) {
-                Told::Ran(kind) => self.leave(guard, may_free(kind)),
-                Told::Waits => self.wait(rt, guard),
+            let (told, frees) = steps(&mut guard.locked, share, most, tries);
+            match told {
+                Told::Ran(kind) => self.leave(guard, frees || may_free(kind)),
+                Told::Waits => self.wait(rt, guard, frees),
                 Told::Idle => self.leave(guard, true),
                 Told::Done(receipt) => {
                     self.leave(guard, true);
@@ -392,6 +396,17 @@ impl<L: Ledger, G: Gate + Drop> Kernel<L, G> {
         unreachable!()
     }
 
+    // So many steps a worker makes on end.
+    fn most_on_end(&self) -> u32
+        ensures { 0 < result }
+    {
+        if self.gate.is_always_open() {
+            ON_END
+        } else {
+            1
+        }
+    }
+
     // Gives the lock up, and wakes those who wait where what was done may have freed what they wait for.
     fn leave(&self, guard: MutexGuard<'_, Inside<L>>, may_free: bool) {
         let wakes = may_free && guard.waiting > 0;
@@ -402,12 +417,43 @@ impl<L: Ledger, G: Gate + Drop> Kernel<L, G> {
     }
 
     // Waits until another worker may have freed something.
-    fn wait<R: Wait>(&self, rt: &R, mut guard: MutexGuard<'_, Inside<L>>) {
+    fn wait<R: Wait>(&self, rt: &R, mut guard: MutexGuard<'_, Inside<L>>, may_free: bool) {
+        if may_free && guard.waiting > 0 {
+            self.moved.notify_all();
+        }
         guard.waiting = guard.waiting.saturating_add(1);
         let mut guard = self.moved.wait(rt, guard);
         guard.waiting = guard.waiting.saturating_sub(1);
         drop(guard);
     }
+}
+
+// Steps of a hart's call on end, as many as this: what the last one came to, and whether one before it may have freed something.
+fn steps<L: Ledger>(
+    locked: &mut Locked<L>,
+    share: &mut Share<L>,
+    most: u32,
+    tries: &mut u64,
+) -> (Told<L>, bool)
+    requires some { 0 < most }
+    ensures hart { share.new.hart ≡ share.old.hart }
+    ensures came { CameTo share.old.hart share.old.tally.amount result.0 share.new.tally.amount }
+{
+    let hart = share.hart();
+    let mut frees = false;
+    for i in 0..most {
+        *tries = tries.saturating_add(1);
+        match locked.step(share, hart) {
+            Told::Ran(kind) => {
+                if i + 1 == most {
+                    return (Told::Ran(kind), frees);
+                }
+                frees = frees || may_free(kind);
+            }
+            told => return (told, frees),
+        }
+    }
+    unreachable!()
 }
 
 // Whether a worker that waits may go on after a step of this kind. One that takes a lock, a buffer or a place in a transaction, or reads a block
