@@ -1,8 +1,9 @@
 // A buffer, as its holder has it.
-ghost use Rattle.std.specs.Prelude.{◌≡◌, ◌↔◌, Some, None, IsSome, IsTrue, IfOk};
+ghost use Rattle.std.specs.Prelude.{◌≡◌, ◌↔◌, ◌<◌, length, Some, None, IsSome, IsTrue, IfOk, OnOk, OnErr};
 ghost use Rattle.std.specs.Borrow.{sem};
+ghost use Rattle.block_device.specs.Blocks.{block_at, faults_after};
 
-use block_device::BLOCK_LEN;
+use block_device::{BLOCK_LEN, Device, Fault};
 use std::alloc::{AllocError, Global};
 use std::marker::Model;
 
@@ -23,11 +24,6 @@ impl Model for Buffer {
     ghost view = { λ b. record { block = b.block; content = content_of b.valid b.bytes.value } };
 }
 
-// A block of zeros.
-pub(crate) fn zeros(alloc: Global) -> Result<Box<[u8; BLOCK_LEN]>, AllocError> {
-    Ok(Box::new(alloc, [0; BLOCK_LEN])?)
-}
-
 impl Buffer {
     ghost use Rattle.buffer_cache.specs.Lending.{LendsBytes};
 
@@ -37,7 +33,7 @@ impl Buffer {
         Ok(Buffer {
             block: 0,
             valid: false,
-            bytes: zeros(alloc)?,
+            bytes: Box::new(alloc, [0; BLOCK_LEN])?,
         })
     }
 
@@ -56,12 +52,19 @@ impl Buffer {
         self.valid = false;
     }
 
-    // From now on it has these bytes.
-    pub(crate) fn fill(&mut self, bytes: &[u8; BLOCK_LEN])
-        ensures { self.new ≡ record self.old { content = Some bytes.now } }
+    // Reads its block from the device.
+    pub(crate) fn read<D: Device>(&mut self, device: &mut D) -> Result<(), Fault>
+        requires unread { self.old.content ≡ None }
+        requires within { self.old.block < length (D.contents device.old) }
+        ensures called { D.Called device.old device.new }
+        ensures ok { OnOk result (self.new ≡ record self.old { content = Some (block_at (D.contents device.old) self.old.block) }) }
+        ensures err { OnErr result (self.new ≡ self.old) }
+        ensures contents { D.contents device.new ≡ D.contents device.old }
+        ensures faults { D.failures device.new ≡ faults_after result (D.failures device.old) }
     {
-        *self.bytes = *bytes;
+        device.read(self.block, &mut *self.bytes)?;
         self.valid = true;
+        Ok(())
     }
 
     /// The number of the block.

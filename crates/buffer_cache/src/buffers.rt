@@ -175,7 +175,7 @@ fn new_seats(alloc: Global) -> Result<Vec<Seat>, AllocError>
 {
     let mut seats = Vec::with_capacity(alloc, BUFFERS)?;
     for number in 0..BUFFERS {
-        seats.push(Seat::new(alloc, number as u32)?)?;
+        seats.push(Seat::new(number as u32))?;
     }
     Ok(seats)
 }
@@ -318,9 +318,9 @@ fn fill_in<D: Device>(
 {
     let b = guard.value().block();
     let i = place_of(seats, likely, b).unwrap();
+    guard.value_mut().read(device)?;
     let seat = &mut seats[i];
-    seat.read(device, b)?;
-    guard.value_mut().fill(seat.bytes());
+    seat.keep(guard.value().bytes());
     Ok(())
 }
 

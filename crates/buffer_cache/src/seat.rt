@@ -1,15 +1,13 @@
 // What the cache keeps of a buffer, and the list of these in order of giving back.
-ghost use Rattle.std.specs.Prelude.{◌≡◌, ◌↔◌, ◌<◌, length, position, Some, None, IsSome, IsTrue, IfOk, OnOk, OnErr};
-ghost use Rattle.block_device.specs.Blocks.{block_at, faults_after};
+ghost use Rattle.std.specs.Prelude.{◌≡◌};
 ghost use Rattle.buffer_cache.specs.Seats.{has_block, is_free, is_held_by, is_pinned, unused, with_holder, without_holder, with_content, with_pin, as_new};
 
-use crate::buffer::zeros;
-use block_device::{BLOCK_LEN, Device, Fault};
-use std::alloc::{AllocError, Global};
+use block_device::BLOCK_LEN;
 use std::marker::Model;
+use std::snapshot::Snapshot;
 
-/// What the cache keeps of a buffer. The bytes are those of the last fill or record. They are in a box, so that who looks for a
-/// block goes through little memory.
+/// What the cache keeps of a buffer. The bytes are those of the last fill or record, as clauses see them: they take no memory, since
+/// the buffer in the slot has them, and while it is out no code reads what it had.
 #[derive(Drop)]
 pub(crate) struct Seat {
     number: u32,
@@ -19,7 +17,7 @@ pub(crate) struct Seat {
     valid: bool,
     pinned: bool,
     holder: Option<u8>,
-    bytes: Box<[u8; BLOCK_LEN]>,
+    bytes: Snapshot<[u8; BLOCK_LEN]>,
 }
 
 impl Model for Seat {
@@ -38,18 +36,18 @@ impl Model for Seat {
 }
 
 impl Seat {
-    pub fn new(alloc: Global, number: u32) -> Result<Seat, AllocError>
-        ensures { IfOk result (λ seat. seat ≡ unused number) }
+    pub fn new(number: u32) -> Seat
+        ensures { result ≡ unused number }
     {
-        Ok(Seat {
+        Seat {
             number,
             block: 0,
             used: false,
             valid: false,
             pinned: false,
             holder: None,
-            bytes: zeros(alloc)?,
-        })
+            bytes: Snapshot::of(&[0; BLOCK_LEN]),
+        }
     }
 
     pub fn number(&self) -> u32
@@ -85,13 +83,6 @@ impl Seat {
         self.pinned
     }
 
-    pub fn bytes(&self) -> &[u8; BLOCK_LEN]
-        requires { IsSome self.now.content }
-        ensures { Some result.now ≡ self.now.content }
-    {
-        &*self.bytes
-    }
-
     pub fn lend(&mut self, hart: u8)
         ensures { self.new ≡ with_holder hart self.old }
     {
@@ -116,7 +107,7 @@ impl Seat {
     pub fn keep(&mut self, bytes: &[u8; BLOCK_LEN])
         ensures { self.new ≡ with_content bytes.now self.old }
     {
-        *self.bytes = *bytes;
+        self.bytes = Snapshot::of(bytes);
         self.valid = true;
     }
 
@@ -124,20 +115,5 @@ impl Seat {
         ensures { self.new ≡ with_pin pinned self.old }
     {
         self.pinned = pinned;
-    }
-
-    // Reads block b of the device.
-    pub fn read<D: Device>(&mut self, device: &mut D, b: u32) -> Result<(), Fault>
-        requires unread { self.old.content ≡ None }
-        requires within { b < length (D.contents device.old) }
-        ensures called { D.Called device.old device.new }
-        ensures ok { OnOk result (self.new ≡ with_content (block_at (D.contents device.old) b) self.old) }
-        ensures err { OnErr result (self.new ≡ self.old) }
-        ensures contents { D.contents device.new ≡ D.contents device.old }
-        ensures faults { D.failures device.new ≡ faults_after result (D.failures device.old) }
-    {
-        device.read(b, &mut *self.bytes)?;
-        self.valid = true;
-        Ok(())
     }
 }

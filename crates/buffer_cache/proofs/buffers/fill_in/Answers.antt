@@ -1,9 +1,10 @@
 use Rattle.std.proofs.Common.{◌≡◌, ℕ, List, Some, sym, ◌∙◌, ap, subst, IsSome}
+use Rattle.std.proofs.lemmas.Option.{same_Some}
 use Rattle.block_device.specs.Blocks.{block_at}
 use Rattle.buffer_cache.specs.Buffers.{BufferState}
 use Rattle.buffer_cache.specs.Seats.{SeatState, has_block, seat_of, with_content}
-use Rattle.buffer_cache.proofs.Firsts.{has_place, place_change, place_first}
-use Rattle.buffer_cache.proofs.Seated.{held_cached, held_unread, found}
+use Rattle.buffer_cache.proofs.Firsts.{has_place, place_change}
+use Rattle.buffer_cache.proofs.Seated.{held_cached, found}
 use Rattle.buffer_cache.proofs.buffers.fill_in.Goals as goal
 
 pub unwrap-i-requires : goal.unwrap-i-requires
@@ -14,12 +15,7 @@ unwrap-i-requires g c =
     (subst (λ (l : List SeatState). IsSome (seat_of c.block-b.result l)) (sym c.deref.ensures.value) there)
 
 pub read-requires-clause-unread : goal.read-requires-clause-unread
-read-requires-clause-unread g c =
-    let b : c.block-b.result ≡ c.args.guard.now.value.block = c.block-b.ensures ∙ ap (λ (v : BufferState). v.block) c.value.ensures in
-    let place = found c.block-b.result c.args.guard.now.value.block c.unwrap-i.result c.deref.result.now c.args.seats.now.items c.place_of.result c.place_of.ensures c.deref.ensures.value b c.unwrap-i.ensures in
-    let s : SeatState = c.index_mut-seat.result.now in
-    let first = place_first (has_block c.args.guard.now.value.block) c.args.seats.now.items c.unwrap-i.result s place ∙ ap (λ (w : SeatState). Some w) (sym c.index_mut-seat.ensures.value) in
-    held_unread c.args.seats.now.items c.args.guard.now s first c.requires.held c.requires.unread
+read-requires-clause-unread g c = ap (λ (v : BufferState). v.content) c.value_mut.ensures.value ∙ c.requires.unread
 
 pub returns-clause-seats : goal.returns-clause-seats
 returns-clause-seats g c =
@@ -27,7 +23,10 @@ returns-clause-seats g c =
     let b : c.block-b.result ≡ gb = c.block-b.ensures ∙ ap (λ (v : BufferState). v.block) c.value.ensures in
     let place = found c.block-b.result gb c.unwrap-i.result c.deref.result.now c.args.seats.now.items c.place_of.result c.place_of.ensures c.deref.ensures.value b c.unwrap-i.ensures in
     let contents = g.D.Device.contents c.args.device.now in
+    let bytes : Some c.bytes.result.now ≡ Some (block_at contents gb) = c.bytes.ensures
+    ∙ ap (λ (v : BufferState). v.content) (c.value-2.ensures ∙ c.in_ok-read.ensures.ok)
+    ∙ ap (λ (v : BufferState). Some (block_at contents v.block)) c.value_mut.ensures.value in
     place_change (has_block gb) (with_content (block_at contents gb)) c.args.seats.now.items c.unwrap-i.result _ _ place
     (ap (with_content (block_at contents gb)) (sym c.index_mut-seat.ensures.value)
-    ∙ ap (λ (k : ℕ). with_content (block_at contents k) c.index_mut-seat.result.now) (sym b)
-    ∙ sym c.in_ok-read.ensures.ok)
+    ∙ ap (λ (l : List ℕ). with_content l c.index_mut-seat.result.now) (sym (same_Some c.bytes.result.now (block_at contents gb) bytes))
+    ∙ sym c.keep.ensures)

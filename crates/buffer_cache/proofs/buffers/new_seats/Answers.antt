@@ -9,6 +9,6 @@ loop-number-init c = c.in_ok-seats.ensures.items ∙ no_unused
 pub loop-number-preserved : goal.loop-number-preserved
 loop-number-preserved c =
     c.in_ok-push.ensures.items
-    ∙ ap (λ (l : List SeatState). l ++ c.in_ok-new.field-0 ∷ []) c.loop-number.invariant
-    ∙ ap (λ (s : SeatState). unused_from 0 c.loop-number.number ++ s ∷ []) c.in_ok-new.ensures
+    ∙ ap (λ (l : List SeatState). l ++ c.new.result ∷ []) c.loop-number.invariant
+    ∙ ap (λ (s : SeatState). unused_from 0 c.loop-number.number ++ s ∷ []) c.new.ensures
     ∙ unused_push c.loop-number.number
