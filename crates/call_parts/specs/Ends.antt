@@ -20,22 +20,19 @@ use Rattle.call_parts.specs.declared.quit.Quit.TheVariants as quitting
 
 unfoldable pub give_of : GiveUp → P (Unit {0})
 give_of (giving.Unlock sizes held) = give_up sizes (inode_in held)
-give_of (giving.Dropping (Some m)) = drop_of m
-give_of (giving.Dropping None) = Ret tt
+give_of (giving.Dropping m) = drop_of m
 give_of giving.Gone = Ret tt
 
 -- its guard goes with the state
 unfoldable pub GiveFits : ℕ → State → GiveUp → Type 0
 GiveFits hart s (giving.Unlock sizes held) = IsEarly sizes.inodestart × IsHeld hart held s
-GiveFits hart s (giving.Dropping (Some m)) = DropFits hart s m
-GiveFits hart s (giving.Dropping None) = ⊥
+GiveFits hart s (giving.Dropping m) = DropFits hart s m
 GiveFits hart s giving.Gone = ⊥
 
 -- its lock isn't that of this inode
 unfoldable pub GiveApart : ℕ → GiveUp → Type 0
 GiveApart k (giving.Unlock sizes held) = k ≢ held.reference
-GiveApart k (giving.Dropping (Some m)) = DropApart k m
-GiveApart k (giving.Dropping None) = Unit {0}
+GiveApart k (giving.Dropping m) = DropApart k m
 GiveApart k giving.Gone = Unit {0}
 
 -- a lock is given back

@@ -11,6 +11,7 @@ use Rattle.fs_machine.specs.Fetching.{finish_of, FinishFits}
 use Rattle.inode_table.specs.Machines.{load_of, LoadFits}
 use Rattle.inode_data.specs.Freeing.{free_inode}
 use Rattle.inode_data.specs.Dropping.{free_inode_of, FreeInodeFits}
+use Rattle.inode_data.specs.declared.freeing.FreeInode.TheVariants as freeing
 use Rattle.file_table.specs.Machines.{IsEarly}
 use Rattle.call_parts.specs.Programs.{say, free_locked, free_listed, free_all}
 use Rattle.call_parts.specs.Replies.{no_program}
@@ -40,8 +41,7 @@ tail_of (tail.Join e n) = free_listed e.sizes n (rest_of e)
 tail_of (tail.Lock e n txn) = Do (Lock n) unmarked (free_locked e.sizes n (rest_of e))
 tail_of (tail.Loading e n txn guard (Some m)) = bind (load_of m) (free_loaded e n)
 tail_of (tail.Loading e n txn guard None) = no_program
-tail_of (tail.Freeing e txn (Some m)) = bind (free_inode_of m) (λ _. leave_freed e)
-tail_of (tail.Freeing e txn None) = no_program
+tail_of (tail.Freeing e txn m) = bind (free_inode_of m) (λ _. leave_freed e)
 tail_of (tail.Say reply list) = say reply
 tail_of tail.Gone = no_program
 
@@ -53,8 +53,7 @@ TailFits hart s (tail.Join e n) = IsEarly e.sizes.inodestart
 TailFits hart s (tail.Lock e n txn) = IsEarly e.sizes.inodestart × (txn ≡ hart)
 TailFits hart s (tail.Loading e n txn guard (Some m)) = IsEarly e.sizes.inodestart × (txn ≡ hart) × IsOwnInode hart n guard s × LoadFits hart s m
 TailFits hart s (tail.Loading e n txn guard None) = ⊥
-TailFits hart s (tail.Freeing e txn (Some m)) = IsEarly e.sizes.inodestart × (txn ≡ hart) × FreeInodeFits hart s m
-TailFits hart s (tail.Freeing e txn None) = ⊥
+TailFits hart s (tail.Freeing e txn m) = IsEarly e.sizes.inodestart × (txn ≡ hart) × FreeInodeFits hart s m
 TailFits hart s (tail.Say reply list) = list ≡ []
 TailFits hart s tail.Gone = ⊥
 
@@ -114,7 +113,7 @@ IsFreeing (tail.Freeing e txn m) = Unit {0}
 IsFreeing _ = ⊥
 
 abbrev pub HasFreed : Tail → Type 0
-HasFreed (tail.Freeing e txn m) = IsEarly e.sizes.inodestart × (m ≡ None)
+HasFreed (tail.Freeing e txn m) = IsEarly e.sizes.inodestart × (m ≡ freeing.Gone)
 HasFreed _ = ⊥
 
 abbrev pub FreedTo : Tail → Tail → Type 0

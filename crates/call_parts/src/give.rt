@@ -1,5 +1,5 @@
 //! An inode given up.
-ghost use Rattle.std.specs.Prelude.{◌≡◌, ◌≢◌, ℕ, Option, None};
+ghost use Rattle.std.specs.Prelude.{◌≡◌, ◌≢◌, ℕ};
 ghost use Rattle.atomic_programs.specs.Prog.{Ret, Do, unmarked};
 ghost use Rattle.atomic_programs.specs.Machines.{stepped_at};
 ghost use Rattle.fs_machine.specs.Steps.{State, state_of, Down, Freed};
@@ -9,6 +9,7 @@ ghost use Rattle.fs_machine.specs.Places.{StepsAt};
 ghost use Rattle.fs_machine.specs.Stays.{LeavesApart};
 ghost use Rattle.inode_data.specs.Freeing.{drop_reference};
 ghost use Rattle.inode_data.specs.declared.dropping.DropReference.{DropReference};
+ghost use Rattle.inode_data.specs.declared.dropping.DropReference.TheVariants as dropping;
 ghost use Rattle.file_table.specs.Machines.{IsEarly};
 ghost use Rattle.call_parts.specs.Parts.{give_up};
 ghost use Rattle.call_parts.specs.Taking.{inode_in, IsHeld};
@@ -16,7 +17,7 @@ ghost use Rattle.call_parts.specs.Ends.{give_of, GiveApart, GiveFits, IsUnlockin
 ghost use Rattle.call_parts.specs.declared.give.GiveUp.TheVariants as giving;
 
 use crate::take::Held;
-use atomic_programs::machines::{Came, Stepped, put};
+use atomic_programs::machines::Came;
 use block_device::Device;
 use fs_layout::Super;
 use fs_machine::{Core, Kind, RetiredCore};
@@ -30,7 +31,7 @@ pub enum GiveUp {
     /// The lock is given back, on a disk with this superblock.
     Unlock(Super, Held),
     /// The reference is dropped.
-    Dropping(Option<DropReference>),
+    Dropping(DropReference),
     /// It has ended, or is being changed.
     Gone,
 }
@@ -55,7 +56,7 @@ impl GiveUp {
         ensures fits { (hart : ℕ) (s : State) → GiveFits hart s result }
         ensures apart { (k : ℕ) → GiveApart k result }
     {
-        GiveUp::Dropping(Some(DropReference::new(reference, sizes)))
+        GiveUp::Dropping(DropReference::new(reference, sizes))
     }
 
     /// This reference alone, of an inode to which another one stands: nothing is freed.
@@ -65,7 +66,7 @@ impl GiveUp {
         ensures fits { (hart : ℕ) (s : State) → GiveFits hart s result }
         ensures apart { (k : ℕ) → GiveApart k result }
     {
-        GiveUp::Dropping(Some(DropReference::Freeing(FreeInode::Dropping(reference))))
+        GiveUp::Dropping(DropReference::Freeing(FreeInode::Dropping(reference)))
     }
 
     /// One operation of it in its place.
@@ -99,7 +100,7 @@ impl GiveUp {
                 let Held { reference, inode } = held;
                 core.unlock(hart, inode);
                 let drop = DropReference::new(reference, &sizes);
-                self.put(GiveUp::Dropping(Some(drop)));
+                self.put(GiveUp::Dropping(drop));
                 Came::Ran(Kind::Unlock)
             }
             _ => unreachable!(),
@@ -109,7 +110,7 @@ impl GiveUp {
     // The reference is dropped.
     #[tactic(auto, unfolding(crate::specs::Ends::give_of, crate::specs::Ends::GiveFits, crate::specs::Ends::GiveApart, fs_machine::specs::Premises::Honest))]
     fn drop<D: Device>(&mut self, hart: u8, txn: &mut Txn, core: &mut Core<D>) -> Came<(), Kind>
-        requires at { (x : Option DropReference) × (self.old ≡ giving.Dropping x) }
+        requires at { (x : DropReference) × (self.old ≡ giving.Dropping x) }
         requires txn { txn.old ≡ hart }
         requires may { MayNext hart (give_of self.old) (state_of D.contents D.failures core.old) }
         requires fits { GiveFits hart (state_of D.contents D.failures core.old) self.old }
@@ -118,39 +119,27 @@ impl GiveUp {
         ensures rest { LeavesApart GiveApart (λ _ _. Unit {0}) (IsOwnInode hart) self.old (stepped_at self.new result) (state_of D.contents D.failures core.old) (state_of D.contents D.failures core.new) }
     {
         match self {
-            GiveUp::Dropping(place) => match mem::replace(place, None) {
-                Some(drop) => match drop.step(hart, txn, core) {
-                    Stepped::Waits(drop) => {
-                        put(place, drop);
-                        Came::Waits
-                    }
-                    Stepped::Ran(drop, kind) => {
-                        put(place, drop);
-                        Came::Ran(kind)
-                    }
-                    Stepped::Done((), kind) => {
-                        self.end();
-                        Came::Done((), kind)
-                    }
-                    Stepped::Stopped(drop) => {
-                        put(place, drop);
-                        Came::Stopped
-                    }
-                },
-                None => unreachable!(),
+            GiveUp::Dropping(drop) => match drop.step(hart, txn, core) {
+                Came::Waits => Came::Waits,
+                Came::Ran(kind) => Came::Ran(kind),
+                Came::Done((), kind) => {
+                    self.end();
+                    Came::Done((), kind)
+                }
+                Came::Stopped => Came::Stopped,
             },
             _ => unreachable!(),
         }
     }
 
     fn end(&mut self)
-        requires { self.old ≡ giving.Dropping None }
+        requires { self.old ≡ giving.Dropping dropping.Gone }
         ensures { self.new ≡ giving.Gone }
     {
         match mem::replace(self, GiveUp::Gone) {
-            GiveUp::Dropping(place) => match place {
-                None => {}
-                Some(_) => unreachable!(),
+            GiveUp::Dropping(drop) => match drop {
+                DropReference::Gone => {}
+                _ => unreachable!(),
             },
             _ => unreachable!(),
         }
@@ -170,10 +159,7 @@ impl GiveUp {
     pub fn retire(self, retired: &RetiredCore) {
         match self {
             GiveUp::Unlock(_, held) => held.retire(retired),
-            GiveUp::Dropping(place) => match place {
-                Some(drop) => drop.retire(retired),
-                None => {}
-            },
+            GiveUp::Dropping(drop) => drop.retire(retired),
             GiveUp::Gone => {}
         }
     }

@@ -7,7 +7,6 @@
 mod answered;
 mod counts;
 mod give;
-mod heard;
 mod on_path;
 mod quit;
 mod reach;
@@ -19,7 +18,6 @@ mod take;
 pub use crate::answered::Answered;
 pub use crate::counts::{MOST_LINKS, store, with_links};
 pub use crate::give::GiveUp;
-pub use crate::heard::told;
 pub use crate::on_path::{OnPath, ending, stopped};
 pub use crate::quit::Quit;
 pub use crate::reach::{Reach, Reached};

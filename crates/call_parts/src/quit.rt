@@ -1,10 +1,11 @@
 //! How a call on a path ends: what it has in hand is given up, and then comes the tail.
-ghost use Rattle.std.specs.Prelude.{◌≡◌, ◌≢◌, ℕ, [], ◌∷◌};
+ghost use Rattle.std.specs.Prelude.{◌≡◌, ◌≢◌, ℕ, [], ◌∷◌, None};
 ghost use Rattle.fs_machine.specs.Steps.{State, state_of};
 ghost use Rattle.fs_machine.specs.Machines.{MayNext};
 ghost use Rattle.fs_machine.specs.Places.{StepsAt};
 ghost use Rattle.fs_machine.specs.Tied.{IsOwnInode};
 ghost use Rattle.file_table.specs.Machines.{IsEarly};
+ghost use Rattle.call_parts.specs.Heard.{heard, IsHeard};
 ghost use Rattle.call_parts.specs.Spent.{reply_in, IsSpent};
 ghost use Rattle.call_parts.specs.Parts.{quit, unlock_quit, drop_quit};
 ghost use Rattle.call_parts.specs.Taking.{inode_in, IsHeld};
@@ -98,28 +99,41 @@ impl Quit {
 
     /// One operation of it in its place.
     #[tactic(auto, unfolding(crate::specs::Ends::quit_of, crate::specs::Ends::QuitFits))]
-    pub fn step<D: Device>(&mut self, hart: u8, core: &mut Core<D>) -> Came<Answered, Kind>
+    pub fn step<D: Device>(
+        &mut self,
+        replied: &mut Option<Answered>,
+        hart: u8,
+        core: &mut Core<D>,
+    ) -> Came<(), Kind>
         requires may { MayNext hart (quit_of self.old) (state_of D.contents D.failures core.old) }
         requires fits { QuitFits hart (state_of D.contents D.failures core.old) self.old }
-        ensures steps { StepsAt D.contents D.failures D.Called quit_of reply_in QuitFits IsSpent quitting.Gone hart self.old self.new result core.old core.new }
+        requires none { replied.old ≡ None }
+        ensures steps { StepsAt D.contents D.failures D.Called quit_of reply_in QuitFits IsSpent quitting.Gone hart self.old self.new (heard result replied.new) core.old core.new }
+        ensures told { IsHeard result replied.new }
     {
-        // Each arm returns at once, so that a result is copied once.
         match self {
-            Quit::Unlock(_, _, _) => return self.unlock(hart, core),
-            Quit::Giving(_, _, _) => return self.give(hart, core),
-            Quit::Two(_, _, _, _) => return self.give_first(hart, core),
-            Quit::Tail(_) => return self.end(hart, core),
+            Quit::Unlock(_, _, _) => self.unlock(replied, hart, core),
+            Quit::Giving(_, _, _) => self.give(replied, hart, core),
+            Quit::Two(_, _, _, _) => self.give_first(replied, hart, core),
+            Quit::Tail(_) => self.end(replied, hart, core),
             Quit::Gone => unreachable!(),
         }
     }
 
     // An inode is given up.
     #[tactic(auto, unfolding(crate::specs::Ends::quit_of, crate::specs::Ends::QuitFits))]
-    fn give<D: Device>(&mut self, hart: u8, core: &mut Core<D>) -> Came<Answered, Kind>
+    fn give<D: Device>(
+        &mut self,
+        replied: &mut Option<Answered>,
+        hart: u8,
+        core: &mut Core<D>,
+    ) -> Came<(), Kind>
         requires at { (x : Ending × ℕ × GiveUp) × (self.old ≡ quitting.Giving x.0 x.1 x.2) }
         requires may { MayNext hart (quit_of self.old) (state_of D.contents D.failures core.old) }
         requires fits { QuitFits hart (state_of D.contents D.failures core.old) self.old }
-        ensures steps { StepsAt D.contents D.failures D.Called quit_of reply_in QuitFits IsSpent quitting.Gone hart self.old self.new result core.old core.new }
+        requires none { replied.old ≡ None }
+        ensures steps { StepsAt D.contents D.failures D.Called quit_of reply_in QuitFits IsSpent quitting.Gone hart self.old self.new (heard result replied.new) core.old core.new }
+        ensures told { IsHeard result replied.new }
     {
         match self {
             Quit::Giving(_, txn, give) => match give.step(hart, txn, core) {
@@ -137,11 +151,18 @@ impl Quit {
 
     // The first of two inodes is given up.
     #[tactic(auto, unfolding(crate::specs::Ends::quit_of, crate::specs::Ends::QuitFits))]
-    fn give_first<D: Device>(&mut self, hart: u8, core: &mut Core<D>) -> Came<Answered, Kind>
+    fn give_first<D: Device>(
+        &mut self,
+        replied: &mut Option<Answered>,
+        hart: u8,
+        core: &mut Core<D>,
+    ) -> Came<(), Kind>
         requires at { (x : Ending × ℕ × Held × GiveUp) × (self.old ≡ quitting.Two x.0 x.1 x.2 x.3) }
         requires may { MayNext hart (quit_of self.old) (state_of D.contents D.failures core.old) }
         requires fits { QuitFits hart (state_of D.contents D.failures core.old) self.old }
-        ensures steps { StepsAt D.contents D.failures D.Called quit_of reply_in QuitFits IsSpent quitting.Gone hart self.old self.new result core.old core.new }
+        requires none { replied.old ≡ None }
+        ensures steps { StepsAt D.contents D.failures D.Called quit_of reply_in QuitFits IsSpent quitting.Gone hart self.old self.new (heard result replied.new) core.old core.new }
+        ensures told { IsHeard result replied.new }
     {
         match self {
             Quit::Two(_, txn, _, give) => match give.step(hart, txn, core) {
@@ -159,19 +180,26 @@ impl Quit {
 
     // Nothing is in hand but the transaction.
     #[tactic(auto, unfolding(crate::specs::Ends::quit_of, crate::specs::Ends::QuitFits))]
-    fn end<D: Device>(&mut self, hart: u8, core: &mut Core<D>) -> Came<Answered, Kind>
+    fn end<D: Device>(
+        &mut self,
+        replied: &mut Option<Answered>,
+        hart: u8,
+        core: &mut Core<D>,
+    ) -> Came<(), Kind>
         requires at { (x : Tail) × (self.old ≡ quitting.Tail x) }
         requires may { MayNext hart (quit_of self.old) (state_of D.contents D.failures core.old) }
         requires fits { QuitFits hart (state_of D.contents D.failures core.old) self.old }
-        ensures steps { StepsAt D.contents D.failures D.Called quit_of reply_in QuitFits IsSpent quitting.Gone hart self.old self.new result core.old core.new }
+        requires none { replied.old ≡ None }
+        ensures steps { StepsAt D.contents D.failures D.Called quit_of reply_in QuitFits IsSpent quitting.Gone hart self.old self.new (heard result replied.new) core.old core.new }
+        ensures told { IsHeard result replied.new }
     {
         match self {
-            Quit::Tail(tail) => match tail.step(hart, core) {
+            Quit::Tail(tail) => match tail.step(replied, hart, core) {
                 Came::Waits => Came::Waits,
                 Came::Ran(kind) => Came::Ran(kind),
-                Came::Done(answered, kind) => {
+                Came::Done((), kind) => {
                     self.ended();
-                    Came::Done(answered, kind)
+                    Came::Done((), kind)
                 }
                 Came::Stopped => Came::Stopped,
             },
@@ -181,11 +209,18 @@ impl Quit {
 
     // The lock is given back.
     #[tactic(auto, unfolding(crate::specs::Ends::quit_of, crate::specs::Ends::QuitFits, fs_machine::specs::Premises::Honest))]
-    fn unlock<D: Device>(&mut self, hart: u8, core: &mut Core<D>) -> Came<Answered, Kind>
+    fn unlock<D: Device>(
+        &mut self,
+        replied: &mut Option<Answered>,
+        hart: u8,
+        core: &mut Core<D>,
+    ) -> Came<(), Kind>
         requires unlocks { Unlocks self.old }
         requires may { MayNext hart (quit_of self.old) (state_of D.contents D.failures core.old) }
         requires fits { QuitFits hart (state_of D.contents D.failures core.old) self.old }
-        ensures steps { StepsAt D.contents D.failures D.Called quit_of reply_in QuitFits IsSpent quitting.Gone hart self.old self.new result core.old core.new }
+        requires none { replied.old ≡ None }
+        ensures steps { StepsAt D.contents D.failures D.Called quit_of reply_in QuitFits IsSpent quitting.Gone hart self.old self.new (heard result replied.new) core.old core.new }
+        ensures told { IsHeard result replied.new }
     {
         match mem::replace(self, Quit::Gone) {
             Quit::Unlock(ending, txn, inode) => {

@@ -1,11 +1,12 @@
 //! How a call ends that has walked in a transaction.
-ghost use Rattle.std.specs.Prelude.{◌≡◌, ℕ, IsSome};
+ghost use Rattle.std.specs.Prelude.{◌≡◌, ℕ, None, IsSome};
 ghost use Rattle.fs_machine.specs.Steps.{State, state_of};
 ghost use Rattle.fs_machine.specs.Machines.{MayNext};
 ghost use Rattle.fs_machine.specs.Places.{StepsAt};
 ghost use Rattle.fs_machine.specs.Tied.{IsOwnInode};
 ghost use Rattle.inode_table.specs.Programs.{record_of};
 ghost use Rattle.file_table.specs.Machines.{IsEarly};
+ghost use Rattle.call_parts.specs.Heard.{heard, IsHeard};
 ghost use Rattle.call_parts.specs.Spent.{reply_in, IsSpent};
 ghost use Rattle.call_parts.specs.Programs.{tail as tail_program, free_locked};
 ghost use Rattle.call_parts.specs.Tails.{tail_of, TailFits, rest_of, free_loaded, joined_in, FreedTo, HasFreed, HasLeft, HasLoaded, HasLocked, IsFreeing, IsJoining, IsLeaving, IsLoading, IsSaying, LeftTo, LoadedTo, LockedTo, SaidAs};
@@ -57,7 +58,7 @@ pub enum Tail {
     /// The inode is loaded.
     Loading(Ending, Reference, Txn, Guard<Inode>, Option<LoadInode>),
     /// The inode is freed.
-    Freeing(Ending, Txn, Option<FreeInode>),
+    Freeing(Ending, Txn, FreeInode),
     /// The reply is given, with the list, which is empty.
     Say(Reply, Listed),
     /// It has ended, or is being changed.
@@ -77,30 +78,43 @@ impl Tail {
 
     /// One operation of it in its place.
     #[tactic(auto, unfolding(crate::specs::Tails::tail_of, crate::specs::Tails::TailFits, fs_machine::specs::Premises::Honest))]
-    pub fn step<D: Device>(&mut self, hart: u8, core: &mut Core<D>) -> Came<Answered, Kind>
+    pub fn step<D: Device>(
+        &mut self,
+        replied: &mut Option<Answered>,
+        hart: u8,
+        core: &mut Core<D>,
+    ) -> Came<(), Kind>
         requires may { MayNext hart (tail_of self.old) (state_of D.contents D.failures core.old) }
         requires fits { TailFits hart (state_of D.contents D.failures core.old) self.old }
-        ensures steps { StepsAt D.contents D.failures D.Called tail_of reply_in TailFits IsSpent tail.Gone hart self.old self.new result core.old core.new }
+        requires none { replied.old ≡ None }
+        ensures steps { StepsAt D.contents D.failures D.Called tail_of reply_in TailFits IsSpent tail.Gone hart self.old self.new (heard result replied.new) core.old core.new }
+        ensures told { IsHeard result replied.new }
     {
-        // Each arm returns at once, so that a result is copied once.
         match self {
-            Tail::Leaving(_, _) => return self.leave(hart, core),
-            Tail::Join(_, _) => return self.join(hart, core),
-            Tail::Lock(_, _, _) => return self.lock(hart, core),
-            Tail::Loading(_, _, _, _, _) => return self.load(hart, core),
-            Tail::Freeing(_, _, _) => return self.free(hart, core),
-            Tail::Say(_, _) => return self.say(hart, core),
+            Tail::Leaving(_, _) => self.leave(replied, hart, core),
+            Tail::Join(_, _) => self.join(replied, hart, core),
+            Tail::Lock(_, _, _) => self.lock(replied, hart, core),
+            Tail::Loading(_, _, _, _, _) => self.load(replied, hart, core),
+            Tail::Freeing(_, _, _) => self.free(replied, hart, core),
+            Tail::Say(_, _) => self.say(replied, hart, core),
             Tail::Gone => unreachable!(),
         }
     }
 
     // A step while a transaction is left.
     #[tactic(auto, unfolding(crate::specs::Tails::tail_of, crate::specs::Tails::TailFits))]
-    fn leave<D: Device>(&mut self, hart: u8, core: &mut Core<D>) -> Came<Answered, Kind>
+    fn leave<D: Device>(
+        &mut self,
+        replied: &mut Option<Answered>,
+        hart: u8,
+        core: &mut Core<D>,
+    ) -> Came<(), Kind>
         requires at { IsLeaving self.old }
         requires may { MayNext hart (tail_of self.old) (state_of D.contents D.failures core.old) }
         requires fits { TailFits hart (state_of D.contents D.failures core.old) self.old }
-        ensures steps { StepsAt D.contents D.failures D.Called tail_of reply_in TailFits IsSpent tail.Gone hart self.old self.new result core.old core.new }
+        requires none { replied.old ≡ None }
+        ensures steps { StepsAt D.contents D.failures D.Called tail_of reply_in TailFits IsSpent tail.Gone hart self.old self.new (heard result replied.new) core.old core.new }
+        ensures told { IsHeard result replied.new }
     {
         match self {
             Tail::Leaving(_, place) => match mem::replace(place, None) {
@@ -130,11 +144,18 @@ impl Tail {
 
     // A step that joins a transaction.
     #[tactic(auto, unfolding(crate::specs::Tails::tail_of, crate::specs::Tails::TailFits, fs_machine::specs::Premises::Honest))]
-    fn join<D: Device>(&mut self, hart: u8, core: &mut Core<D>) -> Came<Answered, Kind>
+    fn join<D: Device>(
+        &mut self,
+        replied: &mut Option<Answered>,
+        hart: u8,
+        core: &mut Core<D>,
+    ) -> Came<(), Kind>
         requires at { IsJoining self.old }
         requires may { MayNext hart (tail_of self.old) (state_of D.contents D.failures core.old) }
         requires fits { TailFits hart (state_of D.contents D.failures core.old) self.old }
-        ensures steps { StepsAt D.contents D.failures D.Called tail_of reply_in TailFits IsSpent tail.Gone hart self.old self.new result core.old core.new }
+        requires none { replied.old ≡ None }
+        ensures steps { StepsAt D.contents D.failures D.Called tail_of reply_in TailFits IsSpent tail.Gone hart self.old self.new (heard result replied.new) core.old core.new }
+        ensures told { IsHeard result replied.new }
     {
         match self {
             Tail::Join(_, _) => match core.join(hart) {
@@ -150,11 +171,18 @@ impl Tail {
 
     // A step that takes an inode's lock.
     #[tactic(auto, unfolding(crate::specs::Tails::tail_of, crate::specs::Tails::TailFits, fs_machine::specs::Premises::Honest))]
-    fn lock<D: Device>(&mut self, hart: u8, core: &mut Core<D>) -> Came<Answered, Kind>
+    fn lock<D: Device>(
+        &mut self,
+        replied: &mut Option<Answered>,
+        hart: u8,
+        core: &mut Core<D>,
+    ) -> Came<(), Kind>
         requires at { (x : Ending × ℕ × ℕ) × (self.old ≡ tail.Lock x.0 x.1 x.2) }
         requires may { MayNext hart (tail_of self.old) (state_of D.contents D.failures core.old) }
         requires fits { TailFits hart (state_of D.contents D.failures core.old) self.old }
-        ensures steps { StepsAt D.contents D.failures D.Called tail_of reply_in TailFits IsSpent tail.Gone hart self.old self.new result core.old core.new }
+        requires none { replied.old ≡ None }
+        ensures steps { StepsAt D.contents D.failures D.Called tail_of reply_in TailFits IsSpent tail.Gone hart self.old self.new (heard result replied.new) core.old core.new }
+        ensures told { IsHeard result replied.new }
     {
         match self {
             Tail::Lock(_, reference, _) => match core.lock(hart, reference) {
@@ -170,11 +198,18 @@ impl Tail {
 
     // A step while an inode is loaded.
     #[tactic(auto, unfolding(crate::specs::Tails::tail_of, crate::specs::Tails::TailFits))]
-    fn load<D: Device>(&mut self, hart: u8, core: &mut Core<D>) -> Came<Answered, Kind>
+    fn load<D: Device>(
+        &mut self,
+        replied: &mut Option<Answered>,
+        hart: u8,
+        core: &mut Core<D>,
+    ) -> Came<(), Kind>
         requires at { IsLoading self.old }
         requires may { MayNext hart (tail_of self.old) (state_of D.contents D.failures core.old) }
         requires fits { TailFits hart (state_of D.contents D.failures core.old) self.old }
-        ensures steps { StepsAt D.contents D.failures D.Called tail_of reply_in TailFits IsSpent tail.Gone hart self.old self.new result core.old core.new }
+        requires none { replied.old ≡ None }
+        ensures steps { StepsAt D.contents D.failures D.Called tail_of reply_in TailFits IsSpent tail.Gone hart self.old self.new (heard result replied.new) core.old core.new }
+        ensures told { IsHeard result replied.new }
     {
         match self {
             Tail::Loading(_, _, _, _, place) => match mem::replace(place, None) {
@@ -204,33 +239,28 @@ impl Tail {
 
     // A step while an inode is freed.
     #[tactic(auto, unfolding(crate::specs::Tails::tail_of, crate::specs::Tails::TailFits))]
-    fn free<D: Device>(&mut self, hart: u8, core: &mut Core<D>) -> Came<Answered, Kind>
+    fn free<D: Device>(
+        &mut self,
+        replied: &mut Option<Answered>,
+        hart: u8,
+        core: &mut Core<D>,
+    ) -> Came<(), Kind>
         requires at { IsFreeing self.old }
         requires may { MayNext hart (tail_of self.old) (state_of D.contents D.failures core.old) }
         requires fits { TailFits hart (state_of D.contents D.failures core.old) self.old }
-        ensures steps { StepsAt D.contents D.failures D.Called tail_of reply_in TailFits IsSpent tail.Gone hart self.old self.new result core.old core.new }
+        requires none { replied.old ≡ None }
+        ensures steps { StepsAt D.contents D.failures D.Called tail_of reply_in TailFits IsSpent tail.Gone hart self.old self.new (heard result replied.new) core.old core.new }
+        ensures told { IsHeard result replied.new }
     {
         match self {
-            Tail::Freeing(_, txn, place) => match mem::replace(place, None) {
-                Some(free) => match free.step(hart, txn, core) {
-                    Stepped::Waits(free) => {
-                        put(place, free);
-                        Came::Waits
-                    }
-                    Stepped::Ran(free, kind) => {
-                        put(place, free);
-                        Came::Ran(kind)
-                    }
-                    Stepped::Done((), kind) => {
-                        self.freed();
-                        Came::Ran(kind)
-                    }
-                    Stepped::Stopped(free) => {
-                        put(place, free);
-                        Came::Stopped
-                    }
-                },
-                None => unreachable!(),
+            Tail::Freeing(_, txn, free) => match free.step(hart, txn, core) {
+                Came::Waits => Came::Waits,
+                Came::Ran(kind) => Came::Ran(kind),
+                Came::Done((), kind) => {
+                    self.freed();
+                    Came::Ran(kind)
+                }
+                Came::Stopped => Came::Stopped,
             },
             _ => unreachable!(),
         }
@@ -238,16 +268,24 @@ impl Tail {
 
     // A step that gives the reply.
     #[tactic(auto, unfolding(crate::specs::Tails::tail_of, crate::specs::Tails::TailFits, fs_machine::specs::Premises::Honest))]
-    fn say<D: Device>(&mut self, hart: u8, core: &mut Core<D>) -> Came<Answered, Kind>
+    fn say<D: Device>(
+        &mut self,
+        replied: &mut Option<Answered>,
+        hart: u8,
+        core: &mut Core<D>,
+    ) -> Came<(), Kind>
         requires at { IsSaying self.old }
         requires may { MayNext hart (tail_of self.old) (state_of D.contents D.failures core.old) }
         requires fits { TailFits hart (state_of D.contents D.failures core.old) self.old }
-        ensures steps { StepsAt D.contents D.failures D.Called tail_of reply_in TailFits IsSpent tail.Gone hart self.old self.new result core.old core.new }
+        requires none { replied.old ≡ None }
+        ensures steps { StepsAt D.contents D.failures D.Called tail_of reply_in TailFits IsSpent tail.Gone hart self.old self.new (heard result replied.new) core.old core.new }
+        ensures told { IsHeard result replied.new }
     {
         match self {
             Tail::Say(_, _) => {
                 core.reply(hart);
-                Came::Done(self.said(), Kind::Reply)
+                put(replied, self.said());
+                Came::Done((), Kind::Reply)
             }
             _ => unreachable!(),
         }
@@ -323,10 +361,10 @@ impl Tail {
         ensures { FreedTo self.old self.new }
     {
         match mem::replace(self, Tail::Gone) {
-            Tail::Freeing(ending, txn, place) => {
-                match place {
-                    None => {}
-                    Some(_) => unreachable!(),
+            Tail::Freeing(ending, txn, free) => {
+                match free {
+                    FreeInode::Gone => {}
+                    _ => unreachable!(),
                 }
                 self.put(Tail::Leaving(ending, Some(Finish::Leave(txn))));
             }
@@ -385,13 +423,10 @@ impl Tail {
                     None => {}
                 }
             }
-            Tail::Freeing(ending, txn, place) => {
+            Tail::Freeing(ending, txn, free) => {
                 ending.retire(retired);
                 txn.retire(&retired.log);
-                match place {
-                    Some(free) => free.retire(retired),
-                    None => {}
-                }
+                free.retire(retired);
             }
             Tail::Say(_, list) => list.retire(&retired.inodes),
             Tail::Gone => {}
@@ -427,7 +462,7 @@ fn free(ending: Ending, reference: Reference, txn: Txn, guard: Guard<Inode>) -> 
     ensures fits { (hart : ℕ) (s : State) → txn ≡ hart → IsOwnInode hart reference guard s → TailFits hart s result }
 {
     let free = FreeInode::new(reference, guard, &ending.sizes);
-    Tail::Freeing(ending, txn, Some(free))
+    Tail::Freeing(ending, txn, free)
 }
 
 // The inode's lock is had: it is to be loaded, unless it is.

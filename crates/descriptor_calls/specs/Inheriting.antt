@@ -13,7 +13,9 @@ use Rattle.fs_machine.specs.Steps.{State, Give, Join, kind_given}
 use Rattle.fs_machine.specs.Machines.{P}
 use Rattle.fs_machine.specs.Fetching.{finish_of, FinishFits}
 use Rattle.inode_data.specs.Freeing.{drop_reference}
+use Rattle.fs_machine.specs.declared.finish.Finish.TheVariants as finishing
 use Rattle.inode_data.specs.Dropping.{drop_of, DropFits}
+use Rattle.inode_data.specs.declared.dropping.DropReference.TheVariants as dropping
 use Rattle.file_table.specs.Machines.{IsEarly}
 use Rattle.call_parts.specs.Programs.{say}
 use Rattle.call_parts.specs.Replies.{done, no_program}
@@ -67,8 +69,7 @@ unfoldable pub inherit_of : Inherit → P Reply
 inherit_of (inheriting.Lend l) = Do (Give l.child l.from) unmarked (lent l)
 inherit_of (inheriting.Directory sizes child) = lend_directory sizes child
 inherit_of (inheriting.Join sizes child old) = drop_old sizes child old
-inherit_of (inheriting.Dropping child txn (Some m)) = bind (drop_of m) (λ _. leave_inherited child)
-inherit_of (inheriting.Dropping child txn None) = no_program
+inherit_of (inheriting.Dropping child txn m) = bind (drop_of m) (λ _. leave_inherited child)
 inherit_of (inheriting.Finishing child (Some m)) = bind (finish_of m) (λ _. inherited child)
 inherit_of (inheriting.Finishing child None) = no_program
 inherit_of (inheriting.Say reply) = say reply
@@ -79,12 +80,20 @@ unfoldable pub InheritFits : ℕ → State → Inherit → Type 0
 InheritFits hart s (inheriting.Lend l) = IsEarly l.sizes.inodestart
 InheritFits hart s (inheriting.Directory sizes child) = IsEarly sizes.inodestart
 InheritFits hart s (inheriting.Join sizes child old) = IsEarly sizes.inodestart
-InheritFits hart s (inheriting.Dropping child txn (Some m)) = (txn ≡ hart) × DropFits hart s m
-InheritFits hart s (inheriting.Dropping child txn None) = ⊥
+InheritFits hart s (inheriting.Dropping child txn m) = (txn ≡ hart) × DropFits hart s m
 InheritFits hart s (inheriting.Finishing child (Some m)) = FinishFits hart m
 InheritFits hart s (inheriting.Finishing child None) = ⊥
 InheritFits hart s (inheriting.Say reply) = Unit {0}
 InheritFits hart s inheriting.Gone = ⊥
+
+-- the reference has been dropped
+abbrev pub HasDropped : Inherit → Type 0
+HasDropped (inheriting.Dropping child txn m) = m ≡ dropping.Gone
+HasDropped m = ⊥
+
+abbrev pub DroppedTo : Inherit → Inherit → Type 0
+DroppedTo (inheriting.Dropping child txn m) next = next ≡ inheriting.Finishing child (Some (finishing.Leave txn))
+DroppedTo m next = ⊥
 
 -- such a state holds nothing that has to be given back
 abbrev pub IsBareInherit : Inherit → Type 0

@@ -23,7 +23,9 @@ use Rattle.file_table.specs.declared.load_file.LoadedFile.{LoadedFile}
 use Rattle.file_table.specs.declared.load_file.LoadedFile.TheVariants as file
 use Rattle.file_table.specs.declared.load_file.LoadFile.TheVariants as loading
 use Rattle.file_table.specs.Machines.{IsEarly, file_of, FileFits, loaded_as, IsLoaded}
+use Rattle.fs_machine.specs.declared.finish.Finish.TheVariants as finishing
 use Rattle.inode_data.specs.Dropping.{drop_of, DropFits}
+use Rattle.inode_data.specs.declared.dropping.DropReference.TheVariants as dropping
 use Rattle.inode_data.specs.Reading.{filled_in, read_of, reader_of, ReadFits}
 use Rattle.inode_data.specs.declared.read_part.ReadPart.TheVariants as part
 use Rattle.descriptor_calls.specs.declared.read.Read.{Read}
@@ -69,8 +71,7 @@ dup_came fd (doubled.Gave other) = Ran (dup.Say (record { answer = answers.Fd ot
 unfoldable pub close_of : Close → P Reply
 close_of (close.Shut sizes fd) = close_program sizes fd
 close_of (close.Join sizes fd n) = drop_closed sizes fd n
-close_of (close.Dropping fd txn (Some m)) = bind (drop_of m) (λ _. leave_closed fd)
-close_of (close.Dropping fd txn None) = no_program
+close_of (close.Dropping fd txn m) = bind (drop_of m) (λ _. leave_closed fd)
 close_of (close.Finishing fd (Some m)) = bind (finish_of m) (λ _. say (done (calls.Close fd)))
 close_of (close.Finishing fd None) = no_program
 close_of (close.Say reply) = say reply
@@ -80,12 +81,20 @@ close_of close.Gone = no_program
 unfoldable pub CloseFits : ℕ → State → Close → Type 0
 CloseFits hart s (close.Shut sizes fd) = IsEarly sizes.inodestart
 CloseFits hart s (close.Join sizes fd n) = IsEarly sizes.inodestart
-CloseFits hart s (close.Dropping fd txn (Some m)) = (txn ≡ hart) × DropFits hart s m
-CloseFits hart s (close.Dropping fd txn None) = ⊥
+CloseFits hart s (close.Dropping fd txn m) = (txn ≡ hart) × DropFits hart s m
 CloseFits hart s (close.Finishing fd (Some m)) = FinishFits hart m
 CloseFits hart s (close.Finishing fd None) = ⊥
 CloseFits hart s (close.Say reply) = Unit {0}
 CloseFits hart s close.Gone = ⊥
+
+-- the reference has been dropped
+abbrev pub HasDropped : Close → Type 0
+HasDropped (close.Dropping fd txn m) = m ≡ dropping.Gone
+HasDropped m = ⊥
+
+abbrev pub DroppedTo : Close → Close → Type 0
+DroppedTo (close.Dropping fd txn m) next = next ≡ close.Finishing fd (Some (finishing.Leave txn))
+DroppedTo m next = ⊥
 
 -- such a state holds nothing that has to be given back
 abbrev pub IsBareClose : Close → Type 0

@@ -11,7 +11,7 @@ ghost use Rattle.inode_data.specs.declared.dropping.DropReference.{DropReference
 ghost use Rattle.file_table.specs.Machines.{IsEarly};
 ghost use Rattle.call_parts.specs.Heard.{heard, IsHeard};
 ghost use Rattle.descriptor_calls.specs.Programs.{close_program};
-ghost use Rattle.descriptor_calls.specs.Machines.{close_of, CloseFits, IsBareClose, close_came};
+ghost use Rattle.descriptor_calls.specs.Machines.{close_of, close_came, CloseFits, DroppedTo, HasDropped, IsBareClose};
 ghost use Rattle.descriptor_calls.specs.declared.close.Close.TheVariants as close;
 
 use crate::nested::{Nested, let_go, put_back, take};
@@ -33,7 +33,7 @@ pub enum Close {
     /// It was the last one. A transaction is joined, to drop the reference that the open file had.
     Join(Super, u32, Reference),
     /// The reference is dropped.
-    Dropping(u32, Txn, Option<DropReference>),
+    Dropping(u32, Txn, DropReference),
     /// The transaction is left.
     Finishing(u32, Option<Finish>),
     /// The reply is given.
@@ -123,7 +123,7 @@ impl Close {
         match mem::replace(self, Close::Gone) {
             Close::Join(sizes, fd, reference) => {
                 let drop = DropReference::new(reference, &sizes);
-                self.put(Close::Dropping(fd, txn, Some(drop)));
+                self.put(Close::Dropping(fd, txn, drop));
                 Came::Ran(Kind::Join)
             }
             _ => unreachable!(),
@@ -138,7 +138,7 @@ impl Close {
         hart: u8,
         core: &mut Core<D>,
     ) -> Came<(), Kind>
-        requires dropping { (x : ℕ × ℕ × Option DropState) × (self.old ≡ close.Dropping x.0 x.1 x.2) }
+        requires dropping { (x : ℕ × ℕ × DropState) × (self.old ≡ close.Dropping x.0 x.1 x.2) }
         requires may { MayNext hart (close_of self.old) (state_of D.contents D.failures core.old) }
         requires fits { CloseFits hart (state_of D.contents D.failures core.old) self.old }
         requires none { replied.old ≡ None }
@@ -146,19 +146,31 @@ impl Close {
         ensures told { IsHeard result replied.new }
     {
         match self {
-            Close::Dropping(_, txn, place) => {
-                let drop = take(place);
-                match put_back(place, drop.step(hart, txn, core)) {
-                    Nested::Goes(came) => came,
-                    Nested::Ends((), kind) => match mem::replace(self, Close::Gone) {
-                        Close::Dropping(fd, txn, place) => {
-                            let_go(place);
-                            self.put(Close::Finishing(fd, Some(Finish::Leave(txn))));
-                            Came::Ran(kind)
-                        }
-                        _ => unreachable!(),
-                    },
+            Close::Dropping(_, txn, drop) => match drop.step(hart, txn, core) {
+                Came::Waits => Came::Waits,
+                Came::Ran(kind) => Came::Ran(kind),
+                Came::Done((), kind) => {
+                    self.dropped();
+                    Came::Ran(kind)
                 }
+                Came::Stopped => Came::Stopped,
+            },
+            _ => unreachable!(),
+        }
+    }
+
+    // The reference has been dropped.
+    fn dropped(&mut self)
+        requires { HasDropped self.old }
+        ensures { DroppedTo self.old self.new }
+    {
+        match mem::replace(self, Close::Gone) {
+            Close::Dropping(fd, txn, drop) => {
+                match drop {
+                    DropReference::Gone => {}
+                    _ => unreachable!(),
+                }
+                self.put(Close::Finishing(fd, Some(Finish::Leave(txn))));
             }
             _ => unreachable!(),
         }
@@ -272,10 +284,7 @@ impl Close {
             Close::Join(_, _, reference) => reference.retire(&retired.inodes),
             Close::Dropping(_, txn, drop) => {
                 txn.retire(&retired.log);
-                match drop {
-                    None => {}
-                    Some(drop) => drop.retire(retired),
-                }
+                drop.retire(retired);
             }
             Close::Finishing(_, finish) => match finish {
                 None => {}

@@ -10,7 +10,7 @@ ghost use Rattle.fs_machine.specs.declared.finish.Finish.{Finish as FinishState}
 ghost use Rattle.inode_data.specs.declared.dropping.DropReference.{DropReference as DropState};
 ghost use Rattle.file_table.specs.Machines.{IsEarly};
 ghost use Rattle.call_parts.specs.Heard.{heard, IsHeard};
-ghost use Rattle.descriptor_calls.specs.Inheriting.{directory_given, inherit_of, inherit_program, lend_from, lent, GoesOnWith, InheritFits, IsBareInherit};
+ghost use Rattle.descriptor_calls.specs.Inheriting.{directory_given, inherit_of, inherit_program, lend_from, lent, DroppedTo, GoesOnWith, HasDropped, InheritFits, IsBareInherit};
 ghost use Rattle.descriptor_calls.specs.declared.inherit.Lending.{Lending as LendingState};
 ghost use Rattle.descriptor_calls.specs.declared.inherit.Inherit.TheVariants as inheriting;
 
@@ -47,7 +47,7 @@ pub enum Inherit {
     /// A transaction is joined, to drop the child's old directory.
     Join(Super, u8, Reference),
     /// The reference to that is dropped.
-    Dropping(u8, Txn, Option<DropReference>),
+    Dropping(u8, Txn, DropReference),
     /// The transaction is left.
     Finishing(u8, Option<Finish>),
     /// The reply is given.
@@ -166,7 +166,7 @@ impl Inherit {
         match mem::replace(self, Inherit::Gone) {
             Inherit::Join(sizes, child, old) => {
                 let drop = DropReference::new(old, &sizes);
-                self.put(Inherit::Dropping(child, txn, Some(drop)));
+                self.put(Inherit::Dropping(child, txn, drop));
                 Came::Ran(Kind::Join)
             }
             _ => unreachable!(),
@@ -181,7 +181,7 @@ impl Inherit {
         hart: u8,
         core: &mut Core<D>,
     ) -> Came<(), Kind>
-        requires dropping { (x : ℕ × ℕ × Option DropState) × (self.old ≡ inheriting.Dropping x.0 x.1 x.2) }
+        requires dropping { (x : ℕ × ℕ × DropState) × (self.old ≡ inheriting.Dropping x.0 x.1 x.2) }
         requires may { MayNext hart (inherit_of self.old) (state_of D.contents D.failures core.old) }
         requires fits { InheritFits hart (state_of D.contents D.failures core.old) self.old }
         requires none { replied.old ≡ None }
@@ -189,19 +189,31 @@ impl Inherit {
         ensures told { IsHeard result replied.new }
     {
         match self {
-            Inherit::Dropping(_, txn, place) => {
-                let drop = take(place);
-                match put_back(place, drop.step(hart, txn, core)) {
-                    Nested::Goes(came) => came,
-                    Nested::Ends((), kind) => match mem::replace(self, Inherit::Gone) {
-                        Inherit::Dropping(child, txn, place) => {
-                            let_go(place);
-                            self.put(Inherit::Finishing(child, Some(Finish::Leave(txn))));
-                            Came::Ran(kind)
-                        }
-                        _ => unreachable!(),
-                    },
+            Inherit::Dropping(_, txn, drop) => match drop.step(hart, txn, core) {
+                Came::Waits => Came::Waits,
+                Came::Ran(kind) => Came::Ran(kind),
+                Came::Done((), kind) => {
+                    self.dropped();
+                    Came::Ran(kind)
                 }
+                Came::Stopped => Came::Stopped,
+            },
+            _ => unreachable!(),
+        }
+    }
+
+    // The reference has been dropped.
+    fn dropped(&mut self)
+        requires { HasDropped self.old }
+        ensures { DroppedTo self.old self.new }
+    {
+        match mem::replace(self, Inherit::Gone) {
+            Inherit::Dropping(child, txn, drop) => {
+                match drop {
+                    DropReference::Gone => {}
+                    _ => unreachable!(),
+                }
+                self.put(Inherit::Finishing(child, Some(Finish::Leave(txn))));
             }
             _ => unreachable!(),
         }
@@ -285,10 +297,7 @@ impl Inherit {
             Inherit::Join(_, _, old) => old.retire(&retired.inodes),
             Inherit::Dropping(_, txn, drop) => {
                 txn.retire(&retired.log);
-                match drop {
-                    None => {}
-                    Some(drop) => drop.retire(retired),
-                }
+                drop.retire(retired);
             }
             Inherit::Finishing(_, finish) => match finish {
                 None => {}

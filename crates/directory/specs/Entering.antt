@@ -1,5 +1,5 @@
 -- A name entered: a program over what all harts share, and what is left of it. Nothing is marked in it.
-use Rattle.std.specs.Prelude.{ℕ, ◌+◌, ◌*◌, ◌==◌, ◌^◌, ◌<◌, ◌≤◌, nat_lt, if◌then◌else◌, List, Option, Some, None, IsSome}
+use Rattle.std.specs.Prelude.{◌≡◌, ℕ, ◌+◌, ◌*◌, ◌==◌, ◌^◌, ◌<◌, ◌≤◌, nat_lt, if◌then◌else◌, List, Option, Some, None, IsSome}
 use Rattle.sleep_lock.specs.SleepLock.{GuardState}
 use Rattle.fs_layout.specs.declared.inode.Dinode.{Dinode}
 use Rattle.fs_layout.specs.declared.superblock.Super.{Super}
@@ -7,17 +7,14 @@ use Rattle.fs_layout.specs.declared.entry.Dirent.TheVariants.{Used}
 use Rattle.fs_layout.specs.Entry.{spell_dirent}
 use Rattle.fs_layout.specs.Widths.{bits_per_block, dirent_len}
 use Rattle.atomic_programs.specs.Prog.{Prog, Ret, bind}
-use Rattle.atomic_programs.specs.declared.machines.Stepped.{Stepped}
 use Rattle.fs_tables.specs.declared.inodes.Inode.{Inode}
-use Rattle.fs_machine.specs.declared.kind.Kind.{Kind}
 use Rattle.fs_machine.specs.Steps.{State, Op, Answer}
 use Rattle.fs_machine.specs.Machines.{P}
-use Rattle.inode_table.specs.Programs.{inode_block}
+use Rattle.inode_table.specs.Programs.{inode_block, no_record}
 use Rattle.inode_data.specs.Records.{record_in}
 use Rattle.inode_data.specs.Writing.{WriteResult, write_part}
-use Rattle.inode_data.specs.Machines.{ends_within}
 use Rattle.inode_data.specs.declared.write_part.PartWritten.{PartWritten}
-use Rattle.inode_data.specs.declared.write_part.WritePart.{WritePart}
+use Rattle.inode_data.specs.declared.write_part.WritePart.TheVariants as writing
 use Rattle.inode_data.specs.PartWriting.{write_of, writer_of, WriteFits}
 use Rattle.directory.specs.Programs.{Unused, most_slots, search, slot_count}
 use Rattle.directory.specs.Machines.{inode_of, search_of, SearchFits}
@@ -64,6 +61,7 @@ enter sizes n d m name = enter_bytes sizes n d (spell_dirent (Used m name))
 unfoldable pub enter_of : Enter → P EnteredState
 enter_of (entering.Searching e m) = bind (search_of Unused m) (enter_at e.sizes (inode_of m).value.number (record_in (inode_of m)) e.entry)
 enter_of (entering.Writing e slot m) = bind (write_of e.entry m) (entered_by slot)
+enter_of entering.Gone = Ret (record { inode = no_record; room = NoSlot })
 
 -- what the result stands for
 abbrev pub entered_of : Entered → EnteredState
@@ -78,15 +76,34 @@ pub record IsEntering (e : Entering) (n : ℕ) : Type 0 where
 unfoldable pub EnterFits : ℕ → State → Enter → Type 0
 EnterFits hart s (entering.Searching e m) = IsEntering e (inode_of m).value.number × IsSome (inode_of m).value.content × SearchFits hart s m
 EnterFits hart s (entering.Writing e slot m) = (slot < most_slots) × WriteFits hart e.entry s m
+EnterFits hart s entering.Gone = ⊥
 
 -- the inode's guard
 abbrev pub enterer_of : Enter → GuardState Inode
 enterer_of (entering.Searching e m) = inode_of m
 enterer_of (entering.Writing e slot m) = writer_of m
+enterer_of entering.Gone = writer_of writing.Gone
 
--- a step of the writing, as one of the entering
+-- the end of the writing, as that of the entering
 abbrev pub slot_written : ℕ → PartWritten → Entered
 slot_written slot r = record { inode = r.inode; room = if r.upto == dirent_len * (slot + 1) then There else NoBlock }
 
-abbrev pub in_entering : Entering → ℕ → Stepped WritePart PartWritten Kind → Stepped Enter Entered Kind
-in_entering e slot stepped = ends_within (λ m. entering.Writing e slot m) (slot_written slot) stepped
+-- ---- from one state to the next
+
+-- a free slot is sought
+abbrev pub IsSearching : Enter → Type 0
+IsSearching (entering.Searching e m) = Unit {0}
+IsSearching _ = ⊥
+
+-- the slot is written
+abbrev pub IsWritingSlot : Enter → Type 0
+IsWritingSlot (entering.Writing e slot m) = Unit {0}
+IsWritingSlot _ = ⊥
+
+abbrev pub HasWritten : Enter → Type 0
+HasWritten (entering.Writing e slot m) = (slot < most_slots) × (m ≡ writing.Gone)
+HasWritten _ = ⊥
+
+abbrev pub WrittenAs : PartWritten → Enter → Entered → Type 0
+WrittenAs r (entering.Writing e slot m) entered = entered ≡ slot_written slot r
+WrittenAs r _ entered = Unit {0}

@@ -4,20 +4,20 @@ ghost use Rattle.fs_layout.specs.declared.entry.Dirent.TheVariants.{Used};
 ghost use Rattle.fs_layout.specs.Name.{IsName};
 ghost use Rattle.fs_layout.specs.Entry.{spell_dirent};
 ghost use Rattle.fs_layout.specs.Widths.{bits_per_block};
-ghost use Rattle.atomic_programs.specs.Machines.{Still, Left as LeftOf};
+ghost use Rattle.atomic_programs.specs.Machines.{Still, Left as LeftOf, OnDone, stepped_at};
 ghost use Rattle.fs_tables.specs.declared.inodes.Inode.{Inode as InodeState};
 ghost use Rattle.sleep_lock.specs.SleepLock.{GuardState};
 ghost use Rattle.fs_machine.specs.Steps.{State, state_of};
 ghost use Rattle.fs_machine.specs.Machines.{MayNext, Moves, Answers, CallsOnce};
+ghost use Rattle.fs_machine.specs.Places.{StepsAt};
 ghost use Rattle.fs_machine.specs.Tied.{LeavesTied};
 ghost use Rattle.inode_table.specs.Programs.{inode_block};
 ghost use Rattle.inode_data.specs.Beginnings.{begun_of, IfBegun};
 ghost use Rattle.inode_data.specs.Following.{Follows, GoesOn};
-ghost use Rattle.inode_data.specs.PartWriting.{writer_of};
 ghost use Rattle.inode_data.specs.Records.{record_in, with_record};
 ghost use Rattle.directory.specs.Programs.{Unused, is_live_directory, most_slots};
 ghost use Rattle.directory.specs.Machines.{found_of, inode_of, search_of, SearchFits};
-ghost use Rattle.directory.specs.Entering.{enter, enter_at, enter_of, entered_of, enterer_of, slot_for, slot_written, EnterFits, IsEntering};
+ghost use Rattle.directory.specs.Entering.{enter, enter_at, enter_of, entered_of, enterer_of, slot_for, slot_written, EnterFits, HasWritten, IsEntering, IsSearching, IsWritingSlot, WrittenAs};
 ghost use Rattle.directory.specs.declared.enter.Enter.TheVariants as enters;
 
 use crate::found::{Found, MOST_SLOTS, Sought, slot_count};
@@ -32,6 +32,7 @@ use fs_tables::Inode;
 use group_log::Txn;
 use inode_data::{Begun, PartWritten, WritePart, record, went_on};
 use sleep_lock::Guard;
+use std::mem;
 
 // An entry can have so many numbers.
 const NUMBERS: u32 = 65_536;
@@ -68,6 +69,8 @@ pub enum Enter {
     Searching(Entering, Search),
     /// This slot is written.
     Writing(Entering, usize, WritePart),
+    /// It has ended, or is being changed.
+    Gone,
 }
 
 impl Enter {
@@ -100,33 +103,126 @@ impl Enter {
         }
     }
 
-    /// One operation.
+    /// One operation, in its place.
     #[tactic(auto, unfolding(crate::specs::Entering::enter_of, crate::specs::Entering::EnterFits))]
     pub fn step<D: Device>(
-        self,
+        &mut self,
         hart: u8,
         txn: &mut Txn,
         core: &mut Core<D>,
-    ) -> Stepped<Enter, Entered, Kind>
+    ) -> Came<Entered, Kind>
         requires txn { txn.old ≡ hart }
-        requires may { MayNext hart (enter_of self) (state_of D.contents D.failures core.old) }
-        requires fits { EnterFits hart (state_of D.contents D.failures core.old) self }
-        ensures moves { Moves enter_of entered_of hart self result (state_of D.contents D.failures core.old) (state_of D.contents D.failures core.new) }
-        ensures honest { Answers enter_of hart self result (state_of D.contents D.failures core.old) (state_of D.contents D.failures core.new) }
-        ensures still { Still enter_of result self core.old core.new }
+        requires may { MayNext hart (enter_of self.old) (state_of D.contents D.failures core.old) }
+        requires fits { EnterFits hart (state_of D.contents D.failures core.old) self.old }
+        ensures steps { StepsAt D.contents D.failures D.Called enter_of entered_of EnterFits (λ _. Unit {0}) enters.Gone hart self.old self.new result core.old core.new }
         ensures kept { txn.new ≡ txn.old }
-        ensures inode { LeftOf (λ m. enterer_of m ≡ enterer_of self) (λ r. r.inode ≡ with_record (record_in r.inode) (enterer_of self)) result }
-        ensures fits { LeftOf (EnterFits hart (state_of D.contents D.failures core.new)) (λ _. Unit {0}) result }
-        ensures others { LeavesTied hart (state_of D.contents D.failures core.old) (state_of D.contents D.failures core.new) }
-        ensures called { CallsOnce D.Called core.old.log.cache.device core.new.log.cache.device }
+        ensures inode { LeftOf (λ m. enterer_of m ≡ enterer_of self.old) (λ r. r.inode ≡ with_record (record_in r.inode) (enterer_of self.old)) (stepped_at self.new result) }
         ensures tables { core.new.tables ≡ core.old.tables }
     {
         // With `return` a result is copied once.
         match self {
-            Enter::Searching(entering, search) => return seek(entering, search, hart, core),
-            Enter::Writing(entering, slot, part) => return write(
-                entering, slot, part, hart, txn, core,
-            ),
+            Enter::Searching(_, _) => return self.search(hart, core),
+            Enter::Writing(_, _, _) => return self.write(hart, txn, core),
+            Enter::Gone => unreachable!(),
+        }
+    }
+
+    // A step while a free slot is sought.
+    #[tactic(auto, unfolding(crate::specs::Entering::enter_of, crate::specs::Entering::EnterFits))]
+    fn search<D: Device>(&mut self, hart: u8, core: &mut Core<D>) -> Came<Entered, Kind>
+        requires at { IsSearching self.old }
+        requires may { MayNext hart (enter_of self.old) (state_of D.contents D.failures core.old) }
+        requires fits { EnterFits hart (state_of D.contents D.failures core.old) self.old }
+        ensures steps { StepsAt D.contents D.failures D.Called enter_of entered_of EnterFits (λ _. Unit {0}) enters.Gone hart self.old self.new result core.old core.new }
+        ensures inode { LeftOf (λ m. enterer_of m ≡ enterer_of self.old) (λ r. r.inode ≡ with_record (record_in r.inode) (enterer_of self.old)) (stepped_at self.new result) }
+        ensures tables { core.new.tables ≡ core.old.tables }
+    {
+        match mem::replace(self, Enter::Gone) {
+            Enter::Searching(entering, search) => {
+                self.put_back(seek(entering, search, hart, core))
+            }
+            _ => unreachable!(),
+        }
+    }
+
+    // A step while the slot is written.
+    #[tactic(auto, unfolding(crate::specs::Entering::enter_of, crate::specs::Entering::EnterFits))]
+    fn write<D: Device>(
+        &mut self,
+        hart: u8,
+        txn: &mut Txn,
+        core: &mut Core<D>,
+    ) -> Came<Entered, Kind>
+        requires at { IsWritingSlot self.old }
+        requires txn { txn.old ≡ hart }
+        requires may { MayNext hart (enter_of self.old) (state_of D.contents D.failures core.old) }
+        requires fits { EnterFits hart (state_of D.contents D.failures core.old) self.old }
+        ensures steps { StepsAt D.contents D.failures D.Called enter_of entered_of EnterFits (λ _. Unit {0}) enters.Gone hart self.old self.new result core.old core.new }
+        ensures kept { txn.new ≡ txn.old }
+        ensures inode { LeftOf (λ m. enterer_of m ≡ enterer_of self.old) (λ r. r.inode ≡ with_record (record_in r.inode) (enterer_of self.old)) (stepped_at self.new result) }
+        ensures tables { core.new.tables ≡ core.old.tables }
+    {
+        match self {
+            Enter::Writing(entering, _, part) => {
+                match part.step(hart, txn, &entering.entry, core) {
+                    Came::Waits => Came::Waits,
+                    Came::Ran(kind) => Came::Ran(kind),
+                    Came::Done(written, kind) => Came::Done(self.written(written), kind),
+                    Came::Stopped => Came::Stopped,
+                }
+            }
+            _ => unreachable!(),
+        }
+    }
+
+    // The slot has been written.
+    fn written(&mut self, written: PartWritten) -> Entered
+        requires { HasWritten self.old }
+        ensures entered { WrittenAs written self.old result }
+        ensures ended { self.new ≡ enters.Gone }
+    {
+        match mem::replace(self, Enter::Gone) {
+            Enter::Writing(_, slot, part) => {
+                match part {
+                    WritePart::Gone => {}
+                    _ => unreachable!(),
+                }
+                slot_written(slot, written)
+            }
+            _ => unreachable!(),
+        }
+    }
+
+    // Has what is left stand in the place of what has gone.
+    fn put_back(&mut self, stepped: Stepped<Enter, Entered, Kind>) -> Came<Entered, Kind>
+        requires { self.old ≡ enters.Gone }
+        ensures is { stepped_at self.new result ≡ stepped }
+        ensures ended { OnDone result (self.new ≡ enters.Gone) }
+    {
+        match stepped {
+            Stepped::Waits(enter) => {
+                self.put(enter);
+                Came::Waits
+            }
+            Stepped::Ran(enter, kind) => {
+                self.put(enter);
+                Came::Ran(kind)
+            }
+            Stepped::Done(entered, kind) => Came::Done(entered, kind),
+            Stepped::Stopped(enter) => {
+                self.put(enter);
+                Came::Stopped
+            }
+        }
+    }
+
+    fn put(&mut self, next: Enter)
+        requires { self.old ≡ enters.Gone }
+        ensures { self.new ≡ next }
+    {
+        match mem::replace(self, next) {
+            Enter::Gone => {}
+            _ => unreachable!(),
         }
     }
 
@@ -135,6 +231,7 @@ impl Enter {
         match self {
             Enter::Searching(_, search) => search.retire(retired),
             Enter::Writing(_, _, part) => part.retire(retired),
+            Enter::Gone => {}
         }
     }
 }
@@ -237,44 +334,6 @@ fn searching(
         Stepped::Ran(search, kind) => return Stepped::Ran(Enter::Searching(entering, search), kind),
         Stepped::Done(searched, kind) => return sought(entering, searched, kind),
         Stepped::Stopped(search) => return Stepped::Stopped(Enter::Searching(entering, search)),
-    }
-}
-
-// One operation while the slot is written.
-#[tactic(auto, unfolding(crate::specs::Entering::enter_of, crate::specs::Entering::EnterFits))]
-fn write<D: Device>(
-    entering: Entering,
-    slot: usize,
-    mut part: WritePart,
-    hart: u8,
-    txn: &mut Txn,
-    core: &mut Core<D>,
-) -> Stepped<Enter, Entered, Kind>
-    requires txn { txn.old ≡ hart }
-    requires may { MayNext hart (enter_of (enters.Writing entering slot part)) (state_of D.contents D.failures core.old) }
-    requires fits { EnterFits hart (state_of D.contents D.failures core.old) (enters.Writing entering slot part) }
-    ensures moves { Moves enter_of entered_of hart (enters.Writing entering slot part) result (state_of D.contents D.failures core.old) (state_of D.contents D.failures core.new) }
-    ensures honest { Answers enter_of hart (enters.Writing entering slot part) result (state_of D.contents D.failures core.old) (state_of D.contents D.failures core.new) }
-    ensures still { Still enter_of result (enters.Writing entering slot part) core.old core.new }
-    ensures kept { txn.new ≡ txn.old }
-    ensures inode { LeftOf (λ m. enterer_of m ≡ writer_of part) (λ r. r.inode ≡ with_record (record_in r.inode) (writer_of part)) result }
-    ensures fits { LeftOf (EnterFits hart (state_of D.contents D.failures core.new)) (λ _. Unit {0}) result }
-    ensures others { LeavesTied hart (state_of D.contents D.failures core.old) (state_of D.contents D.failures core.new) }
-    ensures called { CallsOnce D.Called core.old.log.cache.device core.new.log.cache.device }
-    ensures tables { core.new.tables ≡ core.old.tables }
-{
-    // With `return` a result is copied once.
-    match part.step(hart, txn, &entering.entry, core) {
-        Came::Waits => return Stepped::Waits(Enter::Writing(entering, slot, part)),
-        Came::Ran(kind) => return Stepped::Ran(Enter::Writing(entering, slot, part), kind),
-        Came::Done(written, kind) => {
-            match part {
-                WritePart::Gone => {}
-                _ => unreachable!(),
-            }
-            return Stepped::Done(slot_written(slot, written), kind);
-        }
-        Came::Stopped => return Stepped::Stopped(Enter::Writing(entering, slot, part)),
     }
 }
 

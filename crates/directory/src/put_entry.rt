@@ -12,12 +12,13 @@ ghost use Rattle.fs_machine.specs.Tied.{LeavesTied, bytes_of};
 ghost use Rattle.fs_machine.specs.Fetching.{IsFetched};
 ghost use Rattle.fs_layout.specs.declared.entry.Dirent.{Dirent};
 ghost use Rattle.inode_table.specs.Programs.{inode_block};
+ghost use Rattle.inode_table.specs.Machines.{store_of, StoreFits};
 ghost use Rattle.inode_data.specs.Records.{record_in, with_record};
 ghost use Rattle.directory.specs.Programs.{most_slots, put_entry, with_dirent};
 ghost use Rattle.directory.specs.Putting.{entry_of, in_put_fetch, in_put_store, put_of, putter_of, slotted, IsPutting, PutFits};
 ghost use Rattle.directory.specs.declared.put_entry.PutEntry.TheVariants as putting;
 
-use atomic_programs::machines::Stepped;
+use atomic_programs::machines::{Came, Stepped};
 use block_device::Device;
 use buffer_cache::Buffer;
 use fs_layout::widths::{DIRENT_LEN, DIRENTS_PER_BLOCK};
@@ -115,7 +116,7 @@ impl PutEntry {
         match self {
             PutEntry::Fetching(at, fetch) => return fetching(at, fetch.step(hart, core)),
             PutEntry::There(at, guard) => return write(at, guard, hart, txn, change, core),
-            PutEntry::Storing(at, store) => return storing(at, store.step(hart, txn, core)),
+            PutEntry::Storing(at, store) => return storing(at, go_on(store, hart, txn, core)),
         }
     }
 
@@ -193,6 +194,37 @@ fn fetching(
         Stepped::Ran(fetch, kind) => return Stepped::Ran(PutEntry::Fetching(at, fetch), kind),
         Stepped::Done(guard, kind) => return Stepped::Ran(PutEntry::There(at, guard), kind),
         Stepped::Stopped(fetch) => return Stepped::Stopped(PutEntry::Fetching(at, fetch)),
+    }
+}
+
+// A step of the store, and what is left of it.
+fn go_on<D: Device>(
+    store: StoreInode,
+    hart: u8,
+    txn: &mut Txn,
+    core: &mut Core<D>,
+) -> Stepped<StoreInode, (), Kind>
+    requires txn { txn.old ≡ hart }
+    requires may { MayNext hart (store_of store) (state_of D.contents D.failures core.old) }
+    requires fits { StoreFits hart (state_of D.contents D.failures core.old) store }
+    ensures moves { Moves store_of (λ x. x) hart store result (state_of D.contents D.failures core.old) (state_of D.contents D.failures core.new) }
+    ensures honest { Answers store_of hart store result (state_of D.contents D.failures core.old) (state_of D.contents D.failures core.new) }
+    ensures still { Still store_of result store core.old core.new }
+    ensures kept { txn.new ≡ txn.old }
+    ensures fits { LeftOf (StoreFits hart (state_of D.contents D.failures core.new)) (λ _. Unit {0}) result }
+    ensures others { LeavesTied hart (state_of D.contents D.failures core.old) (state_of D.contents D.failures core.new) }
+    ensures called { CallsOnce D.Called core.old.log.cache.device core.new.log.cache.device }
+    ensures tables { core.new.tables ≡ core.old.tables }
+{
+    let mut store = store;
+    match store.step(hart, txn, core) {
+        Came::Waits => Stepped::Waits(store),
+        Came::Ran(kind) => Stepped::Ran(store, kind),
+        Came::Done((), kind) => {
+            store.end();
+            Stepped::Done((), kind)
+        }
+        Came::Stopped => Stepped::Stopped(store),
     }
 }
 

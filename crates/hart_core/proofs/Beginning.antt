@@ -19,7 +19,7 @@ use Rattle.bitmap_alloc.specs.declared.free_block.FreeBlock.{FreeBlock}
 use Rattle.bitmap_alloc.specs.declared.free_block.FreeBlock.TheVariants as freeing
 use Rattle.bitmap_alloc.specs.declared.take_block.TakeBlock.{TakeBlock}
 use Rattle.bitmap_alloc.specs.declared.take_block.TakeBlock.TheVariants as taking_block
-use Rattle.inode_table.specs.Machines.{load_of, store_of}
+use Rattle.inode_table.specs.Machines.{load_of, store_of, StoreFits}
 use Rattle.inode_table.specs.declared.load_inode.LoadInode.{LoadInode}
 use Rattle.inode_table.specs.declared.load_inode.LoadInode.TheVariants as loading
 use Rattle.inode_table.specs.declared.store_inode.StoreInode.{StoreInode}
@@ -29,8 +29,8 @@ use Rattle.inode_data.specs.Widths.{direct}
 use Rattle.inode_data.specs.Addresses.{table_of}
 use Rattle.inode_data.specs.Records.{record_in}
 use Rattle.inode_data.specs.Freeing.{free_numbers, free_in_table, free_indirect, free_table}
-use Rattle.inode_data.specs.Truncating.{own_rest, listed_rest, indirect_rest, record_rest, clearing_of, truncate_of}
-use Rattle.inode_data.specs.Dropping.{free_inode_of, drop_of}
+use Rattle.inode_data.specs.Truncating.{truncate_of, TruncateFits}
+use Rattle.inode_data.specs.Dropping.{free_inode_of, drop_of, DropFits, FreeInodeFits}
 use Rattle.inode_data.specs.Machines.{block_fetch_of}
 use Rattle.inode_data.specs.Reading.{read_of, ReadFits}
 use Rattle.inode_data.specs.Writing.{located, look_up, name_in_table, take_one}
@@ -47,9 +47,6 @@ use Rattle.inode_data.specs.declared.fetch_block.FetchBlock.{FetchBlock}
 use Rattle.inode_data.specs.declared.fetch_block.FetchBlock.TheVariants as fetched
 use Rattle.inode_data.specs.declared.read_part.ReadPart.{ReadPart}
 use Rattle.inode_data.specs.declared.read_part.ReadPart.TheVariants as reading
-use Rattle.inode_data.specs.declared.truncation.Emptying.{Emptying}
-use Rattle.inode_data.specs.declared.truncation.Clearing.{Clearing}
-use Rattle.inode_data.specs.declared.truncation.Clearing.TheVariants as clearing
 use Rattle.inode_data.specs.declared.truncation.Truncate.{Truncate}
 use Rattle.inode_data.specs.declared.truncation.Truncate.TheVariants as emptying
 use Rattle.inode_data.specs.declared.freeing.FreeInode.{FreeInode}
@@ -90,7 +87,7 @@ use Rattle.naming_calls.specs.declared.lower.Lower.{Lower}
 use Rattle.naming_calls.specs.declared.lower.Lower.TheVariants as lowering
 use Rattle.naming_calls.specs.declared.unlink.Unlink.{Unlink}
 use Rattle.naming_calls.specs.declared.unlink.Unlink.TheVariants as unlinking
-use Rattle.directory.specs.Putting.{put_of}
+use Rattle.directory.specs.Putting.{put_of, PutFits}
 use Rattle.directory.specs.declared.put_entry.PutEntry.{PutEntry}
 use Rattle.directory.specs.declared.put_entry.PutEntry.TheVariants as putting
 use Rattle.fs_layout.specs.declared.entry.Dirent.{Dirent}
@@ -183,10 +180,12 @@ unfolding load_of
 has_load (loading.Fetching n f) = first (fetch_of f) _ (has_fetch f)
 has_load (loading.Read n guard) = tt
 
-has_store : (m : StoreInode) → HasOne (store_of m)
-unfolding store_of
-has_store (storing.Fetching n d f) = first (fetch_of f) _ (has_fetch f)
-has_store (storing.Write n d guard) = tt
+has_store : (h : ℕ) (s : State) (m : StoreInode) → StoreFits h s m → HasOne (store_of m)
+unfolding store_of StoreFits
+has_store h s (storing.Fetching n d (Some f)) fits = first (fetch_of f) _ (has_fetch f)
+has_store h s (storing.Fetching n d None) fits = absurd fits
+has_store h s (storing.Write n d guard) fits = tt
+has_store h s storing.Gone fits = absurd fits
 
 -- ---- contents
 
@@ -234,8 +233,7 @@ has_write h bytes s (writing.Locating w m) fits = first (locate_of m) _ (has_loc
 has_write h bytes s (writing.Fetching w (Some f)) fits = first (fetch_of f) _ (has_fetch f)
 has_write h bytes s (writing.Fetching w None) fits = absurd fits
 has_write h bytes s (writing.There w guard) fits = tt
-has_write h bytes s (writing.Storing w (Some m)) fits = first (store_of m) _ (has_store m)
-has_write h bytes s (writing.Storing w None) fits = absurd fits
+has_write h bytes s (writing.Storing w m) fits = first (store_of m) _ (has_store h s m fits.1)
 has_write h bytes s writing.Gone fits = absurd fits
 
 has_numbers : {A : Type 0} (bitmap : ℕ) (bs : List ℕ) (after : P A) → HasOne after → HasOne (free_numbers bitmap bs after)
@@ -253,42 +251,33 @@ has_indirect bitmap table after has = each (table == 0)
     each true = has
     each false = tt
 
-has_own : (e : Emptying) (from : ℕ) → HasOne (own_rest e from)
-has_own e from =
-    has_numbers e.sizes.bmapstart (drop from (take direct (record_in e.inode).addrs)) (indirect_rest e)
-    (has_indirect e.sizes.bmapstart (table_of (record_in e.inode)) (record_rest e) tt)
+has_truncate : (h : ℕ) (s : State) (m : Truncate) → TruncateFits h s m → HasOne (truncate_of m)
+unfolding truncate_of TruncateFits
+has_truncate h s (emptying.Own e i (Some m)) fits = first (free_of m) _ (has_free m)
+has_truncate h s (emptying.Own e i None) fits = absurd fits
+has_truncate h s (emptying.Indirect e (Some f)) fits = first (fetch_of f) _ (has_fetch f)
+has_truncate h s (emptying.Indirect e None) fits = absurd fits
+has_truncate h s (emptying.Listed e table i (Some m)) fits = first (free_of m) _ (has_free m)
+has_truncate h s (emptying.Listed e table i None) fits = absurd fits
+has_truncate h s (emptying.GiveBack e table) fits = tt
+has_truncate h s (emptying.Table e (Some m)) fits = first (free_of m) _ (has_free m)
+has_truncate h s (emptying.Table e None) fits = absurd fits
+has_truncate h s (emptying.Record e m) fits = first (store_of m) _ (has_store h s m fits.1)
+has_truncate h s emptying.Gone fits = absurd fits
 
-has_listed : (e : Emptying) (table : GuardState BufferState) (from : ℕ) → HasOne (listed_rest e table from)
-has_listed e table from = has_numbers e.sizes.bmapstart (drop from (numbers_in (bytes_of table))) (free_table e.sizes.bmapstart table.value.block (record_rest e)) tt
+has_free_inode : (h : ℕ) (s : State) (m : FreeInode) → FreeInodeFits h s m → HasOne (free_inode_of m)
+unfolding free_inode_of FreeInodeFits
+has_free_inode h s (freed.Truncating n inodestart m) fits = first (truncate_of m) _ (has_truncate h s m fits.2)
+has_free_inode h s (freed.Storing n guard m) fits = first (store_of m) _ (has_store h s m fits.2)
+has_free_inode h s (freed.Unlocking n guard) fits = tt
+has_free_inode h s (freed.Dropping n) fits = tt
+has_free_inode h s freed.Gone fits = absurd fits
 
-has_clearing : (e : Emptying) (m : Clearing) → HasOne (clearing_of e m)
-unfolding clearing_of
-has_clearing e (clearing.Own i m) = first (free_of m) _ (has_free m)
-has_clearing e (clearing.Indirect f) = first (fetch_of f) _ (has_fetch f)
-has_clearing e (clearing.Listed table i m) = first (free_of m) _ (has_free m)
-has_clearing e (clearing.GiveBack table) = tt
-has_clearing e (clearing.Table m) = first (free_of m) _ (has_free m)
-has_clearing e (clearing.Record m) = first (store_of m) _ (has_store m)
-
-has_truncate : (m : Truncate) → HasOne (truncate_of m)
-unfolding truncate_of
-has_truncate (emptying.Own e from) = has_own e from
-has_truncate (emptying.Listed e table from) = has_listed e table from
-has_truncate (emptying.Record e) = tt
-has_truncate (emptying.Runs r) = has_clearing r.emptying r.clearing
-
-has_free_inode : (m : FreeInode) → HasOne (free_inode_of m)
-unfolding free_inode_of
-has_free_inode (freed.Truncating n inodestart m) = first (truncate_of m) _ (has_truncate m)
-has_free_inode (freed.Emptied n inodestart guard) = tt
-has_free_inode (freed.Storing n guard m) = first (store_of m) _ (has_store m)
-has_free_inode (freed.Unlocking n guard) = tt
-has_free_inode (freed.Dropping n) = tt
-
-has_drop : (m : DropReference) → HasOne (drop_of m)
-unfolding drop_of
-has_drop (dropping.Down sizes n) = tt
-has_drop (dropping.Freeing m) = has_free_inode m
+has_drop : (h : ℕ) (s : State) (m : DropReference) → DropFits h s m → HasOne (drop_of m)
+unfolding drop_of DropFits
+has_drop h s (dropping.Down sizes n) fits = tt
+has_drop h s (dropping.Freeing m) fits = has_free_inode h s m fits
+has_drop h s dropping.Gone fits = absurd fits
 
 has_file : (h : ℕ) (s : State) (m : LoadFile) → FileFits h s m → HasOne (file_of m)
 unfolding file_of FileFits
@@ -309,8 +298,7 @@ has_close : (h : ℕ) (s : State) (m : Close) → CloseFits h s m → HasOne (cl
 unfolding close_of CloseFits
 has_close h s (close.Shut sizes fd) fits = tt
 has_close h s (close.Join sizes fd n) fits = tt
-has_close h s (close.Dropping fd txn (Some m)) fits = first (drop_of m) _ (has_drop m)
-has_close h s (close.Dropping fd txn None) fits = absurd fits
+has_close h s (close.Dropping fd txn m) fits = first (drop_of m) _ (has_drop h s m fits.1)
 has_close h s (close.Finishing fd (Some m)) fits = first (finish_of m) _ (has_finish h m fits)
 has_close h s (close.Finishing fd None) fits = absurd fits
 has_close h s (close.Say reply) fits = tt
@@ -354,11 +342,11 @@ unfolding search_of
 has_search aim (searching.Fetching at m) = first (block_fetch_of m) _ (has_block m)
 has_search aim (searching.There at guard) = tt
 
-has_put : (entry : Dirent) (m : PutEntry) → HasOne (put_of entry m)
-unfolding put_of
-has_put entry (putting.Fetching at m) = first (block_fetch_of m) _ (has_block m)
-has_put entry (putting.There at guard) = tt
-has_put entry (putting.Storing at m) = first (store_of m) _ (has_store m)
+has_put : (entry : Dirent) (h : ℕ) (s : State) (m : PutEntry) → PutFits h s m → HasOne (put_of entry m)
+unfolding put_of PutFits
+has_put entry h s (putting.Fetching at m) fits = first (block_fetch_of m) _ (has_block m)
+has_put entry h s (putting.There at guard) fits = tt
+has_put entry h s (putting.Storing at m) fits = first (store_of m) _ (has_store h s m fits.1)
 
 has_walk : (path : List ℕ) (h : ℕ) (s : State) (m : Walk) → WalkFits path h s m → HasOne (walk_of path m)
 unfolding walk_of WalkFits
@@ -404,16 +392,14 @@ has_tail h s (tail.Join e n) fits = tt
 has_tail h s (tail.Lock e n txn) fits = tt
 has_tail h s (tail.Loading e n txn guard (Some m)) fits = first (load_of m) _ (has_load m)
 has_tail h s (tail.Loading e n txn guard None) fits = absurd fits
-has_tail h s (tail.Freeing e txn (Some m)) fits = first (free_inode_of m) _ (has_free_inode m)
-has_tail h s (tail.Freeing e txn None) fits = absurd fits
+has_tail h s (tail.Freeing e txn m) fits = first (free_inode_of m) _ (has_free_inode h s m fits.2)
 has_tail h s (tail.Say reply list) fits = tt
 has_tail h s tail.Gone fits = absurd fits
 
 has_give : (h : ℕ) (s : State) (m : GiveUp) → GiveFits h s m → HasOne (give_of m)
 unfolding give_of GiveFits
 has_give h s (giving.Unlock sizes held) fits = tt
-has_give h s (giving.Dropping (Some m)) fits = has_drop m
-has_give h s (giving.Dropping None) fits = absurd fits
+has_give h s (giving.Dropping m) fits = has_drop h s m fits
 has_give h s giving.Gone fits = absurd fits
 
 has_quit : (h : ℕ) (s : State) (m : Quit) → QuitFits h s m → HasOne (quit_of m)
@@ -428,7 +414,7 @@ has_install : (h : ℕ) (s : State) (m : Install) → InstallFits h s m → HasO
 unfolding install_of InstallFits
 has_install h s (installing.Place o txn it) fits = tt
 has_install h s (installing.Descriptor o txn it) fits = tt
-has_install h s (installing.Emptying e txn (Some m)) fits = first (truncate_of m) _ (has_truncate m)
+has_install h s (installing.Emptying e txn (Some m)) fits = first (truncate_of m) _ (has_truncate h s m fits.3)
 has_install h s (installing.Emptying e txn None) fits = absurd fits.2
 has_install h s (installing.Ends m) fits = has_quit h s m fits
 has_install h s installing.Gone fits = absurd fits
@@ -451,10 +437,10 @@ has_chdir h s chdir.Gone fits = absurd fits
 
 has_lower : (h : ℕ) (s : State) (m : Lower) → LowerFits h s m → HasOne (lower_of m)
 unfolding lower_of LowerFits
-has_lower h s (lowering.Parent e txn parent child (Some m)) fits = first (store_of m) _ (has_store m)
+has_lower h s (lowering.Parent e txn parent child (Some m)) fits = first (store_of m) _ (has_store h s m fits.3)
 has_lower h s (lowering.Parent e txn parent child None) fits = absurd fits
 has_lower h s (lowering.Leaving e txn child m) fits = first (give_of m) _ (has_give h s m fits.3)
-has_lower h s (lowering.Child e txn child (Some m)) fits = first (store_of m) _ (has_store m)
+has_lower h s (lowering.Child e txn child (Some m)) fits = first (store_of m) _ (has_store h s m fits.3)
 has_lower h s (lowering.Child e txn child None) fits = absurd fits
 has_lower h s (lowering.Ends m) fits = has_quit h s m fits
 has_lower h s lowering.Gone fits = absurd fits
@@ -467,7 +453,7 @@ has_unlink h s (unlinking.Refer r txn n) fits = tt
 has_unlink h s (unlinking.Taking r txn m) fits = first (take_of m) _ (has_take h s m fits.2)
 has_unlink h s (unlinking.Looking r txn n (Some m)) fits = first (search_of Entry m) _ (has_search Entry m)
 has_unlink h s (unlinking.Looking r txn n None) fits = absurd fits
-has_unlink h s (unlinking.Clearing e txn n child (Some m)) fits = first (put_of Free m) _ (has_put Free m)
+has_unlink h s (unlinking.Clearing e txn n child (Some m)) fits = first (put_of Free m) _ (has_put Free h s m fits.3)
 has_unlink h s (unlinking.Clearing e txn n child None) fits = absurd fits
 has_unlink h s (unlinking.Lowering m) fits = has_lower h s m fits
 has_unlink h s (unlinking.Ends m) fits = has_quit h s m fits
@@ -486,19 +472,20 @@ has_enter : (h : ℕ) (s : State) (m : Enter) → EnterFits h s m → HasOne (en
 unfolding enter_of EnterFits
 has_enter h s (entering.Searching e m) fits = first (search_of Unused m) _ (has_search Unused m)
 has_enter h s (entering.Writing e slot m) fits = first (write_of _ m) _ (has_write h _ s m fits.1)
+has_enter h s entering.Gone fits = absurd fits
 
 has_make : (e : Name) (h : ℕ) (s : State) (m : Make) → MakeFits h s m → HasOne (make_of e m)
 unfolding make_of MakeFits
 has_make e h s (making.Claiming m (Some new)) fits = first (new_of new) _ (has_new new)
 has_make e h s (making.Claiming m None) fits = absurd fits.1
 has_make e h s (making.Taking m take) fits = first (take_of take) _ (has_take h s take fits.1)
-has_make e h s (making.Linking m child (Some st)) fits = first (store_of st) _ (has_store st)
+has_make e h s (making.Linking m child (Some st)) fits = first (store_of st) _ (has_store h s st fits.3)
 has_make e h s (making.Linking m child None) fits = absurd fits.3
 has_make e h s (making.Filling m n bytes (Some part)) fits = first (write_of bytes part) _ (has_write h bytes s part fits.3)
 has_make e h s (making.Filling m n bytes None) fits = absurd fits.1
 has_make e h s (making.Entering sizes n child (Some enter)) fits = first (enter_of enter) _ (has_enter h s enter fits.4)
 has_make e h s (making.Entering sizes n child None) fits = absurd fits.1
-has_make e h s (making.Unlinking sizes parent child what (Some st)) fits = first (store_of st) _ (has_store st)
+has_make e h s (making.Unlinking sizes parent child what (Some st)) fits = first (store_of st) _ (has_store h s st fits.4)
 has_make e h s (making.Unlinking sizes parent child what None) fits = absurd fits.4
 has_make e h s (making.Giving parent what give) fits = first (give_of give) _ (has_give h s give fits.1)
 has_make e h s making.Gone fits = absurd fits
@@ -521,7 +508,7 @@ unfolding mkdir_of MkdirFits
 has_mkdir h s (mkdir.Join on list) fits = tt
 has_mkdir h s (mkdir.Seeking on txn m) fits = first (seek_of on.path m) _ (has_seek on.path h s m fits.2)
 has_mkdir h s (mkdir.Making on txn list e links m) fits = first (make_of (name_in on.path e) m) _ (has_make (name_in on.path e) h s m fits.4)
-has_mkdir h s (mkdir.Raising on txn list parent child (Some m)) fits = first (store_of m) _ (has_store m)
+has_mkdir h s (mkdir.Raising on txn list parent child (Some m)) fits = first (store_of m) _ (has_store h s m fits.5)
 has_mkdir h s (mkdir.Raising on txn list parent child None) fits = absurd fits.5
 has_mkdir h s (mkdir.Leaving on txn list child m) fits = first (give_of m) _ (has_give h s m fits.3)
 has_mkdir h s (mkdir.Ends m) fits = has_quit h s m fits
@@ -530,8 +517,7 @@ has_mkdir h s mkdir.Gone fits = absurd fits
 has_add : (h : ℕ) (s : State) (m : AddName) → AddFits h s m → HasOne (add_of m)
 unfolding add_of AddFits
 has_add h s (adding.Seeking l txn n m) fits = first (seek_of l.new m) _ (has_seek l.new h s m fits.2)
-has_add h s (adding.Entering l txn list n parent (Some m)) fits = first (enter_of m) _ (has_enter h s m fits.3)
-has_add h s (adding.Entering l txn list n parent None) fits = absurd fits
+has_add h s (adding.Entering l txn list n parent m) fits = first (enter_of m) _ (has_enter h s m fits.3)
 has_add h s (adding.Leaving l txn list n why m) fits = first (give_of m) _ (has_give h s m fits.2)
 has_add h s (adding.Taking e txn m) fits = first (take_of m) _ (has_take h s m fits.2)
 has_add h s (adding.Lowering m) fits = has_lower h s m fits
@@ -542,7 +528,7 @@ has_link : (h : ℕ) (s : State) (m : Link) → LinkFits h s m → HasOne (link_
 unfolding link_of LinkFits
 has_link h s (linking.Join l list) fits = tt
 has_link h s (linking.Reaching l txn m) fits = first (reach_of l.old m) _ (has_reach l.old h s m fits.3)
-has_link h s (linking.Raising l txn list held (Some m)) fits = first (store_of m) _ (has_store m)
+has_link h s (linking.Raising l txn list held (Some m)) fits = first (store_of m) _ (has_store h s m fits.4)
 has_link h s (linking.Raising l txn list held None) fits = absurd fits
 has_link h s (linking.Unlock l txn list held) fits = tt
 has_link h s (linking.Naming m) fits = has_add h s m fits
@@ -554,8 +540,7 @@ unfolding inherit_of InheritFits
 has_inherit h s (inheriting.Lend l) fits = tt
 has_inherit h s (inheriting.Directory sizes child) fits = tt
 has_inherit h s (inheriting.Join sizes child old) fits = tt
-has_inherit h s (inheriting.Dropping child txn (Some m)) fits = first (drop_of m) _ (has_drop m)
-has_inherit h s (inheriting.Dropping child txn None) fits = absurd fits
+has_inherit h s (inheriting.Dropping child txn m) fits = first (drop_of m) _ (has_drop h s m fits.1)
 has_inherit h s (inheriting.Finishing child (Some m)) fits = first (finish_of m) _ (has_finish h m fits)
 has_inherit h s (inheriting.Finishing child None) fits = absurd fits
 has_inherit h s (inheriting.Say reply) fits = tt

@@ -18,7 +18,7 @@ use Rattle.inode_table.specs.declared.load_inode.LoadInode.{LoadInode}
 use Rattle.inode_table.specs.declared.load_inode.LoadInode.TheVariants as loading
 use Rattle.inode_table.specs.declared.store_inode.StoreInode.{StoreInode}
 use Rattle.inode_table.specs.declared.store_inode.StoreInode.TheVariants as storing
-use Rattle.inode_data.specs.Truncating.{ClearingFits, TruncateFits}
+use Rattle.inode_data.specs.Truncating.{TruncateFits}
 use Rattle.inode_data.specs.Dropping.{FreeInodeFits, DropFits}
 use Rattle.inode_data.specs.Machines.{BlockFetchFits}
 use Rattle.inode_data.specs.Reading.{ReadFits}
@@ -32,8 +32,6 @@ use Rattle.inode_data.specs.declared.fetch_block.FetchBlock.{FetchBlock}
 use Rattle.inode_data.specs.declared.fetch_block.FetchBlock.TheVariants as fetched
 use Rattle.inode_data.specs.declared.read_part.ReadPart.{ReadPart}
 use Rattle.inode_data.specs.declared.read_part.ReadPart.TheVariants as reading
-use Rattle.inode_data.specs.declared.truncation.Clearing.{Clearing}
-use Rattle.inode_data.specs.declared.truncation.Clearing.TheVariants as clearing
 use Rattle.inode_data.specs.declared.truncation.Truncate.{Truncate}
 use Rattle.inode_data.specs.declared.truncation.Truncate.TheVariants as emptying
 use Rattle.inode_data.specs.declared.freeing.FreeInode.{FreeInode}
@@ -161,8 +159,10 @@ module _ (h g : ℕ) (s t : State) (other : h ≢ g) (leaves : LeavesTied g s t)
 
   store : (m : StoreInode) → StoreFits h s m → StoreFits h t m
   unfolding StoreFits
-  store (storing.Fetching n d f) fits = fetch f fits
+  store (storing.Fetching n d (Some f)) fits = fetch f fits
+  store (storing.Fetching n d None) fits = absurd fits
   store (storing.Write n d guard) fits = is_fetched _ guard fits
+  store storing.Gone fits = absurd fits
 
   -- ---- contents
 
@@ -199,38 +199,36 @@ module _ (h g : ℕ) (s t : State) (other : h ≢ g) (leaves : LeavesTied g s t)
   writes bytes (writing.Fetching w (Some f)) fits = (fits.0, fits.1, fetch f fits.2)
   writes bytes (writing.Fetching w None) fits = absurd fits
   writes bytes (writing.There w guard) fits = (fits.0, fits.1, is_fetched _ guard fits.2)
-  writes bytes (writing.Storing w (Some m)) fits = (fits.0, store m fits.1)
-  writes bytes (writing.Storing w None) fits = absurd fits
+  writes bytes (writing.Storing w m) fits = (fits.0, store m fits.1)
   writes bytes writing.Gone fits = absurd fits
-
-  clears : (m : Clearing) → ClearingFits h s m → ClearingFits h t m
-  unfolding ClearingFits
-  clears (clearing.Own i m) fits = (fits.0, free m fits.1)
-  clears (clearing.Indirect f) fits = fetch f fits
-  clears (clearing.Listed table i m) fits = (fits.0, is_fetched _ table fits.1, free m fits.2, fits.3)
-  clears (clearing.GiveBack table) fits = is_fetched _ table fits
-  clears (clearing.Table m) fits = free m fits
-  clears (clearing.Record m) fits = store m fits
 
   truncates : (m : Truncate) → TruncateFits h s m → TruncateFits h t m
   unfolding TruncateFits
-  truncates (emptying.Own e from) fits = fits
-  truncates (emptying.Listed e table from) fits = (fits.0, is_fetched _ table fits.1)
-  truncates (emptying.Record e) fits = fits
-  truncates (emptying.Runs r) fits = (fits.0, clears r.clearing fits.1)
+  truncates (emptying.Own e i (Some m)) fits = (fits.0, fits.1, free m fits.2)
+  truncates (emptying.Own e i None) fits = absurd fits
+  truncates (emptying.Indirect e (Some f)) fits = (fits.0, fetch f fits.1)
+  truncates (emptying.Indirect e None) fits = absurd fits
+  truncates (emptying.Listed e table i (Some m)) fits = (fits.0, fits.1, is_fetched _ table fits.2, free m fits.3, fits.4)
+  truncates (emptying.Listed e table i None) fits = absurd fits
+  truncates (emptying.GiveBack e table) fits = (fits.0, is_fetched _ table fits.1)
+  truncates (emptying.Table e (Some m)) fits = (fits.0, free m fits.1)
+  truncates (emptying.Table e None) fits = absurd fits
+  truncates (emptying.Record e m) fits = (fits.0, store m fits.1)
+  truncates emptying.Gone fits = absurd fits
 
   frees : (m : FreeInode) → FreeInodeFits h s m → FreeInodeFits h t m
   unfolding FreeInodeFits
   frees (freed.Truncating n inodestart m) fits = (fits.0, own_inode n _ fits.1, truncates m fits.2)
-  frees (freed.Emptied n inodestart guard) fits = (fits.0, own_inode n guard fits.1, fits.2)
   frees (freed.Storing n guard m) fits = (own_inode n guard fits.0, fits.1, store m fits.2)
   frees (freed.Unlocking n guard) fits = (own_inode n guard fits.0, fits.1)
   frees (freed.Dropping n) fits = fits
+  frees freed.Gone fits = absurd fits
 
   drops : (m : DropReference) → DropFits h s m → DropFits h t m
   unfolding DropFits
   drops (dropping.Down sizes n) fits = fits
   drops (dropping.Freeing m) fits = frees m fits
+  drops dropping.Gone fits = absurd fits
 
   files : (m : LoadFile) → FileFits h s m → FileFits h t m
   unfolding FileFits
@@ -251,8 +249,7 @@ module _ (h g : ℕ) (s t : State) (other : h ≢ g) (leaves : LeavesTied g s t)
   unfolding CloseFits
   closes (close.Shut sizes fd) fits = fits
   closes (close.Join sizes fd n) fits = fits
-  closes (close.Dropping fd txn (Some m)) fits = (fits.0, drops m fits.1)
-  closes (close.Dropping fd txn None) fits = absurd fits
+  closes (close.Dropping fd txn m) fits = (fits.0, drops m fits.1)
   closes (close.Finishing fd (Some m)) fits = fits
   closes (close.Finishing fd None) fits = absurd fits
   closes (close.Say reply) fits = fits
@@ -352,16 +349,14 @@ module _ (h g : ℕ) (s t : State) (other : h ≢ g) (leaves : LeavesTied g s t)
   tails (tail.Lock e n txn) fits = fits
   tails (tail.Loading e n txn guard (Some m)) fits = (fits.0, fits.1, own_inode n guard fits.2, load m fits.3)
   tails (tail.Loading e n txn guard None) fits = absurd fits
-  tails (tail.Freeing e txn (Some m)) fits = (fits.0, fits.1, frees m fits.2)
-  tails (tail.Freeing e txn None) fits = absurd fits
+  tails (tail.Freeing e txn m) fits = (fits.0, fits.1, frees m fits.2)
   tails (tail.Say reply list) fits = fits
   tails tail.Gone fits = absurd fits
 
   gives : (m : GiveUp) → GiveFits h s m → GiveFits h t m
   unfolding GiveFits
   gives (giving.Unlock sizes held) fits = (fits.0, is_held held fits.1)
-  gives (giving.Dropping (Some m)) fits = drops m fits
-  gives (giving.Dropping None) fits = absurd fits
+  gives (giving.Dropping m) fits = drops m fits
   gives giving.Gone fits = absurd fits
 
   quits : (m : Quit) → QuitFits h s m → QuitFits h t m
@@ -440,6 +435,7 @@ module _ (h g : ℕ) (s t : State) (other : h ≢ g) (leaves : LeavesTied g s t)
   unfolding EnterFits
   enters (entering.Searching e m) fits = (fits.0, fits.1, searches m fits.2)
   enters (entering.Writing e slot m) fits = (fits.0, writes _ m fits.1)
+  enters entering.Gone fits = absurd fits
 
   is_making : (m : Making) → IsMaking h m s → IsMaking h m t
   is_making m f = record { sized = f.sized; parent = is_parent _ _ f.parent }
@@ -487,8 +483,7 @@ module _ (h g : ℕ) (s t : State) (other : h ≢ g) (leaves : LeavesTied g s t)
   adds : (m : AddName) → AddFits h s m → AddFits h t m
   unfolding AddFits
   adds (adding.Seeking l txn n m) fits = (fits.0, fits.1, seeks l.new m fits.2)
-  adds (adding.Entering l txn list n parent (Some m)) fits = (fits.0, fits.1, own_inode parent _ fits.2, enters m fits.3)
-  adds (adding.Entering l txn list n parent None) fits = absurd fits
+  adds (adding.Entering l txn list n parent m) fits = (fits.0, fits.1, own_inode parent _ fits.2, enters m fits.3)
   adds (adding.Leaving l txn list n why m) fits = (fits.0, fits.1, gives m fits.2)
   adds (adding.Taking e txn m) fits = (fits.0, fits.1, takes m fits.2)
   adds (adding.Lowering m) fits = lowers m fits
@@ -511,8 +506,7 @@ module _ (h g : ℕ) (s t : State) (other : h ≢ g) (leaves : LeavesTied g s t)
   inherits (inheriting.Lend l) fits = fits
   inherits (inheriting.Directory sizes child) fits = fits
   inherits (inheriting.Join sizes child old) fits = fits
-  inherits (inheriting.Dropping child txn (Some m)) fits = (fits.0, drops m fits.1)
-  inherits (inheriting.Dropping child txn None) fits = absurd fits
+  inherits (inheriting.Dropping child txn m) fits = (fits.0, drops m fits.1)
   inherits (inheriting.Finishing child (Some m)) fits = fits
   inherits (inheriting.Finishing child None) fits = absurd fits
   inherits (inheriting.Say reply) fits = fits

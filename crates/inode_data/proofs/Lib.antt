@@ -3,7 +3,6 @@ mod NextRead
 pub mod Nested
 pub mod Following
 mod NextFree
-mod Truncations
 mod Freed
 mod Locations
 mod PartWritings

@@ -21,6 +21,7 @@ use Rattle.inode_data.specs.declared.location.Locate.TheVariants as locating
 use Rattle.inode_data.specs.declared.write_part.Writing.{Writing}
 use Rattle.inode_data.specs.declared.write_part.PartWritten.{PartWritten}
 use Rattle.inode_data.specs.declared.write_part.WritePart.{WritePart}
+use Rattle.inode_table.specs.declared.store_inode.StoreInode.TheVariants as storing
 use Rattle.inode_data.specs.declared.write_part.WritePart.TheVariants as writing
 
 -- the bytes that are left, and how many of them go into the next block
@@ -66,8 +67,7 @@ write_of bytes (writing.Locating w m) = bind (locate_of m) (after_location w byt
 write_of bytes (writing.Fetching w (Some f)) = bind (fetch_of f) (after_fetch w bytes (block_of f))
 write_of bytes (writing.Fetching w None) = no_writing
 write_of bytes (writing.There w guard) = after_fetch w bytes guard.value.block (bytes_of guard)
-write_of bytes (writing.Storing w (Some m)) = bind (store_of m) (give_written w)
-write_of bytes (writing.Storing w None) = no_writing
+write_of bytes (writing.Storing w m) = bind (store_of m) (give_written w)
 write_of bytes writing.Gone = no_writing
 
 -- what the result stands for
@@ -86,8 +86,7 @@ WriteFits hart bytes s (writing.Locating w m) = IsWriting (w.left + 1) w × (w.d
 WriteFits hart bytes s (writing.Fetching w (Some f)) = IsWriting (w.left + 1) w × (w.done ≤ length bytes) × FetchFits hart s f
 WriteFits hart bytes s (writing.Fetching w None) = ⊥
 WriteFits hart bytes s (writing.There w guard) = IsWriting (w.left + 1) w × (w.done ≤ length bytes) × IsFetched hart guard.value.block guard s
-WriteFits hart bytes s (writing.Storing w (Some m)) = IsWriting 0 w × StoreFits hart s m
-WriteFits hart bytes s (writing.Storing w None) = ⊥
+WriteFits hart bytes s (writing.Storing w m) = IsWriting 0 w × StoreFits hart s m
 WriteFits hart bytes s writing.Gone = ⊥
 
 -- the next block was written
@@ -162,7 +161,7 @@ IsStoring (writing.Storing w m) = Unit {0}
 IsStoring _ = ⊥
 
 abbrev pub HasStored : WritePart → Type 0
-HasStored (writing.Storing w m) = IsWriting 0 w × (m ≡ None)
+HasStored (writing.Storing w m) = IsWriting 0 w × (m ≡ storing.Gone)
 HasStored _ = ⊥
 
 abbrev pub StoredAs : WritePart → PartWritten → Type 0

@@ -6,31 +6,22 @@ use Rattle.fs_layout.specs.declared.inode.Dinode.{Dinode}
 use Rattle.fs_layout.specs.Indirect.{numbers_in}
 use Rattle.fs_layout.specs.Widths.{numbers_per_block}
 use Rattle.atomic_programs.specs.Prog.{Ret, bind}
-use Rattle.atomic_programs.specs.declared.machines.Stepped.{Stepped}
-use Rattle.atomic_programs.specs.declared.machines.Stepped.TheVariants.{Waits, Ran, Done, Stopped}
 use Rattle.fs_tables.specs.declared.inodes.Inode.{Inode}
-use Rattle.fs_machine.specs.declared.fetch.Fetch.{Fetch}
-use Rattle.fs_machine.specs.declared.kind.Kind.{Kind}
 use Rattle.fs_machine.specs.Steps.{State}
-use Rattle.fs_machine.specs.Machines.{P, within}
+use Rattle.fs_machine.specs.Machines.{P}
 use Rattle.fs_machine.specs.Tied.{bytes_of}
 use Rattle.fs_machine.specs.Fetching.{fetch_of, block_of, FetchFits, IsFetched}
 use Rattle.bitmap_alloc.specs.Machines.{free_of, FreeFits, FreeApart}
-use Rattle.bitmap_alloc.specs.declared.free_block.FreeBlock.{FreeBlock}
-use Rattle.inode_table.specs.Programs.{inode_block}
+use Rattle.inode_table.specs.Programs.{inode_block, no_record}
 use Rattle.inode_table.specs.Machines.{store_of, StoreFits}
-use Rattle.inode_table.specs.declared.store_inode.StoreInode.{StoreInode}
+use Rattle.inode_table.specs.declared.store_inode.StoreInode.TheVariants as storing
 use Rattle.inode_data.specs.Widths.{direct}
 use Rattle.inode_data.specs.Addresses.{table_of}
 use Rattle.inode_data.specs.Records.{record_in, with_record}
-use Rattle.inode_data.specs.Machines.{ends_within}
 use Rattle.inode_data.specs.Freeing.{free_numbers, free_table, free_in_table, free_indirect, without_content, store_record}
 use Rattle.inode_data.specs.declared.truncation.Emptying.{Emptying}
 use Rattle.inode_data.specs.declared.truncation.Truncate.{Truncate}
 use Rattle.inode_data.specs.declared.truncation.Truncate.TheVariants as emptying
-use Rattle.inode_data.specs.declared.truncation.Running.{Running}
-use Rattle.inode_data.specs.declared.truncation.Clearing.{Clearing}
-use Rattle.inode_data.specs.declared.truncation.Clearing.TheVariants as clearing
 
 -- the first number from this place on that isn't 0
 abbrev pub IsNext : List ℕ → ℕ → Option ℕ → Type 0
@@ -56,79 +47,144 @@ own_rest e from = free_numbers e.sizes.bmapstart (drop from (take direct (record
 abbrev pub listed_rest : Emptying → GuardState BufferState → ℕ → P Dinode
 listed_rest e table from = free_numbers e.sizes.bmapstart (drop from (numbers_in (bytes_of table))) (free_table e.sizes.bmapstart table.value.block (record_rest e))
 
-unfoldable pub clearing_of : Emptying → Clearing → P Dinode
-clearing_of e (clearing.Own i m) = bind (free_of m) (λ _. own_rest e (i + 1))
-clearing_of e (clearing.Indirect f) = bind (fetch_of f) (free_in_table e.sizes.bmapstart (block_of f) (record_rest e))
-clearing_of e (clearing.Listed table i m) = bind (free_of m) (λ _. listed_rest e table (i + 1))
-clearing_of e (clearing.GiveBack table) = free_table e.sizes.bmapstart table.value.block (record_rest e)
-clearing_of e (clearing.Table m) = bind (free_of m) (λ _. record_rest e)
-clearing_of e (clearing.Record m) = bind (store_of m) (λ _. Ret (without_content (record_in e.inode)))
+-- what follows once a block, the indirect block's fetch, or the record's storing has come to its end
+abbrev pub own_next : Emptying → ℕ → Unit {0} → P Dinode
+own_next e i _ = own_rest e (i + 1)
 
-abbrev pub running_of : Running → P Dinode
-running_of r = clearing_of r.emptying r.clearing
+abbrev pub indirect_next : Emptying → ℕ → List ℕ → P Dinode
+indirect_next e b = free_in_table e.sizes.bmapstart b (record_rest e)
+
+abbrev pub listed_next : Emptying → GuardState BufferState → ℕ → Unit {0} → P Dinode
+listed_next e table i _ = listed_rest e table (i + 1)
+
+abbrev pub table_next : Emptying → Unit {0} → P Dinode
+table_next e _ = record_rest e
+
+abbrev pub record_next : Emptying → Unit {0} → P Dinode
+record_next e _ = Ret (without_content (record_in e.inode))
+
+-- that of nothing
+abbrev pub no_emptying : P Dinode
+no_emptying = Ret no_record
 
 unfoldable pub truncate_of : Truncate → P Dinode
-truncate_of (emptying.Own e from) = own_rest e from
-truncate_of (emptying.Listed e table from) = listed_rest e table from
-truncate_of (emptying.Record e) = record_rest e
-truncate_of (emptying.Runs r) = running_of r
+truncate_of (emptying.Own e i (Some m)) = bind (free_of m) (own_next e i)
+truncate_of (emptying.Own e i None) = no_emptying
+truncate_of (emptying.Indirect e (Some f)) = bind (fetch_of f) (indirect_next e (block_of f))
+truncate_of (emptying.Indirect e None) = no_emptying
+truncate_of (emptying.Listed e table i (Some m)) = bind (free_of m) (listed_next e table i)
+truncate_of (emptying.Listed e table i None) = no_emptying
+truncate_of (emptying.GiveBack e table) = free_table e.sizes.bmapstart table.value.block (record_rest e)
+truncate_of (emptying.Table e (Some m)) = bind (free_of m) (table_next e)
+truncate_of (emptying.Table e None) = no_emptying
+truncate_of (emptying.Record e m) = bind (store_of m) (record_next e)
+truncate_of emptying.Gone = no_emptying
 
 -- the inode is loaded, and its block has a number
 pub record IsEmptying (e : Emptying) : Type 0 where
   pub loaded : IsSome e.inode.value.content
   pub block : inode_block e.sizes.inodestart (number_of e) < 2 ^ 32
 
--- what an emptying has in hand serves its next operation
-unfoldable pub IsReady : Truncate → Type 0
-IsReady (emptying.Own e from) = IsEmptying e
-IsReady (emptying.Listed e table from) = IsEmptying e × IsSome table.value.content
-IsReady (emptying.Record e) = IsEmptying e
-IsReady (emptying.Runs r) = Unit {0}
-
 -- its guards go with the state
-unfoldable pub ClearingFits : ℕ → State → Clearing → Type 0
-ClearingFits hart s (clearing.Own i m) = (i < direct) × FreeFits hart s m
-ClearingFits hart s (clearing.Indirect f) = FetchFits hart s f
-ClearingFits hart s (clearing.Listed table i m) = (i < numbers_per_block) × IsFetched hart table.value.block table s × FreeFits hart s m × FreeApart table.value.block m
-ClearingFits hart s (clearing.GiveBack table) = IsFetched hart table.value.block table s
-ClearingFits hart s (clearing.Table m) = FreeFits hart s m
-ClearingFits hart s (clearing.Record m) = StoreFits hart s m
-
-abbrev pub RunningFits : ℕ → State → Running → Type 0
-RunningFits hart s r = IsEmptying r.emptying × ClearingFits hart s r.clearing
-
 unfoldable pub TruncateFits : ℕ → State → Truncate → Type 0
-TruncateFits hart s (emptying.Own e from) = IsEmptying e
-TruncateFits hart s (emptying.Listed e table from) = IsEmptying e × IsFetched hart table.value.block table s
-TruncateFits hart s (emptying.Record e) = IsEmptying e
-TruncateFits hart s (emptying.Runs r) = RunningFits hart s r
+TruncateFits hart s (emptying.Own e i (Some m)) = IsEmptying e × (i < direct) × FreeFits hart s m
+TruncateFits hart s (emptying.Own e i None) = ⊥
+TruncateFits hart s (emptying.Indirect e (Some f)) = IsEmptying e × FetchFits hart s f
+TruncateFits hart s (emptying.Indirect e None) = ⊥
+TruncateFits hart s (emptying.Listed e table i (Some m)) = IsEmptying e × (i < numbers_per_block) × IsFetched hart table.value.block table s × FreeFits hart s m × FreeApart table.value.block m
+TruncateFits hart s (emptying.Listed e table i None) = ⊥
+TruncateFits hart s (emptying.GiveBack e table) = IsEmptying e × IsFetched hart table.value.block table s
+TruncateFits hart s (emptying.Table e (Some m)) = IsEmptying e × FreeFits hart s m
+TruncateFits hart s (emptying.Table e None) = ⊥
+TruncateFits hart s (emptying.Record e m) = IsEmptying e × StoreFits hart s m
+TruncateFits hart s emptying.Gone = ⊥
 
 -- the inode's guard
 abbrev pub emptied_of : Truncate → GuardState Inode
-emptied_of (emptying.Own e from) = e.inode
-emptied_of (emptying.Listed e table from) = e.inode
-emptied_of (emptying.Record e) = e.inode
-emptied_of (emptying.Runs r) = r.emptying.inode
+emptied_of (emptying.Own e i m) = e.inode
+emptied_of (emptying.Indirect e f) = e.inode
+emptied_of (emptying.Listed e table i m) = e.inode
+emptied_of (emptying.GiveBack e table) = e.inode
+emptied_of (emptying.Table e m) = e.inode
+emptied_of (emptying.Record e m) = e.inode
+emptied_of emptying.Gone = record { number = 0; hart = 0; value = record { number = 0; content = None } }
 
--- a nested machine's step
-abbrev pub in_own_freeing : Emptying → ℕ → Stepped FreeBlock (Unit {0}) Kind → Stepped Truncate (GuardState Inode) Kind
-in_own_freeing e i stepped = within (λ m. emptying.Runs (record { emptying = e; clearing = clearing.Own i m })) (λ _. emptying.Own e (i + 1)) stepped
+-- ---- from one state to the next
 
-abbrev pub in_indirect_fetch : Emptying → Stepped Fetch (GuardState BufferState) Kind → Stepped Truncate (GuardState Inode) Kind
-in_indirect_fetch e stepped = within (λ f. emptying.Runs (record { emptying = e; clearing = clearing.Indirect f })) (λ table. emptying.Listed e table 0) stepped
+-- it has gone on to a state for this program, with the same inode
+abbrev pub GoesTo : Emptying → P Dinode → Truncate → Type 0
+GoesTo e p next = (truncate_of next ≡ p) × (emptied_of next ≡ e.inode) × ((hart : ℕ) (s : State) → TruncateFits hart s next)
 
-abbrev pub in_listed_freeing : Emptying → GuardState BufferState → ℕ → Stepped FreeBlock (Unit {0}) Kind → Stepped Truncate (GuardState Inode) Kind
-in_listed_freeing e table i stepped = within (λ m. emptying.Runs (record { emptying = e; clearing = clearing.Listed table i m })) (λ _. emptying.Listed e table (i + 1)) stepped
+-- the same, where the indirect block's buffer is in hand
+abbrev pub GoesWith : Emptying → GuardState BufferState → P Dinode → Truncate → Type 0
+GoesWith e table p next = (truncate_of next ≡ p) × (emptied_of next ≡ e.inode) × ((hart : ℕ) (s : State) → IsFetched hart table.value.block table s → TruncateFits hart s next)
 
-abbrev pub in_table_freeing : Emptying → Stepped FreeBlock (Unit {0}) Kind → Stepped Truncate (GuardState Inode) Kind
-in_table_freeing e stepped = within (λ m. emptying.Runs (record { emptying = e; clearing = clearing.Table m })) (λ _. emptying.Record e) stepped
+-- a block of the inode's own is given back
+abbrev pub IsOwn : Truncate → Type 0
+IsOwn (emptying.Own e i m) = Unit {0}
+IsOwn _ = ⊥
 
-abbrev pub in_record_storing : Emptying → Stepped StoreInode (Unit {0}) Kind → Stepped Truncate (GuardState Inode) Kind
-in_record_storing e stepped = ends_within (λ m. emptying.Runs (record { emptying = e; clearing = clearing.Record m })) (λ _. with_record (without_content (record_in e.inode)) e.inode) stepped
+abbrev pub HasFreedOwn : Truncate → Type 0
+HasFreedOwn (emptying.Own e i m) = IsEmptying e × (i < direct) × (m ≡ None)
+HasFreedOwn _ = ⊥
 
--- a step that waits changes nothing, and after one that stopped the world the machine stands for the same program
-abbrev pub StillRuns : {S : Type 0} → Running → Stepped Truncate (GuardState Inode) Kind → S → S → Type 0
-StillRuns self (Waits m) old new = (truncate_of m ≡ running_of self) × (new ≡ old)
-StillRuns self (Ran m kind) old new = Unit {0}
-StillRuns self (Done guard kind) old new = Unit {0}
-StillRuns self (Stopped m) old new = truncate_of m ≡ running_of self
+abbrev pub FreedOwnTo : Truncate → Truncate → Type 0
+FreedOwnTo (emptying.Own e i m) next = GoesTo e (own_rest e (i + 1)) next
+FreedOwnTo _ next = Unit {0}
+
+-- the indirect block is fetched
+abbrev pub IsIndirect : Truncate → Type 0
+IsIndirect (emptying.Indirect e f) = Unit {0}
+IsIndirect _ = ⊥
+
+abbrev pub HasFetched : Truncate → Type 0
+HasFetched (emptying.Indirect e f) = IsEmptying e × (f ≡ None)
+HasFetched _ = ⊥
+
+abbrev pub FetchedTo : GuardState BufferState → Truncate → Truncate → Type 0
+FetchedTo table (emptying.Indirect e f) next = GoesWith e table (listed_rest e table 0) next
+FetchedTo table _ next = Unit {0}
+
+-- a block of the indirect block's is given back
+abbrev pub IsListed : Truncate → Type 0
+IsListed (emptying.Listed e table i m) = Unit {0}
+IsListed _ = ⊥
+
+abbrev pub HasFreedListed : Truncate → Type 0
+HasFreedListed (emptying.Listed e table i m) = IsEmptying e × (i < numbers_per_block) × IsSome table.value.content × (m ≡ None)
+HasFreedListed _ = ⊥
+
+abbrev pub FreedListedTo : Truncate → Truncate → Type 0
+FreedListedTo (emptying.Listed e table i m) next = GoesWith e table (listed_rest e table (i + 1)) next
+FreedListedTo _ next = Unit {0}
+
+-- the indirect block's buffer goes back
+abbrev pub IsGivingBack : Truncate → Type 0
+IsGivingBack (emptying.GiveBack e table) = Unit {0}
+IsGivingBack _ = ⊥
+
+-- the indirect block itself is given back
+abbrev pub IsTable : Truncate → Type 0
+IsTable (emptying.Table e m) = Unit {0}
+IsTable _ = ⊥
+
+abbrev pub HasFreedTable : Truncate → Type 0
+HasFreedTable (emptying.Table e m) = IsEmptying e × (m ≡ None)
+HasFreedTable _ = ⊥
+
+abbrev pub FreedTableTo : Truncate → Truncate → Type 0
+FreedTableTo (emptying.Table e m) next = GoesTo e (record_rest e) next
+FreedTableTo _ next = Unit {0}
+
+-- the record is stored
+abbrev pub IsRecord : Truncate → Type 0
+IsRecord (emptying.Record e m) = Unit {0}
+IsRecord _ = ⊥
+
+abbrev pub HasStored : Truncate → Type 0
+HasStored (emptying.Record e m) = IsEmptying e × (m ≡ storing.Gone)
+HasStored _ = ⊥
+
+abbrev pub StoredAs : Truncate → GuardState Inode → Type 0
+StoredAs (emptying.Record e m) guard = guard ≡ with_record (without_content (record_in e.inode)) e.inode
+StoredAs _ guard = Unit {0}

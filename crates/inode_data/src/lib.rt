@@ -24,5 +24,5 @@ pub use crate::freeing::FreeInode;
 pub use crate::location::{Locate, Located, Locating};
 pub use crate::read_part::{ReadPart, Reading};
 pub use crate::records::{record, with_record};
-pub use crate::truncation::{Clearing, Emptying, Running, Truncate};
+pub use crate::truncation::{Emptying, Truncate};
 pub use crate::write_part::{PartWritten, WritePart, Writing};

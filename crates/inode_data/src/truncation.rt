@@ -2,24 +2,24 @@
 ghost use Rattle.std.specs.Prelude.{◌≡◌, ◌<◌, ◌^◌, ℕ, IsSome, IfSome, take};
 ghost use Rattle.fs_layout.specs.Widths.{numbers_per_block};
 ghost use Rattle.fs_layout.specs.Indirect.{numbers_in};
-ghost use Rattle.atomic_programs.specs.Machines.{Still, Left as LeftOf, moved_to};
-ghost use Rattle.atomic_programs.specs.Prog.{advance, asks, bind, OfNext};
-ghost use Rattle.fs_machine.specs.Steps.{State, state_of, exec, kind_of};
-ghost use Rattle.fs_machine.specs.Premises.{Honest};
-ghost use Rattle.fs_machine.specs.Machines.{MayNext, Moves, Answers, CallsOnce, said_in};
-ghost use Rattle.fs_machine.specs.Tied.{LeavesTied, bytes_of};
+ghost use Rattle.atomic_programs.specs.Machines.{Left as LeftOf, stepped_at};
+ghost use Rattle.atomic_programs.specs.Prog.{bind};
+ghost use Rattle.fs_machine.specs.Steps.{State, state_of};
+ghost use Rattle.fs_machine.specs.Machines.{MayNext};
+ghost use Rattle.fs_machine.specs.Places.{StepsAt};
+ghost use Rattle.fs_machine.specs.Tied.{bytes_of};
 ghost use Rattle.fs_machine.specs.Fetching.{IsFetched};
 ghost use Rattle.bitmap_alloc.specs.Programs.{free_block};
 ghost use Rattle.inode_table.specs.Programs.{inode_block};
 ghost use Rattle.inode_data.specs.Records.{record_in, with_record};
 ghost use Rattle.inode_data.specs.Widths.{direct};
 ghost use Rattle.inode_data.specs.Freeing.{truncate, without_content};
-ghost use Rattle.inode_data.specs.Truncating.{IsNext, IsEmptying, IsReady, own_rest, indirect_rest, listed_rest, record_rest, clearing_of, running_of, StillRuns, truncate_of, emptied_of, ClearingFits, RunningFits, TruncateFits, in_own_freeing, in_indirect_fetch, in_listed_freeing, in_table_freeing, in_record_storing};
-ghost use Rattle.inode_data.specs.declared.truncation.Clearing.TheVariants as clearing;
+ghost use Rattle.inode_data.specs.Truncating.{IsNext, IsEmptying, own_rest, indirect_rest, listed_rest, record_rest, truncate_of, emptied_of, TruncateFits, IsOwn, HasFreedOwn, FreedOwnTo, IsIndirect, HasFetched, FetchedTo, IsListed, HasFreedListed, FreedListedTo, IsGivingBack, IsTable, HasFreedTable, FreedTableTo, IsRecord, HasStored, StoredAs};
+ghost use Rattle.inode_data.specs.declared.truncation.Truncate.TheVariants as emptying;
 
 use crate::addresses::DIRECT;
 use crate::records::record;
-use atomic_programs::machines::Stepped;
+use atomic_programs::machines::{Came, Stepped, put as put_in};
 use bitmap_alloc::FreeBlock;
 use block_device::Device;
 use buffer_cache::Buffer;
@@ -30,6 +30,7 @@ use fs_tables::Inode;
 use group_log::Txn;
 use inode_table::StoreInode;
 use sleep_lock::Guard;
+use std::mem;
 
 /// What an emptying has in hand: the inode, whose lock its hart has, and where the disk's parts lie.
 pub struct Emptying {
@@ -47,53 +48,20 @@ impl Emptying {
 
 /// Gives back all blocks of an inode, the bitmap touched once for each, and then stores its record without them.
 pub enum Truncate {
-    /// The inode's own block numbers come next, from this place on.
-    Own(Emptying, usize),
-    /// Those in the indirect block, whose buffer is here, come next, from this place on.
-    Listed(Emptying, Guard<Buffer>, usize),
-    /// The record comes next.
-    Record(Emptying),
-    /// Something is under way.
-    Runs(Running),
-}
-
-/// An emptying with what is under way of it.
-pub struct Running {
-    pub emptying: Emptying,
-    pub clearing: Clearing,
-}
-
-/// What is under way.
-pub enum Clearing {
     /// The block is given back whose number stands at this place of the inode.
-    Own(usize, FreeBlock),
+    Own(Emptying, usize, Option<FreeBlock>),
     /// The indirect block is fetched.
-    Indirect(Fetch),
-    /// The block is given back whose number stands at this place of the indirect block.
-    Listed(Guard<Buffer>, usize, FreeBlock),
+    Indirect(Emptying, Option<Fetch>),
+    /// The block is given back whose number stands at this place of the indirect block, whose buffer is here.
+    Listed(Emptying, Guard<Buffer>, usize, Option<FreeBlock>),
     /// All of the indirect block's were given back, and its buffer goes back.
-    GiveBack(Guard<Buffer>),
+    GiveBack(Emptying, Guard<Buffer>),
     /// The indirect block itself is given back.
-    Table(FreeBlock),
+    Table(Emptying, Option<FreeBlock>),
     /// The record is stored.
-    Record(StoreInode),
-}
-
-impl Clearing {
-    /// Ends it in mid-call, after all that harts share has ended.
-    pub(crate) fn retire(self, retired: &RetiredCore) {
-        match self {
-            Clearing::Own(_, free) => free.retire(retired),
-            Clearing::Indirect(fetch) => fetch.retire(retired),
-            Clearing::Listed(table, _, free) => {
-                table.retire_in_row(&retired.buffers);
-                free.retire(retired);
-            }
-            Clearing::GiveBack(table) => table.retire_in_row(&retired.buffers),
-            Clearing::Table(free) => free.retire(retired),
-            Clearing::Record(store) => store.retire(retired),
-        }
-    }
+    Record(Emptying, StoreInode),
+    /// It has ended, or is being changed.
+    Gone,
 }
 
 impl Truncate {
@@ -106,270 +74,394 @@ impl Truncate {
         ensures inode { emptied_of result ≡ inode }
         ensures fits { (hart : ℕ) (s : State) → TruncateFits hart s result }
     {
-        Truncate::Own(
-            Emptying {
-                inode,
-                sizes: *sizes,
-            },
-            0,
-        )
+        let emptying = Emptying {
+            inode,
+            sizes: *sizes,
+        };
+        free_own(emptying, 0)
     }
 
-    /// One operation.
-    #[tactic(auto, unfolding(crate::specs::Truncating::TruncateFits, fs_machine::specs::Premises::Honest))]
+    /// One operation, in its place.
+    #[tactic(auto, unfolding(crate::specs::Truncating::truncate_of, crate::specs::Truncating::TruncateFits))]
     pub fn step<D: Device>(
-        self,
+        &mut self,
         hart: u8,
         txn: &mut Txn,
         core: &mut Core<D>,
-    ) -> Stepped<Truncate, Guard<Inode>, Kind>
+    ) -> Came<Guard<Inode>, Kind>
         requires txn { txn.old ≡ hart }
-        requires may { MayNext hart (truncate_of self) (state_of D.contents D.failures core.old) }
-        requires fits { TruncateFits hart (state_of D.contents D.failures core.old) self }
-        ensures moves { Moves truncate_of record_in hart self result (state_of D.contents D.failures core.old) (state_of D.contents D.failures core.new) }
-        ensures honest { Answers truncate_of hart self result (state_of D.contents D.failures core.old) (state_of D.contents D.failures core.new) }
-        ensures still { Still truncate_of result self core.old core.new }
+        requires may { MayNext hart (truncate_of self.old) (state_of D.contents D.failures core.old) }
+        requires fits { TruncateFits hart (state_of D.contents D.failures core.old) self.old }
+        ensures steps { StepsAt D.contents D.failures D.Called truncate_of record_in TruncateFits (λ _. Unit {0}) emptying.Gone hart self.old self.new result core.old core.new }
         ensures kept { txn.new ≡ txn.old }
-        ensures inode { LeftOf (λ m. emptied_of m ≡ emptied_of self) (λ guard. guard ≡ with_record (record_in guard) (emptied_of self)) result }
-        ensures fits { LeftOf (TruncateFits hart (state_of D.contents D.failures core.new)) (λ _. Unit {0}) result }
-        ensures others { LeavesTied hart (state_of D.contents D.failures core.old) (state_of D.contents D.failures core.new) }
-        ensures called { CallsOnce D.Called core.old.log.cache.device core.new.log.cache.device }
+        ensures inode { LeftOf (λ m. emptied_of m ≡ emptied_of self.old) (λ guard. guard ≡ with_record (record_in guard) (emptied_of self.old)) (stepped_at self.new result) }
         ensures tables { core.new.tables ≡ core.old.tables }
     {
-        self.ready().step(hart, txn, core)
+        // Each arm returns at once, so that a result is copied once.
+        match self {
+            Truncate::Own(_, _, _) => return self.clear_own(hart, txn, core),
+            Truncate::Indirect(_, _) => return self.fetch_indirect(hart, core),
+            Truncate::Listed(_, _, _, _) => return self.clear_listed(hart, txn, core),
+            Truncate::GiveBack(_, _) => return self.give_back(hart, core),
+            Truncate::Table(_, _) => return self.clear_table(hart, txn, core),
+            Truncate::Record(_, _) => return self.store(hart, txn, core),
+            Truncate::Gone => unreachable!(),
+        }
     }
 
-    // What is to be done now.
-    #[tactic(auto, unfolding(crate::specs::Truncating::truncate_of, crate::specs::Truncating::TruncateFits, crate::specs::Truncating::IsReady))]
-    fn ready(self) -> Running
-        requires { IsReady self }
-        ensures program { running_of result ≡ truncate_of self }
-        ensures inode { result.emptying.inode ≡ emptied_of self }
-        ensures fits { (hart : ℕ) (s : State) → TruncateFits hart s self → RunningFits hart s result }
+    // A step while a block is given back whose number stands in the inode.
+    #[tactic(auto, unfolding(crate::specs::Truncating::truncate_of, crate::specs::Truncating::TruncateFits))]
+    fn clear_own<D: Device>(
+        &mut self,
+        hart: u8,
+        txn: &mut Txn,
+        core: &mut Core<D>,
+    ) -> Came<Guard<Inode>, Kind>
+        requires at { IsOwn self.old }
+        requires txn { txn.old ≡ hart }
+        requires may { MayNext hart (truncate_of self.old) (state_of D.contents D.failures core.old) }
+        requires fits { TruncateFits hart (state_of D.contents D.failures core.old) self.old }
+        ensures steps { StepsAt D.contents D.failures D.Called truncate_of record_in TruncateFits (λ _. Unit {0}) emptying.Gone hart self.old self.new result core.old core.new }
+        ensures kept { txn.new ≡ txn.old }
+        ensures inode { LeftOf (λ m. emptied_of m ≡ emptied_of self.old) (λ guard. guard ≡ with_record (record_in guard) (emptied_of self.old)) (stepped_at self.new result) }
+        ensures tables { core.new.tables ≡ core.old.tables }
     {
-        // With `return` a result is copied once.
         match self {
-            Truncate::Own(emptying, from) => return free_own(emptying, from),
-            Truncate::Listed(emptying, table, from) => return free_listed(emptying, table, from),
-            Truncate::Record(emptying) => return store_record(emptying),
-            Truncate::Runs(running) => return running,
+            Truncate::Own(_, _, place) => match mem::replace(place, None) {
+                Some(free) => match free.step(hart, txn, core) {
+                    Stepped::Waits(free) => {
+                        put_in(place, free);
+                        Came::Waits
+                    }
+                    Stepped::Ran(free, kind) => {
+                        put_in(place, free);
+                        Came::Ran(kind)
+                    }
+                    Stepped::Done((), kind) => {
+                        self.own_freed();
+                        Came::Ran(kind)
+                    }
+                    Stepped::Stopped(free) => {
+                        put_in(place, free);
+                        Came::Stopped
+                    }
+                },
+                None => unreachable!(),
+            },
+            _ => unreachable!(),
+        }
+    }
+
+    // A step while the indirect block is fetched.
+    #[tactic(auto, unfolding(crate::specs::Truncating::truncate_of, crate::specs::Truncating::TruncateFits))]
+    fn fetch_indirect<D: Device>(
+        &mut self,
+        hart: u8,
+        core: &mut Core<D>,
+    ) -> Came<Guard<Inode>, Kind>
+        requires at { IsIndirect self.old }
+        requires may { MayNext hart (truncate_of self.old) (state_of D.contents D.failures core.old) }
+        requires fits { TruncateFits hart (state_of D.contents D.failures core.old) self.old }
+        ensures steps { StepsAt D.contents D.failures D.Called truncate_of record_in TruncateFits (λ _. Unit {0}) emptying.Gone hart self.old self.new result core.old core.new }
+        ensures inode { LeftOf (λ m. emptied_of m ≡ emptied_of self.old) (λ guard. guard ≡ with_record (record_in guard) (emptied_of self.old)) (stepped_at self.new result) }
+        ensures tables { core.new.tables ≡ core.old.tables }
+    {
+        match self {
+            Truncate::Indirect(_, place) => match mem::replace(place, None) {
+                Some(fetch) => match fetch.step(hart, core) {
+                    Stepped::Waits(fetch) => {
+                        put_in(place, fetch);
+                        Came::Waits
+                    }
+                    Stepped::Ran(fetch, kind) => {
+                        put_in(place, fetch);
+                        Came::Ran(kind)
+                    }
+                    Stepped::Done(table, kind) => {
+                        self.fetched(table);
+                        Came::Ran(kind)
+                    }
+                    Stepped::Stopped(fetch) => {
+                        put_in(place, fetch);
+                        Came::Stopped
+                    }
+                },
+                None => unreachable!(),
+            },
+            _ => unreachable!(),
+        }
+    }
+
+    // A step while a block is given back whose number stands in the indirect block.
+    #[tactic(auto, unfolding(crate::specs::Truncating::truncate_of, crate::specs::Truncating::TruncateFits))]
+    fn clear_listed<D: Device>(
+        &mut self,
+        hart: u8,
+        txn: &mut Txn,
+        core: &mut Core<D>,
+    ) -> Came<Guard<Inode>, Kind>
+        requires at { IsListed self.old }
+        requires txn { txn.old ≡ hart }
+        requires may { MayNext hart (truncate_of self.old) (state_of D.contents D.failures core.old) }
+        requires fits { TruncateFits hart (state_of D.contents D.failures core.old) self.old }
+        ensures steps { StepsAt D.contents D.failures D.Called truncate_of record_in TruncateFits (λ _. Unit {0}) emptying.Gone hart self.old self.new result core.old core.new }
+        ensures kept { txn.new ≡ txn.old }
+        ensures inode { LeftOf (λ m. emptied_of m ≡ emptied_of self.old) (λ guard. guard ≡ with_record (record_in guard) (emptied_of self.old)) (stepped_at self.new result) }
+        ensures tables { core.new.tables ≡ core.old.tables }
+    {
+        match self {
+            Truncate::Listed(_, _, _, place) => match mem::replace(place, None) {
+                Some(free) => match free.step(hart, txn, core) {
+                    Stepped::Waits(free) => {
+                        put_in(place, free);
+                        Came::Waits
+                    }
+                    Stepped::Ran(free, kind) => {
+                        put_in(place, free);
+                        Came::Ran(kind)
+                    }
+                    Stepped::Done((), kind) => {
+                        self.listed_freed();
+                        Came::Ran(kind)
+                    }
+                    Stepped::Stopped(free) => {
+                        put_in(place, free);
+                        Came::Stopped
+                    }
+                },
+                None => unreachable!(),
+            },
+            _ => unreachable!(),
+        }
+    }
+
+    // The indirect block's buffer goes back.
+    #[tactic(auto, unfolding(crate::specs::Truncating::truncate_of, crate::specs::Truncating::TruncateFits))]
+    fn give_back<D: Device>(&mut self, hart: u8, core: &mut Core<D>) -> Came<Guard<Inode>, Kind>
+        requires at { IsGivingBack self.old }
+        requires may { MayNext hart (truncate_of self.old) (state_of D.contents D.failures core.old) }
+        requires fits { TruncateFits hart (state_of D.contents D.failures core.old) self.old }
+        ensures steps { StepsAt D.contents D.failures D.Called truncate_of record_in TruncateFits (λ _. Unit {0}) emptying.Gone hart self.old self.new result core.old core.new }
+        ensures inode { LeftOf (λ m. emptied_of m ≡ emptied_of self.old) (λ guard. guard ≡ with_record (record_in guard) (emptied_of self.old)) (stepped_at self.new result) }
+        ensures tables { core.new.tables ≡ core.old.tables }
+    {
+        match mem::replace(self, Truncate::Gone) {
+            Truncate::GiveBack(emptying, table) => {
+                let number = table.value().block();
+                core.put_back(hart, table);
+                self.put(free_table(emptying, number));
+                Came::Ran(Kind::Put)
+            }
+            _ => unreachable!(),
+        }
+    }
+
+    // A step while the indirect block itself is given back.
+    #[tactic(auto, unfolding(crate::specs::Truncating::truncate_of, crate::specs::Truncating::TruncateFits))]
+    fn clear_table<D: Device>(
+        &mut self,
+        hart: u8,
+        txn: &mut Txn,
+        core: &mut Core<D>,
+    ) -> Came<Guard<Inode>, Kind>
+        requires at { IsTable self.old }
+        requires txn { txn.old ≡ hart }
+        requires may { MayNext hart (truncate_of self.old) (state_of D.contents D.failures core.old) }
+        requires fits { TruncateFits hart (state_of D.contents D.failures core.old) self.old }
+        ensures steps { StepsAt D.contents D.failures D.Called truncate_of record_in TruncateFits (λ _. Unit {0}) emptying.Gone hart self.old self.new result core.old core.new }
+        ensures kept { txn.new ≡ txn.old }
+        ensures inode { LeftOf (λ m. emptied_of m ≡ emptied_of self.old) (λ guard. guard ≡ with_record (record_in guard) (emptied_of self.old)) (stepped_at self.new result) }
+        ensures tables { core.new.tables ≡ core.old.tables }
+    {
+        match self {
+            Truncate::Table(_, place) => match mem::replace(place, None) {
+                Some(free) => match free.step(hart, txn, core) {
+                    Stepped::Waits(free) => {
+                        put_in(place, free);
+                        Came::Waits
+                    }
+                    Stepped::Ran(free, kind) => {
+                        put_in(place, free);
+                        Came::Ran(kind)
+                    }
+                    Stepped::Done((), kind) => {
+                        self.table_freed();
+                        Came::Ran(kind)
+                    }
+                    Stepped::Stopped(free) => {
+                        put_in(place, free);
+                        Came::Stopped
+                    }
+                },
+                None => unreachable!(),
+            },
+            _ => unreachable!(),
+        }
+    }
+
+    // A step while the record is stored.
+    #[tactic(auto, unfolding(crate::specs::Truncating::truncate_of, crate::specs::Truncating::TruncateFits))]
+    fn store<D: Device>(
+        &mut self,
+        hart: u8,
+        txn: &mut Txn,
+        core: &mut Core<D>,
+    ) -> Came<Guard<Inode>, Kind>
+        requires at { IsRecord self.old }
+        requires txn { txn.old ≡ hart }
+        requires may { MayNext hart (truncate_of self.old) (state_of D.contents D.failures core.old) }
+        requires fits { TruncateFits hart (state_of D.contents D.failures core.old) self.old }
+        ensures steps { StepsAt D.contents D.failures D.Called truncate_of record_in TruncateFits (λ _. Unit {0}) emptying.Gone hart self.old self.new result core.old core.new }
+        ensures kept { txn.new ≡ txn.old }
+        ensures inode { LeftOf (λ m. emptied_of m ≡ emptied_of self.old) (λ guard. guard ≡ with_record (record_in guard) (emptied_of self.old)) (stepped_at self.new result) }
+        ensures tables { core.new.tables ≡ core.old.tables }
+    {
+        match self {
+            Truncate::Record(_, store) => match store.step(hart, txn, core) {
+                Came::Waits => Came::Waits,
+                Came::Ran(kind) => Came::Ran(kind),
+                Came::Done((), kind) => Came::Done(self.stored(), kind),
+                Came::Stopped => Came::Stopped,
+            },
+            _ => unreachable!(),
+        }
+    }
+
+    // A block of the inode's own has been given back.
+    #[tactic(auto, unfolding(crate::specs::Truncating::truncate_of, crate::specs::Truncating::TruncateFits))]
+    fn own_freed(&mut self)
+        requires { HasFreedOwn self.old }
+        ensures { FreedOwnTo self.old self.new }
+    {
+        match mem::replace(self, Truncate::Gone) {
+            Truncate::Own(emptying, at, place) => {
+                match place {
+                    None => {}
+                    Some(_) => unreachable!(),
+                }
+                self.put(free_own(emptying, at + 1));
+            }
+            _ => unreachable!(),
+        }
+    }
+
+    // The indirect block has been fetched.
+    #[tactic(auto, unfolding(crate::specs::Truncating::truncate_of, crate::specs::Truncating::TruncateFits))]
+    fn fetched(&mut self, table: Guard<Buffer>)
+        requires at { HasFetched self.old }
+        requires valid { IsSome table.value.content }
+        ensures { FetchedTo table self.old self.new }
+    {
+        match mem::replace(self, Truncate::Gone) {
+            Truncate::Indirect(emptying, place) => {
+                match place {
+                    None => {}
+                    Some(_) => unreachable!(),
+                }
+                self.put(free_listed(emptying, table, 0));
+            }
+            _ => unreachable!(),
+        }
+    }
+
+    // A block of the indirect block's has been given back.
+    #[tactic(auto, unfolding(crate::specs::Truncating::truncate_of, crate::specs::Truncating::TruncateFits))]
+    fn listed_freed(&mut self)
+        requires { HasFreedListed self.old }
+        ensures { FreedListedTo self.old self.new }
+    {
+        match mem::replace(self, Truncate::Gone) {
+            Truncate::Listed(emptying, table, at, place) => {
+                match place {
+                    None => {}
+                    Some(_) => unreachable!(),
+                }
+                self.put(free_listed(emptying, table, at + 1));
+            }
+            _ => unreachable!(),
+        }
+    }
+
+    // The indirect block itself has been given back.
+    #[tactic(auto, unfolding(crate::specs::Truncating::truncate_of, crate::specs::Truncating::TruncateFits))]
+    fn table_freed(&mut self)
+        requires { HasFreedTable self.old }
+        ensures { FreedTableTo self.old self.new }
+    {
+        match mem::replace(self, Truncate::Gone) {
+            Truncate::Table(emptying, place) => {
+                match place {
+                    None => {}
+                    Some(_) => unreachable!(),
+                }
+                self.put(store_record(emptying));
+            }
+            _ => unreachable!(),
+        }
+    }
+
+    // The record has been stored.
+    fn stored(&mut self) -> Guard<Inode>
+        requires { HasStored self.old }
+        ensures stored { StoredAs self.old result }
+        ensures ended { self.new ≡ emptying.Gone }
+    {
+        match mem::replace(self, Truncate::Gone) {
+            Truncate::Record(emptying, store) => {
+                store.end();
+                emptied(emptying)
+            }
+            _ => unreachable!(),
+        }
+    }
+
+    fn put(&mut self, next: Truncate)
+        requires { self.old ≡ emptying.Gone }
+        ensures { self.new ≡ next }
+    {
+        match mem::replace(self, next) {
+            Truncate::Gone => {}
+            _ => unreachable!(),
         }
     }
 
     /// Ends it in mid-call, after all that harts share has ended.
     pub fn retire(self, retired: &RetiredCore) {
         match self {
-            Truncate::Own(emptying, _) => emptying.retire(retired),
-            Truncate::Listed(emptying, table, _) => {
+            Truncate::Own(emptying, _, place) | Truncate::Table(emptying, place) => {
+                emptying.retire(retired);
+                retire_freeing(place, retired);
+            }
+            Truncate::Indirect(emptying, place) => {
+                emptying.retire(retired);
+                match place {
+                    Some(fetch) => fetch.retire(retired),
+                    None => {}
+                }
+            }
+            Truncate::Listed(emptying, table, _, place) => {
+                emptying.retire(retired);
+                table.retire_in_row(&retired.buffers);
+                retire_freeing(place, retired);
+            }
+            Truncate::GiveBack(emptying, table) => {
                 emptying.retire(retired);
                 table.retire_in_row(&retired.buffers);
             }
-            Truncate::Record(emptying) => emptying.retire(retired),
-            Truncate::Runs(Running { emptying, clearing }) => {
+            Truncate::Record(emptying, store) => {
                 emptying.retire(retired);
-                clearing.retire(retired);
+                store.retire(retired);
             }
+            Truncate::Gone => {}
         }
     }
 }
 
-impl Running {
-    // One operation.
-    #[tactic(auto, unfolding(crate::specs::Truncating::clearing_of, crate::specs::Truncating::truncate_of, crate::specs::Truncating::ClearingFits, crate::specs::Truncating::TruncateFits, fs_machine::specs::Premises::Honest))]
-    fn step<D: Device>(
-        self,
-        hart: u8,
-        txn: &mut Txn,
-        core: &mut Core<D>,
-    ) -> Stepped<Truncate, Guard<Inode>, Kind>
-        requires txn { txn.old ≡ hart }
-        requires may { MayNext hart (running_of self) (state_of D.contents D.failures core.old) }
-        requires fits { RunningFits hart (state_of D.contents D.failures core.old) self }
-        ensures moves { advance kind_of (exec hart (said_in result (state_of D.contents D.failures core.new))) (running_of self) (state_of D.contents D.failures core.old)
-            ≡ moved_to truncate_of record_in result (state_of D.contents D.failures core.new) }
-        ensures honest { OfNext (λ op s. Honest hart op s (said_in result (state_of D.contents D.failures core.new))) (asks (running_of self)) (state_of D.contents D.failures core.old) }
-        ensures still { StillRuns self result core.old core.new }
-        ensures kept { txn.new ≡ txn.old }
-        ensures inode { LeftOf (λ m. emptied_of m ≡ self.emptying.inode) (λ guard. guard ≡ with_record (record_in guard) self.emptying.inode) result }
-        ensures fits { LeftOf (TruncateFits hart (state_of D.contents D.failures core.new)) (λ _. Unit {0}) result }
-        ensures others { LeavesTied hart (state_of D.contents D.failures core.old) (state_of D.contents D.failures core.new) }
-        ensures called { CallsOnce D.Called core.old.log.cache.device core.new.log.cache.device }
-        ensures tables { core.new.tables ≡ core.old.tables }
-    {
-        let Running { emptying, clearing } = self;
-        // With `return` a result is copied once.
-        match clearing {
-            Clearing::Own(place, m) => return clear_own(emptying, place, m, hart, txn, core),
-            Clearing::Indirect(m) => return fetch_indirect(emptying, m, hart, core),
-            Clearing::Listed(table, place, m) => return clear_listed(
-                emptying, table, place, m, hart, txn, core,
-            ),
-            Clearing::GiveBack(table) => return put_back(emptying, table, hart, core),
-            Clearing::Table(m) => return clear_table(emptying, m, hart, txn, core),
-            Clearing::Record(m) => return put_record(emptying, m, hart, txn, core),
-        }
+fn retire_freeing(place: Option<FreeBlock>, retired: &RetiredCore) {
+    match place {
+        Some(free) => free.retire(retired),
+        None => {}
     }
-}
-
-// One operation while a block is given back whose number stands in the inode.
-#[tactic(auto, unfolding(crate::specs::Truncating::clearing_of, crate::specs::Truncating::truncate_of, crate::specs::Truncating::ClearingFits, crate::specs::Truncating::TruncateFits, fs_machine::specs::Premises::Honest))]
-fn clear_own<D: Device>(
-    emptying: Emptying,
-    place: usize,
-    m: FreeBlock,
-    hart: u8,
-    txn: &mut Txn,
-    core: &mut Core<D>,
-) -> Stepped<Truncate, Guard<Inode>, Kind>
-    requires emptying { IsEmptying emptying }
-    requires txn { txn.old ≡ hart }
-    requires may { MayNext hart (clearing_of emptying (clearing.Own place m)) (state_of D.contents D.failures core.old) }
-    requires fits { ClearingFits hart (state_of D.contents D.failures core.old) (clearing.Own place m) }
-    ensures moves { advance kind_of (exec hart (said_in result (state_of D.contents D.failures core.new))) (clearing_of emptying (clearing.Own place m)) (state_of D.contents D.failures core.old)
-        ≡ moved_to truncate_of record_in result (state_of D.contents D.failures core.new) }
-    ensures honest { OfNext (λ op s. Honest hart op s (said_in result (state_of D.contents D.failures core.new))) (asks (clearing_of emptying (clearing.Own place m))) (state_of D.contents D.failures core.old) }
-    ensures still { StillRuns (record { emptying = emptying; clearing = clearing.Own place m }) result core.old core.new }
-    ensures kept { txn.new ≡ txn.old }
-    ensures inode { LeftOf (λ m. emptied_of m ≡ emptying.inode) (λ guard. guard ≡ with_record (record_in guard) emptying.inode) result }
-    ensures fits { LeftOf (TruncateFits hart (state_of D.contents D.failures core.new)) (λ _. Unit {0}) result }
-    ensures others { LeavesTied hart (state_of D.contents D.failures core.old) (state_of D.contents D.failures core.new) }
-    ensures called { CallsOnce D.Called core.old.log.cache.device core.new.log.cache.device }
-    ensures tables { core.new.tables ≡ core.old.tables }
-{
-    in_own(emptying, place, m.step(hart, txn, core))
-}
-
-// One operation while the indirect block is fetched.
-#[tactic(auto, unfolding(crate::specs::Truncating::clearing_of, crate::specs::Truncating::truncate_of, crate::specs::Truncating::ClearingFits, crate::specs::Truncating::TruncateFits, fs_machine::specs::Premises::Honest))]
-fn fetch_indirect<D: Device>(
-    emptying: Emptying,
-    m: Fetch,
-    hart: u8,
-    core: &mut Core<D>,
-) -> Stepped<Truncate, Guard<Inode>, Kind>
-    requires emptying { IsEmptying emptying }
-    requires may { MayNext hart (clearing_of emptying (clearing.Indirect m)) (state_of D.contents D.failures core.old) }
-    requires fits { ClearingFits hart (state_of D.contents D.failures core.old) (clearing.Indirect m) }
-    ensures moves { advance kind_of (exec hart (said_in result (state_of D.contents D.failures core.new))) (clearing_of emptying (clearing.Indirect m)) (state_of D.contents D.failures core.old)
-        ≡ moved_to truncate_of record_in result (state_of D.contents D.failures core.new) }
-    ensures honest { OfNext (λ op s. Honest hart op s (said_in result (state_of D.contents D.failures core.new))) (asks (clearing_of emptying (clearing.Indirect m))) (state_of D.contents D.failures core.old) }
-    ensures still { StillRuns (record { emptying = emptying; clearing = clearing.Indirect m }) result core.old core.new }
-    ensures inode { LeftOf (λ m. emptied_of m ≡ emptying.inode) (λ guard. guard ≡ with_record (record_in guard) emptying.inode) result }
-    ensures fits { LeftOf (TruncateFits hart (state_of D.contents D.failures core.new)) (λ _. Unit {0}) result }
-    ensures others { LeavesTied hart (state_of D.contents D.failures core.old) (state_of D.contents D.failures core.new) }
-    ensures called { CallsOnce D.Called core.old.log.cache.device core.new.log.cache.device }
-    ensures tables { core.new.tables ≡ core.old.tables }
-{
-    in_indirect(emptying, m.step(hart, core))
-}
-
-// One operation while a block is given back whose number stands in the indirect block.
-#[tactic(auto, unfolding(crate::specs::Truncating::clearing_of, crate::specs::Truncating::truncate_of, crate::specs::Truncating::ClearingFits, crate::specs::Truncating::TruncateFits, fs_machine::specs::Premises::Honest))]
-fn clear_listed<D: Device>(
-    emptying: Emptying,
-    table: Guard<Buffer>,
-    place: usize,
-    m: FreeBlock,
-    hart: u8,
-    txn: &mut Txn,
-    core: &mut Core<D>,
-) -> Stepped<Truncate, Guard<Inode>, Kind>
-    requires emptying { IsEmptying emptying }
-    requires txn { txn.old ≡ hart }
-    requires may { MayNext hart (clearing_of emptying (clearing.Listed table place m)) (state_of D.contents D.failures core.old) }
-    requires fits { ClearingFits hart (state_of D.contents D.failures core.old) (clearing.Listed table place m) }
-    ensures moves { advance kind_of (exec hart (said_in result (state_of D.contents D.failures core.new))) (clearing_of emptying (clearing.Listed table place m)) (state_of D.contents D.failures core.old)
-        ≡ moved_to truncate_of record_in result (state_of D.contents D.failures core.new) }
-    ensures honest { OfNext (λ op s. Honest hart op s (said_in result (state_of D.contents D.failures core.new))) (asks (clearing_of emptying (clearing.Listed table place m))) (state_of D.contents D.failures core.old) }
-    ensures still { StillRuns (record { emptying = emptying; clearing = clearing.Listed table place m }) result core.old core.new }
-    ensures kept { txn.new ≡ txn.old }
-    ensures inode { LeftOf (λ m. emptied_of m ≡ emptying.inode) (λ guard. guard ≡ with_record (record_in guard) emptying.inode) result }
-    ensures fits { LeftOf (TruncateFits hart (state_of D.contents D.failures core.new)) (λ _. Unit {0}) result }
-    ensures others { LeavesTied hart (state_of D.contents D.failures core.old) (state_of D.contents D.failures core.new) }
-    ensures called { CallsOnce D.Called core.old.log.cache.device core.new.log.cache.device }
-    ensures tables { core.new.tables ≡ core.old.tables }
-{
-    in_listed(emptying, table, place, m.step(hart, txn, core))
-}
-
-// The indirect block's buffer goes back.
-#[tactic(auto, unfolding(crate::specs::Truncating::clearing_of, crate::specs::Truncating::truncate_of, crate::specs::Truncating::ClearingFits, crate::specs::Truncating::TruncateFits, fs_machine::specs::Premises::Honest))]
-fn put_back<D: Device>(
-    emptying: Emptying,
-    table: Guard<Buffer>,
-    hart: u8,
-    core: &mut Core<D>,
-) -> Stepped<Truncate, Guard<Inode>, Kind>
-    requires emptying { IsEmptying emptying }
-    requires may { MayNext hart (clearing_of emptying (clearing.GiveBack table)) (state_of D.contents D.failures core.old) }
-    requires fits { ClearingFits hart (state_of D.contents D.failures core.old) (clearing.GiveBack table) }
-    ensures moves { advance kind_of (exec hart (said_in result (state_of D.contents D.failures core.new))) (clearing_of emptying (clearing.GiveBack table)) (state_of D.contents D.failures core.old)
-        ≡ moved_to truncate_of record_in result (state_of D.contents D.failures core.new) }
-    ensures honest { OfNext (λ op s. Honest hart op s (said_in result (state_of D.contents D.failures core.new))) (asks (clearing_of emptying (clearing.GiveBack table))) (state_of D.contents D.failures core.old) }
-    ensures still { StillRuns (record { emptying = emptying; clearing = clearing.GiveBack table }) result core.old core.new }
-    ensures inode { LeftOf (λ m. emptied_of m ≡ emptying.inode) (λ guard. guard ≡ with_record (record_in guard) emptying.inode) result }
-    ensures fits { LeftOf (TruncateFits hart (state_of D.contents D.failures core.new)) (λ _. Unit {0}) result }
-    ensures others { LeavesTied hart (state_of D.contents D.failures core.old) (state_of D.contents D.failures core.new) }
-    ensures called { CallsOnce D.Called core.old.log.cache.device core.new.log.cache.device }
-    ensures tables { core.new.tables ≡ core.old.tables }
-{
-    let number = table.value().block();
-    core.put_back(hart, table);
-    Stepped::Ran(free_table(emptying, number), Kind::Put)
-}
-
-// One operation while the indirect block itself is given back.
-#[tactic(auto, unfolding(crate::specs::Truncating::clearing_of, crate::specs::Truncating::truncate_of, crate::specs::Truncating::ClearingFits, crate::specs::Truncating::TruncateFits, fs_machine::specs::Premises::Honest))]
-fn clear_table<D: Device>(
-    emptying: Emptying,
-    m: FreeBlock,
-    hart: u8,
-    txn: &mut Txn,
-    core: &mut Core<D>,
-) -> Stepped<Truncate, Guard<Inode>, Kind>
-    requires emptying { IsEmptying emptying }
-    requires txn { txn.old ≡ hart }
-    requires may { MayNext hart (clearing_of emptying (clearing.Table m)) (state_of D.contents D.failures core.old) }
-    requires fits { ClearingFits hart (state_of D.contents D.failures core.old) (clearing.Table m) }
-    ensures moves { advance kind_of (exec hart (said_in result (state_of D.contents D.failures core.new))) (clearing_of emptying (clearing.Table m)) (state_of D.contents D.failures core.old)
-        ≡ moved_to truncate_of record_in result (state_of D.contents D.failures core.new) }
-    ensures honest { OfNext (λ op s. Honest hart op s (said_in result (state_of D.contents D.failures core.new))) (asks (clearing_of emptying (clearing.Table m))) (state_of D.contents D.failures core.old) }
-    ensures still { StillRuns (record { emptying = emptying; clearing = clearing.Table m }) result core.old core.new }
-    ensures kept { txn.new ≡ txn.old }
-    ensures inode { LeftOf (λ m. emptied_of m ≡ emptying.inode) (λ guard. guard ≡ with_record (record_in guard) emptying.inode) result }
-    ensures fits { LeftOf (TruncateFits hart (state_of D.contents D.failures core.new)) (λ _. Unit {0}) result }
-    ensures others { LeavesTied hart (state_of D.contents D.failures core.old) (state_of D.contents D.failures core.new) }
-    ensures called { CallsOnce D.Called core.old.log.cache.device core.new.log.cache.device }
-    ensures tables { core.new.tables ≡ core.old.tables }
-{
-    in_table(emptying, m.step(hart, txn, core))
-}
-
-// One operation while the record is stored.
-#[tactic(auto, unfolding(crate::specs::Truncating::clearing_of, crate::specs::Truncating::truncate_of, crate::specs::Truncating::ClearingFits, crate::specs::Truncating::TruncateFits, fs_machine::specs::Premises::Honest))]
-fn put_record<D: Device>(
-    emptying: Emptying,
-    m: StoreInode,
-    hart: u8,
-    txn: &mut Txn,
-    core: &mut Core<D>,
-) -> Stepped<Truncate, Guard<Inode>, Kind>
-    requires emptying { IsEmptying emptying }
-    requires txn { txn.old ≡ hart }
-    requires may { MayNext hart (clearing_of emptying (clearing.Record m)) (state_of D.contents D.failures core.old) }
-    requires fits { ClearingFits hart (state_of D.contents D.failures core.old) (clearing.Record m) }
-    ensures moves { advance kind_of (exec hart (said_in result (state_of D.contents D.failures core.new))) (clearing_of emptying (clearing.Record m)) (state_of D.contents D.failures core.old)
-        ≡ moved_to truncate_of record_in result (state_of D.contents D.failures core.new) }
-    ensures honest { OfNext (λ op s. Honest hart op s (said_in result (state_of D.contents D.failures core.new))) (asks (clearing_of emptying (clearing.Record m))) (state_of D.contents D.failures core.old) }
-    ensures still { StillRuns (record { emptying = emptying; clearing = clearing.Record m }) result core.old core.new }
-    ensures kept { txn.new ≡ txn.old }
-    ensures inode { LeftOf (λ m. emptied_of m ≡ emptying.inode) (λ guard. guard ≡ with_record (record_in guard) emptying.inode) result }
-    ensures fits { LeftOf (TruncateFits hart (state_of D.contents D.failures core.new)) (λ _. Unit {0}) result }
-    ensures others { LeavesTied hart (state_of D.contents D.failures core.old) (state_of D.contents D.failures core.new) }
-    ensures called { CallsOnce D.Called core.old.log.cache.device core.new.log.cache.device }
-    ensures tables { core.new.tables ≡ core.old.tables }
-{
-    in_record(emptying, m.step(hart, txn, core))
 }
 
 // The next of the inode's own block numbers, from a place on.
@@ -399,71 +491,59 @@ fn next_listed(table: &Block, from: usize) -> Option<usize>
 }
 
 // The inode's own blocks are given back whose numbers stand from a place on; then what comes next.
-#[tactic(auto, unfolding(crate::specs::Truncating::clearing_of, crate::specs::Truncating::ClearingFits))]
-fn free_own(emptying: Emptying, from: usize) -> Running
+#[tactic(auto, unfolding(crate::specs::Truncating::truncate_of, crate::specs::Truncating::TruncateFits))]
+fn free_own(emptying: Emptying, from: usize) -> Truncate
     requires { IsEmptying emptying }
-    ensures program { running_of result ≡ own_rest emptying from }
-    ensures inode { result.emptying.inode ≡ emptying.inode }
-    ensures fits { (hart : ℕ) (s : State) → RunningFits hart s result }
+    ensures program { truncate_of result ≡ own_rest emptying from }
+    ensures inode { emptied_of result ≡ emptying.inode }
+    ensures fits { (hart : ℕ) (s : State) → TruncateFits hart s result }
 {
     let inode = record(&emptying.inode);
     match next_own(&inode, from) {
         None => free_indirect(emptying),
         Some(place) => {
             let freeing = FreeBlock::new(emptying.sizes.bmapstart, inode.addrs[place]);
-            Running {
-                emptying,
-                clearing: Clearing::Own(place, freeing),
-            }
+            Truncate::Own(emptying, place, Some(freeing))
         }
     }
 }
 
 // The indirect block is fetched where there is one.
-#[tactic(auto, unfolding(crate::specs::Truncating::clearing_of, crate::specs::Truncating::ClearingFits, fs_machine::specs::Fetching::fetch_of, fs_machine::specs::Fetching::FetchFits))]
-fn free_indirect(emptying: Emptying) -> Running
+#[tactic(auto, unfolding(crate::specs::Truncating::truncate_of, crate::specs::Truncating::TruncateFits, fs_machine::specs::Fetching::fetch_of, fs_machine::specs::Fetching::FetchFits))]
+fn free_indirect(emptying: Emptying) -> Truncate
     requires { IsEmptying emptying }
-    ensures program { running_of result ≡ indirect_rest emptying }
-    ensures inode { result.emptying.inode ≡ emptying.inode }
-    ensures fits { (hart : ℕ) (s : State) → RunningFits hart s result }
+    ensures program { truncate_of result ≡ indirect_rest emptying }
+    ensures inode { emptied_of result ≡ emptying.inode }
+    ensures fits { (hart : ℕ) (s : State) → TruncateFits hart s result }
 {
     let table = record(&emptying.inode).addrs[DIRECT];
     if table == 0 {
         return store_record(emptying);
     }
-    Running {
-        emptying,
-        clearing: Clearing::Indirect(Fetch::Get(table)),
-    }
+    Truncate::Indirect(emptying, Some(Fetch::Get(table)))
 }
 
 // The blocks are given back whose numbers stand in the indirect block from a place on; then its buffer goes back.
-#[tactic(auto, unfolding(crate::specs::Truncating::clearing_of, crate::specs::Truncating::ClearingFits))]
-fn free_listed(emptying: Emptying, table: Guard<Buffer>, from: usize) -> Running
+#[tactic(auto, unfolding(crate::specs::Truncating::truncate_of, crate::specs::Truncating::TruncateFits))]
+fn free_listed(emptying: Emptying, table: Guard<Buffer>, from: usize) -> Truncate
     requires emptying { IsEmptying emptying }
     requires valid { IsSome table.value.content }
-    ensures program { running_of result ≡ listed_rest emptying table from }
-    ensures inode { result.emptying.inode ≡ emptying.inode }
-    ensures fits { (hart : ℕ) (s : State) → IsFetched hart table.value.block table s → RunningFits hart s result }
+    ensures program { truncate_of result ≡ listed_rest emptying table from }
+    ensures inode { emptied_of result ≡ emptying.inode }
+    ensures fits { (hart : ℕ) (s : State) → IsFetched hart table.value.block table s → TruncateFits hart s result }
 {
     match next_listed(table.value().bytes(), from) {
-        None => Running {
-            emptying,
-            clearing: Clearing::GiveBack(table),
-        },
+        None => Truncate::GiveBack(emptying, table),
         Some(place) => {
             let number = read_number(table.value().bytes(), place);
             let freeing = FreeBlock::new(emptying.sizes.bmapstart, number);
-            Running {
-                emptying,
-                clearing: Clearing::Listed(table, place, freeing),
-            }
+            Truncate::Listed(emptying, table, place, Some(freeing))
         }
     }
 }
 
 // The indirect block itself is given back.
-#[tactic(auto, unfolding(crate::specs::Truncating::clearing_of, crate::specs::Truncating::truncate_of, crate::specs::Truncating::ClearingFits, crate::specs::Truncating::TruncateFits))]
+#[tactic(auto, unfolding(crate::specs::Truncating::truncate_of, crate::specs::Truncating::TruncateFits))]
 fn free_table(emptying: Emptying, number: u32) -> Truncate
     requires { IsEmptying emptying }
     ensures program { truncate_of result ≡ bind (free_block emptying.sizes.bmapstart number) (λ _. record_rest emptying) }
@@ -471,27 +551,21 @@ fn free_table(emptying: Emptying, number: u32) -> Truncate
     ensures fits { (hart : ℕ) (s : State) → TruncateFits hart s result }
 {
     let freeing = FreeBlock::new(emptying.sizes.bmapstart, number);
-    Truncate::Runs(Running {
-        emptying,
-        clearing: Clearing::Table(freeing),
-    })
+    Truncate::Table(emptying, Some(freeing))
 }
 
 // The record is stored without the blocks.
-#[tactic(auto, unfolding(crate::specs::Truncating::clearing_of, crate::specs::Truncating::ClearingFits))]
-fn store_record(emptying: Emptying) -> Running
+#[tactic(auto, unfolding(crate::specs::Truncating::truncate_of, crate::specs::Truncating::TruncateFits))]
+fn store_record(emptying: Emptying) -> Truncate
     requires { IsEmptying emptying }
-    ensures program { running_of result ≡ record_rest emptying }
-    ensures inode { result.emptying.inode ≡ emptying.inode }
-    ensures fits { (hart : ℕ) (s : State) → RunningFits hart s result }
+    ensures program { truncate_of result ≡ record_rest emptying }
+    ensures inode { emptied_of result ≡ emptying.inode }
+    ensures fits { (hart : ℕ) (s : State) → TruncateFits hart s result }
 {
     let inode = without(record(&emptying.inode));
     let number = emptying.inode.value().number;
     let store = StoreInode::new(emptying.sizes.inodestart, number, inode);
-    Running {
-        emptying,
-        clearing: Clearing::Record(store),
-    }
+    Truncate::Record(emptying, store)
 }
 
 // A record without a content.
@@ -502,158 +576,6 @@ fn without(inode: Dinode) -> Dinode
         size: 0,
         addrs: [0; ADDRESSES],
         ..inode
-    }
-}
-
-// What a step comes to while a block is given back whose number stands in the inode.
-fn in_own(
-    emptying: Emptying,
-    place: usize,
-    stepped: Stepped<FreeBlock, (), Kind>,
-) -> Stepped<Truncate, Guard<Inode>, Kind>
-    requires { place < direct }
-    ensures { result ≡ in_own_freeing emptying place stepped }
-{
-    // With `return` a result is copied once.
-    match stepped {
-        Stepped::Waits(m) => return Stepped::Waits(Truncate::Runs(Running {
-            emptying,
-            clearing: Clearing::Own(place, m),
-        })),
-        Stepped::Ran(m, kind) => return Stepped::Ran(
-            Truncate::Runs(Running {
-                emptying,
-                clearing: Clearing::Own(place, m),
-            }),
-            kind,
-        ),
-        Stepped::Done((), kind) => return Stepped::Ran(Truncate::Own(emptying, place + 1), kind),
-        Stepped::Stopped(m) => return Stepped::Stopped(Truncate::Runs(Running {
-            emptying,
-            clearing: Clearing::Own(place, m),
-        })),
-    }
-}
-
-// What a step comes to while the indirect block is fetched.
-fn in_indirect(
-    emptying: Emptying,
-    stepped: Stepped<Fetch, Guard<Buffer>, Kind>,
-) -> Stepped<Truncate, Guard<Inode>, Kind>
-    ensures { result ≡ in_indirect_fetch emptying stepped }
-{
-    // With `return` a result is copied once.
-    match stepped {
-        Stepped::Waits(m) => return Stepped::Waits(Truncate::Runs(Running {
-            emptying,
-            clearing: Clearing::Indirect(m),
-        })),
-        Stepped::Ran(m, kind) => return Stepped::Ran(
-            Truncate::Runs(Running {
-                emptying,
-                clearing: Clearing::Indirect(m),
-            }),
-            kind,
-        ),
-        Stepped::Done(table, kind) => return Stepped::Ran(
-            Truncate::Listed(emptying, table, 0),
-            kind,
-        ),
-        Stepped::Stopped(m) => return Stepped::Stopped(Truncate::Runs(Running {
-            emptying,
-            clearing: Clearing::Indirect(m),
-        })),
-    }
-}
-
-// What a step comes to while a block is given back whose number stands in the indirect block.
-fn in_listed(
-    emptying: Emptying,
-    table: Guard<Buffer>,
-    place: usize,
-    stepped: Stepped<FreeBlock, (), Kind>,
-) -> Stepped<Truncate, Guard<Inode>, Kind>
-    requires { place < numbers_per_block }
-    ensures { result ≡ in_listed_freeing emptying table place stepped }
-{
-    // With `return` a result is copied once.
-    match stepped {
-        Stepped::Waits(m) => return Stepped::Waits(Truncate::Runs(Running {
-            emptying,
-            clearing: Clearing::Listed(table, place, m),
-        })),
-        Stepped::Ran(m, kind) => return Stepped::Ran(
-            Truncate::Runs(Running {
-                emptying,
-                clearing: Clearing::Listed(table, place, m),
-            }),
-            kind,
-        ),
-        Stepped::Done((), kind) => return Stepped::Ran(
-            Truncate::Listed(emptying, table, place + 1),
-            kind,
-        ),
-        Stepped::Stopped(m) => return Stepped::Stopped(Truncate::Runs(Running {
-            emptying,
-            clearing: Clearing::Listed(table, place, m),
-        })),
-    }
-}
-
-// What a step comes to while the indirect block itself is given back.
-fn in_table(
-    emptying: Emptying,
-    stepped: Stepped<FreeBlock, (), Kind>,
-) -> Stepped<Truncate, Guard<Inode>, Kind>
-    ensures { result ≡ in_table_freeing emptying stepped }
-{
-    // With `return` a result is copied once.
-    match stepped {
-        Stepped::Waits(m) => return Stepped::Waits(Truncate::Runs(Running {
-            emptying,
-            clearing: Clearing::Table(m),
-        })),
-        Stepped::Ran(m, kind) => return Stepped::Ran(
-            Truncate::Runs(Running {
-                emptying,
-                clearing: Clearing::Table(m),
-            }),
-            kind,
-        ),
-        Stepped::Done((), kind) => return Stepped::Ran(Truncate::Record(emptying), kind),
-        Stepped::Stopped(m) => return Stepped::Stopped(Truncate::Runs(Running {
-            emptying,
-            clearing: Clearing::Table(m),
-        })),
-    }
-}
-
-// What a step comes to while the record is stored.
-fn in_record(
-    emptying: Emptying,
-    stepped: Stepped<StoreInode, (), Kind>,
-) -> Stepped<Truncate, Guard<Inode>, Kind>
-    requires { IsSome emptying.inode.value.content }
-    ensures { result ≡ in_record_storing emptying stepped }
-{
-    // With `return` a result is copied once.
-    match stepped {
-        Stepped::Waits(m) => return Stepped::Waits(Truncate::Runs(Running {
-            emptying,
-            clearing: Clearing::Record(m),
-        })),
-        Stepped::Ran(m, kind) => return Stepped::Ran(
-            Truncate::Runs(Running {
-                emptying,
-                clearing: Clearing::Record(m),
-            }),
-            kind,
-        ),
-        Stepped::Done((), kind) => return Stepped::Done(emptied(emptying), kind),
-        Stepped::Stopped(m) => return Stepped::Stopped(Truncate::Runs(Running {
-            emptying,
-            clearing: Clearing::Record(m),
-        })),
     }
 }
 

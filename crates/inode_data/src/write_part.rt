@@ -66,7 +66,7 @@ pub enum WritePart {
     /// It is there.
     There(Writing, Guard<Buffer>),
     /// The inode is stored.
-    Storing(Writing, Option<StoreInode>),
+    Storing(Writing, StoreInode),
     /// It has ended, or is being changed.
     Gone,
 }
@@ -258,23 +258,11 @@ impl WritePart {
         ensures tables { core.new.tables ≡ core.old.tables }
     {
         match self {
-            WritePart::Storing(_, place) => match mem::replace(place, None) {
-                Some(store) => match store.step(hart, txn, core) {
-                    Stepped::Waits(store) => {
-                        put_in(place, store);
-                        Came::Waits
-                    }
-                    Stepped::Ran(store, kind) => {
-                        put_in(place, store);
-                        Came::Ran(kind)
-                    }
-                    Stepped::Done((), kind) => Came::Done(self.stored(), kind),
-                    Stepped::Stopped(store) => {
-                        put_in(place, store);
-                        Came::Stopped
-                    }
-                },
-                None => unreachable!(),
+            WritePart::Storing(_, store) => match store.step(hart, txn, core) {
+                Came::Waits => Came::Waits,
+                Came::Ran(kind) => Came::Ran(kind),
+                Came::Done((), kind) => Came::Done(self.stored(), kind),
+                Came::Stopped => Came::Stopped,
             },
             _ => unreachable!(),
         }
@@ -322,11 +310,8 @@ impl WritePart {
         ensures ended { self.new ≡ writing.Gone }
     {
         match mem::replace(self, WritePart::Gone) {
-            WritePart::Storing(writing, place) => {
-                match place {
-                    None => {}
-                    Some(_) => unreachable!(),
-                }
+            WritePart::Storing(writing, store) => {
+                store.end();
                 finished(writing)
             }
             _ => unreachable!(),
@@ -362,12 +347,9 @@ impl WritePart {
                 writing.retire(retired);
                 guard.retire_in_row(&retired.buffers);
             }
-            WritePart::Storing(writing, place) => {
+            WritePart::Storing(writing, store) => {
                 writing.retire(retired);
-                match place {
-                    Some(store) => store.retire(retired),
-                    None => {}
-                }
+                store.retire(retired);
             }
             WritePart::Gone => {}
         }
@@ -444,7 +426,7 @@ fn store(writing: Writing) -> WritePart
 {
     let number = writing.inode.value().number;
     let store = StoreInode::new(writing.sizes.inodestart, number, grown(&writing));
-    WritePart::Storing(writing, Some(store))
+    WritePart::Storing(writing, store)
 }
 
 // Goes past the next block after it was written, of so many bytes in all.

@@ -1,9 +1,9 @@
 -- The programs that are left of an inode's loading and of its storing.
-use Rattle.std.specs.Prelude.{ℕ}
+use Rattle.std.specs.Prelude.{◌≡◌, ℕ, Some, None}
 use Rattle.sleep_lock.specs.SleepLock.{GuardState}
 use Rattle.buffer_cache.specs.Buffers.{BufferState}
 use Rattle.fs_layout.specs.declared.inode.Dinode.{Dinode}
-use Rattle.atomic_programs.specs.Prog.{bind}
+use Rattle.atomic_programs.specs.Prog.{Ret, bind}
 use Rattle.atomic_programs.specs.declared.machines.Stepped.{Stepped}
 use Rattle.fs_machine.specs.declared.fetch.Fetch.{Fetch}
 use Rattle.fs_machine.specs.declared.kind.Kind.{Kind}
@@ -27,16 +27,35 @@ LoadFits hart s (loading.Fetching n f) = FetchFits hart s f
 LoadFits hart s (loading.Read n guard) = IsFetched hart guard.value.block guard s
 
 unfoldable pub store_of : StoreInode → P (Unit {0})
-store_of (storing.Fetching n d f) = bind (fetch_of f) (put_inode (block_of f) n d)
+store_of (storing.Fetching n d (Some f)) = bind (fetch_of f) (put_inode (block_of f) n d)
+store_of (storing.Fetching n d None) = Ret tt
 store_of (storing.Write n d guard) = put_inode guard.value.block n d (bytes_of guard)
+store_of storing.Gone = Ret tt
 
 unfoldable pub StoreFits : ℕ → State → StoreInode → Type 0
-StoreFits hart s (storing.Fetching n d f) = FetchFits hart s f
+StoreFits hart s (storing.Fetching n d (Some f)) = FetchFits hart s f
+StoreFits hart s (storing.Fetching n d None) = ⊥
 StoreFits hart s (storing.Write n d guard) = IsFetched hart guard.value.block guard s
+StoreFits hart s storing.Gone = ⊥
+
+-- an inode's block is fetched, to store it
+abbrev pub IsFetchingStore : StoreInode → Type 0
+IsFetchingStore (storing.Fetching n d f) = Unit {0}
+IsFetchingStore _ = ⊥
+
+abbrev pub HasFetchedStore : StoreInode → Type 0
+HasFetchedStore (storing.Fetching n d f) = f ≡ None
+HasFetchedStore _ = ⊥
+
+abbrev pub fetched_store : GuardState BufferState → StoreInode → StoreInode
+fetched_store guard (storing.Fetching n d f) = storing.Write n d guard
+fetched_store guard _ = storing.Gone
+
+-- it is there
+abbrev pub IsWritingStore : StoreInode → Type 0
+IsWritingStore (storing.Write n d guard) = Unit {0}
+IsWritingStore _ = ⊥
 
 -- a fetch's step, as one of the machine that it stands in
 abbrev pub in_loading : ℕ → Stepped Fetch (GuardState BufferState) Kind → Stepped LoadInode Dinode Kind
 in_loading n stepped = within (λ f. loading.Fetching n f) (λ guard. loading.Read n guard) stepped
-
-abbrev pub in_storing : ℕ → Dinode → Stepped Fetch (GuardState BufferState) Kind → Stepped StoreInode (Unit {0}) Kind
-in_storing n d stepped = within (λ f. storing.Fetching n d f) (λ guard. storing.Write n d guard) stepped

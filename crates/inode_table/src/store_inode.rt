@@ -1,32 +1,35 @@
 //! An inode stored.
 ghost use Rattle.std.specs.Prelude.{◌≡◌, ◌<◌, ◌^◌, ℕ, Some};
 ghost use Rattle.atomic_programs.specs.Prog.{Ran as ItRan};
-ghost use Rattle.atomic_programs.specs.Machines.{Still, Left as LeftOf};
 ghost use Rattle.fs_machine.specs.LogPart.{Outside};
 ghost use Rattle.fs_machine.specs.Steps.{State, state_of, exec, Put};
 ghost use Rattle.fs_machine.specs.Premises.{May};
-ghost use Rattle.fs_machine.specs.Machines.{MayNext, Moves, Answers, CallsOnce};
+ghost use Rattle.fs_machine.specs.Machines.{MayNext};
+ghost use Rattle.fs_machine.specs.Places.{StepsAt};
 ghost use Rattle.fs_machine.specs.Tied.{LeavesTied, bytes_of};
 ghost use Rattle.fs_machine.specs.Fetching.{IsFetched};
 ghost use Rattle.inode_table.specs.Programs.{inode_block, with_dinode, store};
-ghost use Rattle.inode_table.specs.Machines.{store_of, StoreFits, in_storing};
+ghost use Rattle.inode_table.specs.Machines.{store_of, StoreFits, IsFetchingStore, IsWritingStore, HasFetchedStore, fetched_store};
 ghost use Rattle.inode_table.specs.declared.store_inode.StoreInode.TheVariants as stores;
 
 use crate::place::{block_of, write_in};
-use atomic_programs::machines::Stepped;
+use atomic_programs::machines::{Came, Stepped, put as put_in};
 use block_device::Device;
 use buffer_cache::Buffer;
 use fs_layout::Dinode;
 use fs_machine::{Core, Fetch, Kind, RetiredCore};
 use group_log::Txn;
 use sleep_lock::Guard;
+use std::mem;
 
 /// Records an inode in its block.
 pub enum StoreInode {
     /// The block of this inode is fetched.
-    Fetching(u32, Dinode, Fetch),
+    Fetching(u32, Dinode, Option<Fetch>),
     /// The block is there.
     Write(u32, Dinode, Guard<Buffer>),
+    /// It has ended, or is being changed.
+    Gone,
 }
 
 impl StoreInode {
@@ -37,119 +40,128 @@ impl StoreInode {
         ensures program { store_of result ≡ store inodestart number inode }
         ensures fits { (hart : ℕ) (s : State) → StoreFits hart s result }
     {
-        StoreInode::Fetching(number, inode, Fetch::Get(block_of(inodestart, number)))
+        let fetch = Fetch::Get(block_of(inodestart, number));
+        StoreInode::Fetching(number, inode, Some(fetch))
     }
 
-    /// One operation.
+    /// One operation, in its place.
     #[tactic(auto, unfolding(crate::specs::Machines::store_of, crate::specs::Machines::StoreFits, fs_machine::specs::Premises::Honest))]
-    pub fn step<D: Device>(
-        self,
-        hart: u8,
-        txn: &mut Txn,
-        core: &mut Core<D>,
-    ) -> Stepped<StoreInode, (), Kind>
+    pub fn step<D: Device>(&mut self, hart: u8, txn: &mut Txn, core: &mut Core<D>) -> Came<(), Kind>
         requires txn { txn.old ≡ hart }
-        requires may { MayNext hart (store_of self) (state_of D.contents D.failures core.old) }
-        requires fits { StoreFits hart (state_of D.contents D.failures core.old) self }
-        ensures moves { Moves store_of (λ x. x) hart self result (state_of D.contents D.failures core.old) (state_of D.contents D.failures core.new) }
-        ensures honest { Answers store_of hart self result (state_of D.contents D.failures core.old) (state_of D.contents D.failures core.new) }
-        ensures still { Still store_of result self core.old core.new }
+        requires may { MayNext hart (store_of self.old) (state_of D.contents D.failures core.old) }
+        requires fits { StoreFits hart (state_of D.contents D.failures core.old) self.old }
+        ensures steps { StepsAt D.contents D.failures D.Called store_of (λ x. x) StoreFits (λ _. Unit {0}) stores.Gone hart self.old self.new result core.old core.new }
         ensures kept { txn.new ≡ txn.old }
-        ensures fits { LeftOf (StoreFits hart (state_of D.contents D.failures core.new)) (λ _. Unit {0}) result }
-        ensures others { LeavesTied hart (state_of D.contents D.failures core.old) (state_of D.contents D.failures core.new) }
-        ensures called { CallsOnce D.Called core.old.log.cache.device core.new.log.cache.device }
         ensures tables { core.new.tables ≡ core.old.tables }
     {
-        // With `return` a result is copied once.
+        // Each arm returns at once, so that a result is copied once.
         match self {
-            StoreInode::Fetching(number, inode, fetch) => return fetch_its_block(
-                number, inode, fetch, hart, core,
-            ),
-            StoreInode::Write(number, inode, guard) => return record(
-                number, inode, guard, hart, txn, core,
-            ),
+            StoreInode::Fetching(_, _, _) => return self.fetch(hart, core),
+            StoreInode::Write(_, _, _) => return self.write(hart, txn, core),
+            StoreInode::Gone => unreachable!(),
+        }
+    }
+
+    // A step while the inode's block is fetched.
+    #[tactic(auto, unfolding(crate::specs::Machines::store_of, crate::specs::Machines::StoreFits, fs_machine::specs::Premises::Honest))]
+    fn fetch<D: Device>(&mut self, hart: u8, core: &mut Core<D>) -> Came<(), Kind>
+        requires at { IsFetchingStore self.old }
+        requires may { MayNext hart (store_of self.old) (state_of D.contents D.failures core.old) }
+        requires fits { StoreFits hart (state_of D.contents D.failures core.old) self.old }
+        ensures steps { StepsAt D.contents D.failures D.Called store_of (λ x. x) StoreFits (λ _. Unit {0}) stores.Gone hart self.old self.new result core.old core.new }
+        ensures tables { core.new.tables ≡ core.old.tables }
+    {
+        match self {
+            StoreInode::Fetching(_, _, place) => match mem::replace(place, None) {
+                Some(fetch) => match fetch.step(hart, core) {
+                    Stepped::Waits(fetch) => {
+                        put_in(place, fetch);
+                        Came::Waits
+                    }
+                    Stepped::Ran(fetch, kind) => {
+                        put_in(place, fetch);
+                        Came::Ran(kind)
+                    }
+                    Stepped::Done(guard, kind) => {
+                        self.fetched(guard);
+                        Came::Ran(kind)
+                    }
+                    Stepped::Stopped(fetch) => {
+                        put_in(place, fetch);
+                        Came::Stopped
+                    }
+                },
+                None => unreachable!(),
+            },
+            _ => unreachable!(),
+        }
+    }
+
+    // The inode is recorded in its block.
+    #[tactic(auto, unfolding(crate::specs::Machines::store_of, crate::specs::Machines::StoreFits, fs_machine::specs::Premises::Honest))]
+    fn write<D: Device>(&mut self, hart: u8, txn: &mut Txn, core: &mut Core<D>) -> Came<(), Kind>
+        requires at { IsWritingStore self.old }
+        requires txn { txn.old ≡ hart }
+        requires may { MayNext hart (store_of self.old) (state_of D.contents D.failures core.old) }
+        requires fits { StoreFits hart (state_of D.contents D.failures core.old) self.old }
+        ensures steps { StepsAt D.contents D.failures D.Called store_of (λ x. x) StoreFits (λ _. Unit {0}) stores.Gone hart self.old self.new result core.old core.new }
+        ensures kept { txn.new ≡ txn.old }
+        ensures tables { core.new.tables ≡ core.old.tables }
+    {
+        match mem::replace(self, StoreInode::Gone) {
+            StoreInode::Write(number, inode, guard) => {
+                write(number, inode, guard, hart, txn, core);
+                Came::Done((), Kind::Put)
+            }
+            _ => unreachable!(),
+        }
+    }
+
+    // Its block has been fetched.
+    fn fetched(&mut self, guard: Guard<Buffer>)
+        requires { HasFetchedStore self.old }
+        ensures { self.new ≡ fetched_store guard self.old }
+    {
+        match mem::replace(self, StoreInode::Gone) {
+            StoreInode::Fetching(number, inode, place) => {
+                match place {
+                    None => {}
+                    Some(_) => unreachable!(),
+                }
+                self.put(StoreInode::Write(number, inode, guard));
+            }
+            _ => unreachable!(),
+        }
+    }
+
+    fn put(&mut self, next: StoreInode)
+        requires { self.old ≡ stores.Gone }
+        ensures { self.new ≡ next }
+    {
+        match mem::replace(self, next) {
+            StoreInode::Gone => {}
+            _ => unreachable!(),
+        }
+    }
+
+    /// Ends one that is done.
+    pub fn end(self)
+        requires { self ≡ stores.Gone }
+    {
+        match self {
+            StoreInode::Gone => {}
+            _ => unreachable!(),
         }
     }
 
     /// Ends it in mid-call, after all that harts share has ended.
     pub fn retire(self, retired: &RetiredCore) {
         match self {
-            StoreInode::Fetching(_, _, fetch) => fetch.retire(retired),
+            StoreInode::Fetching(_, _, Some(fetch)) => fetch.retire(retired),
+            StoreInode::Fetching(_, _, None) => {}
             StoreInode::Write(_, _, guard) => guard.retire_in_row(&retired.buffers),
+            StoreInode::Gone => {}
         }
-    }
-}
-
-// One operation while the inode's block is fetched.
-#[tactic(auto, unfolding(crate::specs::Machines::store_of, crate::specs::Machines::StoreFits, fs_machine::specs::Premises::Honest))]
-fn fetch_its_block<D: Device>(
-    number: u32,
-    inode: Dinode,
-    fetch: Fetch,
-    hart: u8,
-    core: &mut Core<D>,
-) -> Stepped<StoreInode, (), Kind>
-    requires may { MayNext hart (store_of (stores.Fetching number inode fetch)) (state_of D.contents D.failures core.old) }
-    requires fits { StoreFits hart (state_of D.contents D.failures core.old) (stores.Fetching number inode fetch) }
-    ensures moves { Moves store_of (λ x. x) hart (stores.Fetching number inode fetch) result (state_of D.contents D.failures core.old) (state_of D.contents D.failures core.new) }
-    ensures honest { Answers store_of hart (stores.Fetching number inode fetch) result (state_of D.contents D.failures core.old) (state_of D.contents D.failures core.new) }
-    ensures still { Still store_of result (stores.Fetching number inode fetch) core.old core.new }
-    ensures fits { LeftOf (StoreFits hart (state_of D.contents D.failures core.new)) (λ _. Unit {0}) result }
-    ensures others { LeavesTied hart (state_of D.contents D.failures core.old) (state_of D.contents D.failures core.new) }
-    ensures called { CallsOnce D.Called core.old.log.cache.device core.new.log.cache.device }
-    ensures tables { core.new.tables ≡ core.old.tables }
-{
-    storing(number, inode, fetch.step(hart, core))
-}
-
-// The inode is recorded in its block.
-#[tactic(auto, unfolding(crate::specs::Machines::store_of, crate::specs::Machines::StoreFits, fs_machine::specs::Premises::Honest))]
-fn record<D: Device>(
-    number: u32,
-    inode: Dinode,
-    guard: Guard<Buffer>,
-    hart: u8,
-    txn: &mut Txn,
-    core: &mut Core<D>,
-) -> Stepped<StoreInode, (), Kind>
-    requires txn { txn.old ≡ hart }
-    requires may { MayNext hart (store_of (stores.Write number inode guard)) (state_of D.contents D.failures core.old) }
-    requires fits { StoreFits hart (state_of D.contents D.failures core.old) (stores.Write number inode guard) }
-    ensures moves { Moves store_of (λ x. x) hart (stores.Write number inode guard) result (state_of D.contents D.failures core.old) (state_of D.contents D.failures core.new) }
-    ensures honest { Answers store_of hart (stores.Write number inode guard) result (state_of D.contents D.failures core.old) (state_of D.contents D.failures core.new) }
-    ensures still { Still store_of result (stores.Write number inode guard) core.old core.new }
-    ensures kept { txn.new ≡ txn.old }
-    ensures fits { LeftOf (StoreFits hart (state_of D.contents D.failures core.new)) (λ _. Unit {0}) result }
-    ensures others { LeavesTied hart (state_of D.contents D.failures core.old) (state_of D.contents D.failures core.new) }
-    ensures called { CallsOnce D.Called core.old.log.cache.device core.new.log.cache.device }
-    ensures tables { core.new.tables ≡ core.old.tables }
-{
-    write(number, inode, guard, hart, txn, core);
-    Stepped::Done((), Kind::Put)
-}
-
-// What a fetch's step comes to, while the inode's block is fetched.
-fn storing(
-    number: u32,
-    inode: Dinode,
-    stepped: Stepped<Fetch, Guard<Buffer>, Kind>,
-) -> Stepped<StoreInode, (), Kind>
-    ensures { result ≡ in_storing number inode stepped }
-{
-    // With `return` a result is copied once.
-    match stepped {
-        Stepped::Waits(fetch) => return Stepped::Waits(StoreInode::Fetching(number, inode, fetch)),
-        Stepped::Ran(fetch, kind) => return Stepped::Ran(
-            StoreInode::Fetching(number, inode, fetch),
-            kind,
-        ),
-        Stepped::Done(guard, kind) => return Stepped::Ran(
-            StoreInode::Write(number, inode, guard),
-            kind,
-        ),
-        Stepped::Stopped(fetch) => return Stepped::Stopped(StoreInode::Fetching(
-            number, inode, fetch,
-        )),
     }
 }
 

@@ -1,4 +1,4 @@
-//! Machines of the layers below, whose steps take them and hand them on, stepped in the places where they stand.
+//! Machines of the layers below in the places where they stand: some are stepped there, and the steps of others take them and hand them on.
 ghost use Rattle.std.specs.Prelude.{◌≡◌, ℕ, Some, None};
 ghost use Rattle.sleep_lock.specs.SleepLock.{GuardState};
 ghost use Rattle.atomic_programs.specs.Machines.{Left as LeftOf, OnDone, stepped_at};
@@ -12,8 +12,11 @@ ghost use Rattle.inode_table.specs.NewMachines.{NewFits};
 ghost use Rattle.inode_data.specs.Records.{record_in};
 ghost use Rattle.inode_data.specs.Truncating.{emptied_of, TruncateFits};
 ghost use Rattle.inode_data.specs.PartWriting.{writer_of, written_of, WriteFits};
+ghost use Rattle.inode_table.specs.declared.store_inode.StoreInode.TheVariants as stores;
+ghost use Rattle.inode_data.specs.declared.truncation.Truncate.TheVariants as emptying;
 ghost use Rattle.inode_data.specs.declared.write_part.WritePart.TheVariants as writing;
 ghost use Rattle.directory.specs.Entering.{entered_of, enterer_of, EnterFits};
+ghost use Rattle.directory.specs.declared.enter.Enter.TheVariants as entering;
 ghost use Rattle.path_walk.specs.Programs.{loaded};
 ghost use Rattle.making_calls.specs.InPlace.{enter_in, new_in, number_in, placed, store_in, truncate_in, write_in, PlacedFits};
 
@@ -85,8 +88,27 @@ pub(crate) fn step_store<D: Device>(
     ensures kept { txn.new ≡ txn.old }
     ensures tables { core.new.tables ≡ core.old.tables }
 {
+    match place {
+        Some(store) => match store.step(hart, txn, core) {
+            Came::Waits => Came::Waits,
+            Came::Ran(kind) => Came::Ran(kind),
+            Came::Done((), kind) => {
+                clear_stored(place);
+                Came::Done((), kind)
+            }
+            Came::Stopped => Came::Stopped,
+        },
+        None => unreachable!(),
+    }
+}
+
+// Nothing stands any longer where a storing has ended.
+fn clear_stored(place: &mut Option<StoreInode>)
+    requires { place.old ≡ Some stores.Gone }
+    ensures { place.new ≡ None }
+{
     match mem::replace(place, None) {
-        Some(store) => put_back(place, store.step(hart, txn, core)),
+        Some(store) => store.end(),
         None => unreachable!(),
     }
 }
@@ -107,8 +129,30 @@ pub(crate) fn step_truncate<D: Device>(
     ensures own { (n : ℕ) (s : State) → PlacedFits (λ m. IsOwnInode hart n (emptied_of m) s) place.old → LeftOf (λ p. PlacedFits (λ m. IsOwnInode hart n (emptied_of m) s) p) (λ guard. IsOwnInode hart n guard s) (stepped_at place.new result) }
     ensures tables { core.new.tables ≡ core.old.tables }
 {
+    match place {
+        Some(truncate) => match truncate.step(hart, txn, core) {
+            Came::Waits => Came::Waits,
+            Came::Ran(kind) => Came::Ran(kind),
+            Came::Done(inode, kind) => {
+                clear_emptied(place);
+                Came::Done(inode, kind)
+            }
+            Came::Stopped => Came::Stopped,
+        },
+        None => unreachable!(),
+    }
+}
+
+// Nothing stands any longer where an emptying has ended.
+fn clear_emptied(place: &mut Option<Truncate>)
+    requires { place.old ≡ Some emptying.Gone }
+    ensures { place.new ≡ None }
+{
     match mem::replace(place, None) {
-        Some(truncate) => put_back(place, truncate.step(hart, txn, core)),
+        Some(truncate) => match truncate {
+            Truncate::Gone => {}
+            _ => unreachable!(),
+        },
         None => unreachable!(),
     }
 }
@@ -135,7 +179,7 @@ pub(crate) fn step_write<D: Device>(
             Came::Waits => Came::Waits,
             Came::Ran(kind) => Came::Ran(kind),
             Came::Done(written, kind) => {
-                clear(place);
+                clear_written(place);
                 Came::Done(written, kind)
             }
             Came::Stopped => Came::Stopped,
@@ -145,7 +189,7 @@ pub(crate) fn step_write<D: Device>(
 }
 
 // Nothing stands any longer where a writing has ended.
-fn clear(place: &mut Option<WritePart>)
+fn clear_written(place: &mut Option<WritePart>)
     requires { place.old ≡ Some writing.Gone }
     ensures { place.new ≡ None }
 {
@@ -174,8 +218,30 @@ pub(crate) fn step_enter<D: Device>(
     ensures own { (n : ℕ) (s : State) → PlacedFits (λ m. IsOwnInode hart n (enterer_of m) s) place.old → LeftOf (λ p. PlacedFits (λ m. IsOwnInode hart n (enterer_of m) s) p) (λ r. IsOwnInode hart n r.inode s) (stepped_at place.new result) }
     ensures tables { core.new.tables ≡ core.old.tables }
 {
+    match place {
+        Some(enter) => match enter.step(hart, txn, core) {
+            Came::Waits => Came::Waits,
+            Came::Ran(kind) => Came::Ran(kind),
+            Came::Done(entered, kind) => {
+                clear_entered(place);
+                Came::Done(entered, kind)
+            }
+            Came::Stopped => Came::Stopped,
+        },
+        None => unreachable!(),
+    }
+}
+
+// Nothing stands any longer where an entering has ended.
+fn clear_entered(place: &mut Option<Enter>)
+    requires { place.old ≡ Some entering.Gone }
+    ensures { place.new ≡ None }
+{
     match mem::replace(place, None) {
-        Some(enter) => put_back(place, enter.step(hart, txn, core)),
+        Some(enter) => match enter {
+            Enter::Gone => {}
+            _ => unreachable!(),
+        },
         None => unreachable!(),
     }
 }

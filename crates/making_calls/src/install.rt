@@ -26,7 +26,7 @@ ghost use Rattle.making_calls.specs.declared.install.Install.TheVariants as inst
 use crate::in_place::step_truncate;
 use atomic_programs::machines::Came;
 use block_device::Device;
-use call_parts::{Answered, Ending, Held, Quit, ending, number_of, told};
+use call_parts::{Answered, Ending, Held, Quit, ending, number_of};
 use directory::is_directory;
 use fs_layout::{Dinode, Super};
 use fs_machine::{Core, Kind, RetiredCore};
@@ -240,7 +240,7 @@ impl Install {
         ensures told { IsHeard result replied.new }
     {
         match self {
-            Install::Ends(quit) => match told(quit.step(hart, core), replied) {
+            Install::Ends(quit) => match quit.step(replied, hart, core) {
                 Came::Waits => Came::Waits,
                 Came::Ran(kind) => Came::Ran(kind),
                 Came::Done((), kind) => {

@@ -37,7 +37,7 @@ use atomic_programs::machines::Came;
 use block_device::Device;
 use call_parts::{
     Answered, Dots, GiveUp, Held, LastName, MOST_LINKS, OnPath, Quit, Seek, Seen, count_of, ending,
-    stopped, store, told, with_links,
+    stopped, store, with_links,
 };
 use directory::Found;
 use fs_layout::{Dinode, Super};
@@ -279,7 +279,7 @@ impl Mkdir {
         ensures told { IsHeard result replied.new }
     {
         match self {
-            Mkdir::Ends(quit) => match told(quit.step(hart, core), replied) {
+            Mkdir::Ends(quit) => match quit.step(replied, hart, core) {
                 Came::Waits => Came::Waits,
                 Came::Ran(kind) => Came::Ran(kind),
                 Came::Done((), kind) => {

@@ -36,7 +36,7 @@ use crate::open_old::{OpenOld, at};
 use atomic_programs::machines::Came;
 use block_device::Device;
 use call_parts::{
-    Answered, Dots, GiveUp, Held, LastName, Quit, Seek, Seen, TakeInode, ending, stopped, told,
+    Answered, Dots, GiveUp, Held, LastName, Quit, Seek, Seen, TakeInode, ending, stopped,
 };
 use fs_layout::Super;
 use fs_machine::{Core, Kind, RetiredCore};
@@ -372,7 +372,7 @@ impl OpenNew {
         ensures told { IsHeard result replied.new }
     {
         match self {
-            OpenNew::Ends(quit) => match told(quit.step(hart, core), replied) {
+            OpenNew::Ends(quit) => match quit.step(replied, hart, core) {
                 Came::Waits => Came::Waits,
                 Came::Ran(kind) => Came::Ran(kind),
                 Came::Done((), kind) => {

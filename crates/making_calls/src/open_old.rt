@@ -24,7 +24,7 @@ ghost use Rattle.making_calls.specs.declared.open_old.OpenOld.TheVariants as ope
 use crate::install::{Install, Opening, ToOpen, has_flag, is_regular};
 use atomic_programs::machines::Came;
 use block_device::Device;
-use call_parts::{Answered, Held, Quit, Reach, Reached, ending, stopped, told};
+use call_parts::{Answered, Held, Quit, Reach, Reached, ending, stopped};
 use directory::is_directory;
 use fs_layout::{Dinode, Super};
 use fs_machine::{Core, Kind, RetiredCore};
@@ -201,7 +201,7 @@ impl OpenOld {
         ensures told { IsHeard result replied.new }
     {
         match self {
-            OpenOld::Ends(quit) => match told(quit.step(hart, core), replied) {
+            OpenOld::Ends(quit) => match quit.step(replied, hart, core) {
                 Came::Waits => Came::Waits,
                 Came::Ran(kind) => Came::Ran(kind),
                 Came::Done((), kind) => {

@@ -3,6 +3,7 @@ use Rattle.std.specs.Prelude.{◌≡◌, ℕ, None, IsSome}
 use Rattle.fs_machine.specs.Tied.{IsOwnInode}
 use Rattle.inode_data.specs.Records.{record_in}
 use Rattle.directory.specs.Entering.{entered_of}
+use Rattle.directory.specs.declared.enter.Enter.TheVariants as entering
 use Rattle.directory.specs.declared.enter.Entered.{Entered}
 use Rattle.file_table.specs.Machines.{IsEarly}
 use Rattle.path_walk.specs.Programs.{loaded}
@@ -38,7 +39,7 @@ IsEntering _ = ⊥
 
 -- it has been
 abbrev pub Enters : Entered → AddName → Type 0
-Enters r (adding.Entering l txn list n parent m) = (m ≡ None) × IsLinking l × IsSome r.inode.value.content
+Enters r (adding.Entering l txn list n parent m) = (m ≡ entering.Gone) × IsLinking l × IsSome r.inode.value.content
 Enters r _ = ⊥
 
 abbrev pub EnteredTo : Entered → AddName → AddName → Type 0

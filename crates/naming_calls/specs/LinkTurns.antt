@@ -1,10 +1,11 @@
 -- How a link goes on from one state to the next.
-use Rattle.std.specs.Prelude.{◌≡◌, ◌≤◌, [], ℕ, None, length}
+use Rattle.std.specs.Prelude.{◌≡◌, ◌≤◌, [], ℕ, length, Some}
 use Rattle.path_walk.specs.Elements.{most_elements}
 use Rattle.call_parts.specs.Taking.{inode_in, kept_by, reached_as, IsHeld, IsReached, IsThere}
 use Rattle.call_parts.specs.declared.quit.Quit.TheVariants as quitting
 use Rattle.call_parts.specs.declared.reach.Reach.TheVariants as reaching
 use Rattle.call_parts.specs.declared.reach.Reached.{Reached}
+use Rattle.inode_table.specs.declared.store_inode.StoreInode.TheVariants as storing
 use Rattle.naming_calls.specs.Turns.{GoesTo}
 use Rattle.naming_calls.specs.Links.{link_found, link_joined, link_of, link_raised, HasRoom, IsLinking, LinkFits}
 use Rattle.naming_calls.specs.declared.add_name.AddName.TheVariants as adding
@@ -37,7 +38,7 @@ IsRaising _ = ⊥
 
 -- it has been
 abbrev pub Raises : Link → Type 0
-Raises (linking.Raising l txn list held m) = (m ≡ None) × IsLinking l
+Raises (linking.Raising l txn list held m) = (m ≡ Some storing.Gone) × IsLinking l
 Raises _ = ⊥
 
 abbrev pub RaisedTo : Link → Link → Type 0

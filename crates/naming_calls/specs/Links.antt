@@ -128,8 +128,7 @@ module _ (sizes : Super) (old new : List ℕ) where
 
 unfoldable pub add_of : AddName → P Reply
 add_of (adding.Seeking l txn n m) = bind (seek_of l.new m) (name_seen l.sizes l.old l.new n)
-add_of (adding.Entering l txn list n parent (Some m)) = bind (enter_of m) (name_entered l.sizes l.old l.new n (enterer_of m).value.number list)
-add_of (adding.Entering l txn list n parent None) = no_program
+add_of (adding.Entering l txn list n parent m) = bind (enter_of m) (name_entered l.sizes l.old l.new n (enterer_of m).value.number list)
 add_of (adding.Leaving l txn list n why m) = bind (give_of m) (λ _. leave_file l.sizes l.old l.new n list why)
 add_of (adding.Taking e txn m) = bind (take_of m) (lower_child e)
 add_of (adding.Lowering m) = lower_of m
@@ -161,8 +160,7 @@ HasRoom path list = length list + length (elements path) ≤ listed_places
 -- its transaction and its guards go with the state
 unfoldable pub AddFits : ℕ → State → AddName → Type 0
 AddFits hart s (adding.Seeking l txn n m) = IsLinking l × (txn ≡ hart) × SeekFits l.new hart s m
-AddFits hart s (adding.Entering l txn list n parent None) = ⊥
-AddFits hart s (adding.Entering l txn list n parent (Some m)) = IsLinking l × (txn ≡ hart) × IsOwnInode hart parent (enterer_of m) s × EnterFits hart s m
+AddFits hart s (adding.Entering l txn list n parent m) = IsLinking l × (txn ≡ hart) × IsOwnInode hart parent (enterer_of m) s × EnterFits hart s m
 AddFits hart s (adding.Leaving l txn list n why m) = IsLinking l × (txn ≡ hart) × GiveFits hart s m
 AddFits hart s (adding.Taking e txn m) = IsEarly e.sizes.inodestart × (txn ≡ hart) × TakeFits hart s m
 AddFits hart s (adding.Lowering m) = LowerFits hart s m

@@ -1,9 +1,10 @@
 -- How the counts of links go down, from one state to the next.
-use Rattle.std.specs.Prelude.{◌≡◌, ◌∷◌, [], None, IsSome}
+use Rattle.std.specs.Prelude.{◌≡◌, ◌∷◌, [], IsSome, Some}
 use Rattle.file_table.specs.Machines.{IsEarly}
 use Rattle.call_parts.specs.Parts.{quit}
 use Rattle.call_parts.specs.Taking.{inode_in, IsHeld}
 use Rattle.call_parts.specs.declared.give.GiveUp.TheVariants as giving
+use Rattle.inode_table.specs.declared.store_inode.StoreInode.TheVariants as storing
 use Rattle.naming_calls.specs.Turns.{GoesTo}
 use Rattle.naming_calls.specs.Unlinking.{leave_parent, lower_child, lower_of, AreHeld, LowerFits}
 use Rattle.naming_calls.specs.declared.lower.Lower.{Lower}
@@ -16,7 +17,7 @@ IsStoringParent _ = ⊥
 
 -- it has been, and what is left then
 abbrev pub StoresParent : Lower → Type 0
-StoresParent (lowering.Parent e txn parent child m) = (m ≡ None) × IsEarly e.sizes.inodestart
+StoresParent (lowering.Parent e txn parent child m) = (m ≡ Some storing.Gone) × IsEarly e.sizes.inodestart
 StoresParent _ = ⊥
 
 abbrev pub StoredParentTo : Lower → Lower → Type 0
@@ -38,7 +39,7 @@ IsStoringChild (lowering.Child e txn child m) = Unit {0}
 IsStoringChild _ = ⊥
 
 abbrev pub StoresChild : Lower → Type 0
-StoresChild (lowering.Child e txn child m) = (m ≡ None) × IsEarly e.sizes.inodestart
+StoresChild (lowering.Child e txn child m) = (m ≡ Some storing.Gone) × IsEarly e.sizes.inodestart
 StoresChild _ = ⊥
 
 abbrev pub StoredChildTo : Lower → Lower → Type 0

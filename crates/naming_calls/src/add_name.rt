@@ -26,11 +26,11 @@ ghost use Rattle.plain_tree.specs.declared.answer.Answer.{Answer as AnswerState}
 ghost use Rattle.naming_calls.specs.declared.add_name.AddName.TheVariants as adding;
 
 use crate::lower::{Lower, to_child};
-use atomic_programs::machines::{Came, Stepped, put};
+use atomic_programs::machines::Came;
 use block_device::Device;
 use call_parts::{
     Answered, Dots, Ending, GiveUp, Held, LastName, Quit, Seek, Seen, TakeInode, ending, number_of,
-    stopped, told,
+    stopped,
 };
 use directory::{Enter, Entered, Room};
 use fs_layout::Super;
@@ -57,7 +57,7 @@ pub enum AddName {
     /// The new name is looked up in its directory.
     Seeking(Linking, Txn, Reference, Seek),
     /// It is entered there.
-    Entering(Linking, Txn, Listed, Reference, Reference, Option<Enter>),
+    Entering(Linking, Txn, Listed, Reference, Reference, Enter),
     /// The directory is given up. Where the name wasn't entered, this is answered.
     Leaving(Linking, Txn, Listed, Reference, Option<Answer>, GiveUp),
     /// The name wasn't entered: the file is taken again.
@@ -242,7 +242,7 @@ impl AddName {
         ensures told { IsHeard result replied.new }
     {
         match self {
-            AddName::Ends(quit) => match told(quit.step(hart, core), replied) {
+            AddName::Ends(quit) => match quit.step(replied, hart, core) {
                 Came::Waits => Came::Waits,
                 Came::Ran(kind) => Came::Ran(kind),
                 Came::Done((), kind) => {
@@ -271,26 +271,14 @@ impl AddName {
         ensures told { IsHeard result replied.new }
     {
         match self {
-            AddName::Entering(_, txn, _, _, _, place) => match mem::replace(place, None) {
-                Some(enter) => match enter.step(hart, txn, core) {
-                    Stepped::Waits(enter) => {
-                        put(place, enter);
-                        Came::Waits
-                    }
-                    Stepped::Ran(enter, kind) => {
-                        put(place, enter);
-                        Came::Ran(kind)
-                    }
-                    Stepped::Done(entered, kind) => {
-                        self.entered(entered);
-                        Came::Ran(kind)
-                    }
-                    Stepped::Stopped(enter) => {
-                        put(place, enter);
-                        Came::Stopped
-                    }
-                },
-                None => unreachable!(),
+            AddName::Entering(_, txn, _, _, _, enter) => match enter.step(hart, txn, core) {
+                Came::Waits => Came::Waits,
+                Came::Ran(kind) => Came::Ran(kind),
+                Came::Done(entered, kind) => {
+                    self.entered(entered);
+                    Came::Ran(kind)
+                }
+                Came::Stopped => Came::Stopped,
             },
             _ => unreachable!(),
         }
@@ -323,8 +311,8 @@ impl AddName {
         match mem::replace(self, AddName::Gone) {
             AddName::Entering(l, txn, list, file, parent, enter) => {
                 match enter {
-                    None => {}
-                    Some(_) => unreachable!(),
+                    Enter::Gone => {}
+                    _ => unreachable!(),
                 }
                 self.put(entered_so(l, txn, list, file, parent, entered));
             }
@@ -408,10 +396,7 @@ impl AddName {
                 list.retire(&retired.inodes);
                 file.retire(&retired.inodes);
                 parent.retire(&retired.inodes);
-                match enter {
-                    Some(enter) => enter.retire(retired),
-                    None => {}
-                }
+                enter.retire(retired);
             }
             AddName::Leaving(_, txn, list, file, _, give) => {
                 txn.retire(&retired.log);
@@ -549,7 +534,7 @@ fn enter(
     let name = &l.new.as_slice()[element.start..element.end];
     let begun = Enter::begin(inode, &l.sizes, file.number(), name);
     match begun {
-        Begun::Runs(enter) => { AddName::Entering(l, txn, list, file, reference, Some(enter)) }
+        Begun::Runs(enter) => AddName::Entering(l, txn, list, file, reference, enter),
         Begun::Is(entered) => entered_so(l, txn, list, file, reference, entered),
     }
 }

@@ -23,7 +23,7 @@ ghost use Rattle.call_parts.specs.declared.quit.Quit.TheVariants as quitting;
 
 use atomic_programs::machines::Came;
 use block_device::Device;
-use call_parts::{Answered, Held, OnPath, Quit, Reach, Reached, ending, stopped, told};
+use call_parts::{Answered, Held, OnPath, Quit, Reach, Reached, ending, stopped};
 use directory::is_directory;
 use fs_layout::Super;
 use fs_machine::{Core, Kind, RetiredCore};
@@ -164,7 +164,7 @@ impl Chdir {
         ensures told { IsHeard result replied.new }
     {
         match self {
-            Chdir::Ends(quit) => match told(quit.step(hart, core), replied) {
+            Chdir::Ends(quit) => match quit.step(replied, hart, core) {
                 Came::Waits => Came::Waits,
                 Came::Ran(kind) => Came::Ran(kind),
                 Came::Done((), kind) => {

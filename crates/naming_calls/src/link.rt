@@ -28,8 +28,7 @@ use crate::lower::{links, retire_store};
 use atomic_programs::machines::{Came, Stepped, put};
 use block_device::Device;
 use call_parts::{
-    Answered, Held, MOST_LINKS, Quit, Reach, Reached, count_of, ending, stopped, store, told,
-    with_links,
+    Answered, Held, MOST_LINKS, Quit, Reach, Reached, count_of, ending, stopped, store, with_links,
 };
 use directory::is_directory;
 use fs_layout::{Dinode, Super};
@@ -210,7 +209,7 @@ impl Link {
         ensures told { IsHeard result replied.new }
     {
         match self {
-            Link::Ends(quit) => match told(quit.step(hart, core), replied) {
+            Link::Ends(quit) => match quit.step(replied, hart, core) {
                 Came::Waits => Came::Waits,
                 Came::Ran(kind) => Came::Ran(kind),
                 Came::Done((), kind) => {
@@ -239,24 +238,15 @@ impl Link {
         ensures told { IsHeard result replied.new }
     {
         match self {
-            Link::Raising(_, txn, _, _, place) => match mem::replace(place, None) {
+            Link::Raising(_, txn, _, _, place) => match place {
                 Some(store) => match store.step(hart, txn, core) {
-                    Stepped::Waits(store) => {
-                        put(place, store);
-                        Came::Waits
-                    }
-                    Stepped::Ran(store, kind) => {
-                        put(place, store);
-                        Came::Ran(kind)
-                    }
-                    Stepped::Done((), kind) => {
+                    Came::Waits => Came::Waits,
+                    Came::Ran(kind) => Came::Ran(kind),
+                    Came::Done((), kind) => {
                         self.raised();
                         Came::Ran(kind)
                     }
-                    Stepped::Stopped(store) => {
-                        put(place, store);
-                        Came::Stopped
-                    }
+                    Came::Stopped => Came::Stopped,
                 },
                 None => unreachable!(),
             },
@@ -324,8 +314,8 @@ impl Link {
         match mem::replace(self, Link::Gone) {
             Link::Raising(l, txn, list, file, store) => {
                 match store {
-                    None => {}
-                    Some(_) => unreachable!(),
+                    Some(store) => store.end(),
+                    None => unreachable!(),
                 }
                 self.put(Link::Unlock(l, txn, list, file));
             }

@@ -20,7 +20,7 @@ ghost use Rattle.naming_calls.specs.declared.lower.Lower.TheVariants as lowering
 
 use atomic_programs::machines::{Came, Stepped, put};
 use block_device::Device;
-use call_parts::{Answered, Ending, GiveUp, Held, Quit, told};
+use call_parts::{Answered, Ending, GiveUp, Held, Quit};
 use directory::is_directory;
 use fs_layout::Dinode;
 use fs_machine::{Core, Kind, RetiredCore};
@@ -131,7 +131,7 @@ impl Lower {
         ensures told { IsHeard result replied.new }
     {
         match self {
-            Lower::Ends(quit) => match told(quit.step(hart, core), replied) {
+            Lower::Ends(quit) => match quit.step(replied, hart, core) {
                 Came::Waits => Came::Waits,
                 Came::Ran(kind) => Came::Ran(kind),
                 Came::Done((), kind) => {
@@ -160,24 +160,15 @@ impl Lower {
         ensures told { IsHeard result replied.new }
     {
         match self {
-            Lower::Parent(_, txn, _, _, place) => match mem::replace(place, None) {
+            Lower::Parent(_, txn, _, _, place) => match place {
                 Some(store) => match store.step(hart, txn, core) {
-                    Stepped::Waits(store) => {
-                        put(place, store);
-                        Came::Waits
-                    }
-                    Stepped::Ran(store, kind) => {
-                        put(place, store);
-                        Came::Ran(kind)
-                    }
-                    Stepped::Done((), kind) => {
+                    Came::Waits => Came::Waits,
+                    Came::Ran(kind) => Came::Ran(kind),
+                    Came::Done((), kind) => {
                         self.stored_parent();
                         Came::Ran(kind)
                     }
-                    Stepped::Stopped(store) => {
-                        put(place, store);
-                        Came::Stopped
-                    }
+                    Came::Stopped => Came::Stopped,
                 },
                 None => unreachable!(),
             },
@@ -201,24 +192,15 @@ impl Lower {
         ensures told { IsHeard result replied.new }
     {
         match self {
-            Lower::Child(_, txn, _, place) => match mem::replace(place, None) {
+            Lower::Child(_, txn, _, place) => match place {
                 Some(store) => match store.step(hart, txn, core) {
-                    Stepped::Waits(store) => {
-                        put(place, store);
-                        Came::Waits
-                    }
-                    Stepped::Ran(store, kind) => {
-                        put(place, store);
-                        Came::Ran(kind)
-                    }
-                    Stepped::Done((), kind) => {
+                    Came::Waits => Came::Waits,
+                    Came::Ran(kind) => Came::Ran(kind),
+                    Came::Done((), kind) => {
                         self.stored_child();
                         Came::Ran(kind)
                     }
-                    Stepped::Stopped(store) => {
-                        put(place, store);
-                        Came::Stopped
-                    }
+                    Came::Stopped => Came::Stopped,
                 },
                 None => unreachable!(),
             },
@@ -235,8 +217,8 @@ impl Lower {
         match mem::replace(self, Lower::Gone) {
             Lower::Parent(ending, txn, parent, child, store) => {
                 match store {
-                    None => {}
-                    Some(_) => unreachable!(),
+                    Some(store) => store.end(),
+                    None => unreachable!(),
                 }
                 let give = GiveUp::new(parent, &ending.sizes);
                 self.put(Lower::Leaving(ending, txn, child, give));
@@ -272,8 +254,8 @@ impl Lower {
         match mem::replace(self, Lower::Gone) {
             Lower::Child(ending, txn, child, store) => {
                 match store {
-                    None => {}
-                    Some(_) => unreachable!(),
+                    Some(store) => store.end(),
+                    None => unreachable!(),
                 }
                 self.put(Lower::Ends(Quit::with_inode(ending, txn, child)));
             }

@@ -28,7 +28,7 @@ use atomic_programs::machines::{Came, Stepped, put};
 use block_device::Device;
 use call_parts::{
     Answered, Dots, Ending, Held, LastName, OnPath, Quit, Seek, Seen, TakeInode, ending, number_of,
-    stopped, told,
+    stopped,
 };
 use directory::{Change, Found, PutEntry, Search, Searched, Sought, is_directory};
 use fs_layout::Super;
@@ -287,7 +287,7 @@ impl Unlink {
         ensures told { IsHeard result replied.new }
     {
         match self {
-            Unlink::Ends(quit) => match told(quit.step(hart, core), replied) {
+            Unlink::Ends(quit) => match quit.step(replied, hart, core) {
                 Came::Waits => Came::Waits,
                 Came::Ran(kind) => Came::Ran(kind),
                 Came::Done((), kind) => {

@@ -8,14 +8,14 @@ use Rattle.fs_machine.specs.Machines.{P}
 use Rattle.fs_machine.specs.Tied.{bytes_of}
 use Rattle.bitmap_alloc.specs.Programs.{free_block}
 use Rattle.inode_data.specs.Freeing.{free_table}
-use Rattle.inode_data.specs.Truncating.{IsNext, listed_rest, record_rest, clearing_of}
+use Rattle.inode_data.specs.Truncating.{IsNext, listed_rest, record_rest, truncate_of}
 use Rattle.inode_data.proofs.NextFree.{none_next, some_next}
 
 bytes_are : (value now : BufferState) (bytes : List ℕ) → now ≡ value → Some bytes ≡ now.content → bytes ≡ unwrap_or value.content []
 bytes_are value now bytes e is = ap (λ o. unwrap_or o []) (is ∙ ap (λ (b : BufferState). b.content) e)
 
 pub returns-in-None-clause-program : goal.returns-in-None-clause-program
-unfolding clearing_of
+unfolding truncate_of
 returns-in-None-clause-program c =
     let e = c.args.emptying in
     let bytes = bytes_are c.args.table.value c.value.result.now c.bytes.result.now c.value.ensures c.bytes.ensures in
@@ -24,7 +24,7 @@ returns-in-None-clause-program c =
     (subst (λ (b : List ℕ). IsNext (numbers_in b) c.args.from None) bytes next))
 
 pub returns-in-Some-clause-program : goal.returns-in-Some-clause-program
-unfolding clearing_of
+unfolding truncate_of
 returns-in-Some-clause-program c =
     let e = c.args.emptying in
     let i : ℕ = c.in-Some.place in

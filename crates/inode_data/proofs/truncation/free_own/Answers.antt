@@ -6,7 +6,7 @@ use Rattle.fs_machine.specs.Machines.{P}
 use Rattle.bitmap_alloc.specs.Programs.{free_block}
 use Rattle.inode_data.specs.Records.{record_in}
 use Rattle.inode_data.specs.Widths.{direct}
-use Rattle.inode_data.specs.Truncating.{IsNext, own_rest, indirect_rest, clearing_of}
+use Rattle.inode_data.specs.Truncating.{IsNext, own_rest, indirect_rest, truncate_of}
 use Rattle.inode_data.proofs.NextFree.{none_next, some_next}
 use Rattle.inode_data.proofs.truncation.free_own.Goals as goal
 
@@ -17,7 +17,7 @@ returns-in-None-clause-program c =
     c.free_indirect.ensures.program ∙ sym (none_next e.sizes.bmapstart _ c.args.from (indirect_rest e) (subst (λ (d : Dinode). IsNext (take direct d.addrs) c.args.from None) c.record-inode.ensures next))
 
 pub returns-in-Some-clause-program : goal.returns-in-Some-clause-program
-unfolding clearing_of
+unfolding truncate_of
 returns-in-Some-clause-program c =
     let e = c.args.emptying in
     let i : ℕ = c.in-Some.place in

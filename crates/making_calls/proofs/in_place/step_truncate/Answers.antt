@@ -1,8 +1,17 @@
-use Rattle.std.proofs.Common.{◌∙◌, sym}
+use Rattle.std.proofs.Common.{refl, subst, sym}
+use Rattle.sleep_lock.specs.SleepLock.{GuardState}
+use Rattle.fs_tables.specs.declared.inodes.Inode.{Inode}
+use Rattle.fs_machine.specs.Tied.{IsOwnInode}
 use Rattle.inode_data.specs.Truncating.{emptied_of}
-use Rattle.making_calls.proofs.Placing.{own_placed}
+use Rattle.inode_data.specs.Records.{record_in}
+use Rattle.call_parts.proofs.Tails.{own_loaded}
+use Rattle.making_calls.specs.InPlace.{PlacedFits}
 use Rattle.making_calls.proofs.in_place.step_truncate.Goals as goal
 
-pub returns-clause-own : goal.returns-clause-own
-returns-clause-own g c n s own =
-    own_placed emptied_of (λ r. r) c.args.hart n s c.in-Some.truncate c.args.place.now c.put_back.new.place c.step.result c.put_back.result (sym c.replace.ensures.value ∙ c.in-Some.is) c.step.ensures.inode c.put_back.ensures.is own
+pub returns-in-Done-clause-own : goal.returns-in-Done-clause-own
+returns-in-Done-clause-own g c n s own =
+    let h = c.args.hart in
+    let guard : GuardState Inode = emptied_of c.in-Some.truncate in
+    let inode = c.in-Done.inode in
+    let had : IsOwnInode h n guard s = subst (λ place. PlacedFits (λ m. IsOwnInode h n (emptied_of m) s) place) c.in-Some.is own in
+    subst (λ (g : GuardState Inode). IsOwnInode h n g s) (sym c.in-Done.ensures.inode) (own_loaded h n guard guard.value (record_in inode) s refl had)

@@ -19,4 +19,5 @@ returns-in-Done g c =
     record {
       steps = inside_done c.step.ensures.steps (λ _. tail_for e) (ap quit_of c.in-Giving.is) c.in-Done.field-0 c.in-Done.kind c.in-Done.is c.gave.ensures.program
           (λ _. c.gave.ensures.fits h new (c.step.ensures.kept ∙ had.1));
+      told = c.requires.none;
     }

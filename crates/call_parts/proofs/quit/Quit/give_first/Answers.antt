@@ -22,7 +22,7 @@ returns-in-Waits g c =
     let came = stepped_at step.new.self step.result in
     let had = two_on h (s c.args.core.now) (s step.new.core) c.args.self.now e c.in-Two.txn step.new.txn second c.in-Two.give came c.in-Two.is c.requires.fits step.ensures.kept step.ensures.rest step.ensures.steps.fits in
     let left : GiveFits h (s step.new.core) step.new.self × GiveApart second.reference step.new.self = left_waits (λ m. GiveFits h (s step.new.core) m × GiveApart second.reference m) (λ _. Unit {0}) step.new.self step.result had.3 c.in-Waits.is in
-    record { steps = inside_waits step.ensures.steps (λ _. quit e.sizes (inode_in second ∷ []) e.list e.reply) (ap quit_of c.in-Two.is) c.in-Waits.is refl (λ fits. (had.0, had.1, had.2, left.0, left.1)) }
+    record { steps = inside_waits step.ensures.steps (λ _. quit e.sizes (inode_in second ∷ []) e.list e.reply) (ap quit_of c.in-Two.is) c.in-Waits.is refl (λ fits. (had.0, had.1, had.2, left.0, left.1)); told = c.requires.none }
 
 pub returns-in-Ran : goal.returns-in-Ran
 unfolding quit_of QuitFits
@@ -35,7 +35,7 @@ returns-in-Ran g c =
     let came = stepped_at step.new.self step.result in
     let had = two_on h (s c.args.core.now) (s step.new.core) c.args.self.now e c.in-Two.txn step.new.txn second c.in-Two.give came c.in-Two.is c.requires.fits step.ensures.kept step.ensures.rest step.ensures.steps.fits in
     let left : GiveFits h (s step.new.core) step.new.self × GiveApart second.reference step.new.self = left_ran (λ m. GiveFits h (s step.new.core) m × GiveApart second.reference m) (λ _. Unit {0}) step.new.self step.result had.3 c.in-Ran.kind c.in-Ran.is in
-    record { steps = inside_ran step.ensures.steps (λ _. quit e.sizes (inode_in second ∷ []) e.list e.reply) (ap quit_of c.in-Two.is) c.in-Ran.kind c.in-Ran.is refl (λ fits. (had.0, had.1, had.2, left.0, left.1)) }
+    record { steps = inside_ran step.ensures.steps (λ _. quit e.sizes (inode_in second ∷ []) e.list e.reply) (ap quit_of c.in-Two.is) c.in-Ran.kind c.in-Ran.is refl (λ fits. (had.0, had.1, had.2, left.0, left.1)); told = c.requires.none }
 
 pub returns-in-Done : goal.returns-in-Done
 unfolding quit_of QuitFits
@@ -47,7 +47,7 @@ returns-in-Done g c =
     let step = c.step in
     let came = stepped_at step.new.self step.result in
     let had = two_on h (s c.args.core.now) (s step.new.core) c.args.self.now e c.in-Two.txn step.new.txn second c.in-Two.give came c.in-Two.is c.requires.fits step.ensures.kept step.ensures.rest step.ensures.steps.fits in
-    record { steps = inside_done step.ensures.steps (λ _. quit e.sizes (inode_in second ∷ []) e.list e.reply) (ap quit_of c.in-Two.is) c.in-Done.field-0 c.in-Done.kind c.in-Done.is c.gave_first.ensures.program (λ _. c.gave_first.ensures.fits h (s step.new.core) (had.1, had.2)) }
+    record { steps = inside_done step.ensures.steps (λ _. quit e.sizes (inode_in second ∷ []) e.list e.reply) (ap quit_of c.in-Two.is) c.in-Done.field-0 c.in-Done.kind c.in-Done.is c.gave_first.ensures.program (λ _. c.gave_first.ensures.fits h (s step.new.core) (had.1, had.2)); told = c.requires.none }
 
 pub returns-in-Stopped : goal.returns-in-Stopped
 unfolding quit_of QuitFits
@@ -60,4 +60,4 @@ returns-in-Stopped g c =
     let came = stepped_at step.new.self step.result in
     let had = two_on h (s c.args.core.now) (s step.new.core) c.args.self.now e c.in-Two.txn step.new.txn second c.in-Two.give came c.in-Two.is c.requires.fits step.ensures.kept step.ensures.rest step.ensures.steps.fits in
     let left : GiveFits h (s step.new.core) step.new.self × GiveApart second.reference step.new.self = left_stopped (λ m. GiveFits h (s step.new.core) m × GiveApart second.reference m) (λ _. Unit {0}) step.new.self step.result had.3 c.in-Stopped.is in
-    record { steps = inside_stopped step.ensures.steps (λ _. quit e.sizes (inode_in second ∷ []) e.list e.reply) (ap quit_of c.in-Two.is) c.in-Stopped.is refl (λ fits. (had.0, had.1, had.2, left.0, left.1)) }
+    record { steps = inside_stopped step.ensures.steps (λ _. quit e.sizes (inode_in second ∷ []) e.list e.reply) (ap quit_of c.in-Two.is) c.in-Stopped.is refl (λ fits. (had.0, had.1, had.2, left.0, left.1)); told = c.requires.none }

@@ -21,4 +21,5 @@ returns g c =
     record {
       steps = ran_at (Unlock inode.value None) (λ _. tail_for e) tt (ap quit_of (sym c.in-Unlock.ensures.value)) (c.unlock.ensures.ran Passes) tt (ap quit_of c.put.ensures ∙ c.with_nothing.ensures.program)
           (subst (λ m. QuitFits h new m) (sym c.put.ensures) (c.with_nothing.ensures.fits h new had.1)) c.unlock.ensures.others (inl (ap (λ l. l.cache.device) c.unlock.ensures.log));
+      told = c.requires.none;
     }

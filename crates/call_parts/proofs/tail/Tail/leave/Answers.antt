@@ -15,4 +15,5 @@ returns-in-Done g c =
       steps = by_done finish_of (λ x. x) c.in-Some.finish (λ _. rest_of c.in-Leaving.field-0) (ap tail_of is) (FinishFits c.args.hart) (λ _. Unit {0}) c.step.result
           (record { moves = c.step.ensures.moves; honest = c.step.ensures.honest; still = c.step.ensures.still; others = c.step.ensures.others; called = c.step.ensures.called }) c.step.ensures.fits
           c.in-Done.field-0 c.in-Done.kind c.in-Done.is c.left.ensures.0 (λ _. c.left.ensures.1 c.args.hart new tt);
+      told = c.requires.none;
     }

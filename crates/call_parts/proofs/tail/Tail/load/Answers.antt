@@ -24,4 +24,5 @@ returns-in-Done g c =
       steps = by_done load_of (λ d. d) c.in-Some.load (free_loaded e n) (ap tail_of is) (LoadFits h new) (λ _. Unit {0}) c.step.result
           (record { moves = c.step.ensures.moves; honest = c.step.ensures.honest; still = c.step.ensures.still; others = c.step.ensures.others; called = c.step.ensures.called }) c.step.ensures.fits
           c.in-Done.inode c.in-Done.kind c.in-Done.is c.loaded.ensures.0 (λ _. c.loaded.ensures.1 h new (had.1, own_on h n guard old new c.step.ensures.tables had.2));
+      told = c.requires.none;
     }

@@ -20,4 +20,5 @@ returns-in-Some g c =
     record {
       steps = ran_at (Lock n) (free_locked e.sizes n (rest_of e)) c.in-Some.guard.value.content (ap tail_of c.in-Lock.is) (c.in-Some.ensures.ran Passes) tt c.locked.ensures.0
           (c.locked.ensures.1 h new (had.1, c.in-Some.ensures.own)) c.lock.ensures.others (inl (ap (λ l. l.cache.device) c.lock.ensures.log));
+      told = c.requires.none;
     }

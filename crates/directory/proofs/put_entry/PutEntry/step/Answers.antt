@@ -7,4 +7,4 @@ pub returns-in-Storing-clause-moves : goal.returns-in-Storing-clause-moves
 returns-in-Storing-clause-moves g c =
     let s = state_of g.D.Device.contents g.D.Device.failures in
     rw (c.in-Storing.is, c.storing.ensures)
-    (store_moves (entry_of c.args.change) c.in-Storing.at c.args.hart c.in-Storing.store c.step-in-Storing.result (s c.args.core.now) (s c.step-in-Storing.new.core) c.step-in-Storing.ensures.moves)
+    (store_moves (entry_of c.args.change) c.in-Storing.at c.args.hart c.in-Storing.store c.go_on.result (s c.args.core.now) (s c.go_on.new.core) c.go_on.ensures.moves)
