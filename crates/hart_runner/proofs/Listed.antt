@@ -3,7 +3,7 @@ use Rattle.std.proofs.Common.{ℕ, ◌≡◌, ◌≢◌, ◌<◌, ◌≤◌, ◌
 use Rattle.std.proofs.lemmas.List.{length-map, take_all, get_or-map}
 use Rattle.std.proofs.lemmas.List.Elements.{All-more, Contains-get_or}
 use Rattle.locked_world.specs.Kept.{StoredRun, replies_of}
-use Rattle.hart_runner.specs.Seats.{SeatV, KeptV, kept_view, kept_of, IsListed, OneDiffers, Differs}
+use Rattle.hart_runner.specs.Seats.{SeatV, kept_view, kept_of, IsListed, OneDiffers, Differs}
 use Rattle.hart_runner.specs.declared.kernel.Kept.{Kept}
 
 at : (xs : List Kept) (i : ℕ) (x : Kept) → i < length xs → x ≡ slice_index_or xs i x → slice_index_or (map kept_view xs) i (kept_view x) ≡ kept_view x

@@ -1,4 +1,4 @@
-use Rattle.std.proofs.Common.{◌≡◌, ◌<◌, ◌≤◌, All, take, map}
+use Rattle.std.proofs.Common.{All, take, map}
 use Rattle.hart_runner.specs.Seats.{kept_view, IsListed}
 use Rattle.hart_runner.proofs.kernel.first_strange.Given as goal
 
