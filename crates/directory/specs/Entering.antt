@@ -60,7 +60,7 @@ enter sizes n d m name = enter_bytes sizes n d (spell_dirent (Used m name))
 
 unfoldable pub enter_of : Enter → P EnteredState
 enter_of (entering.Searching e m) = bind (search_of Unused m) (enter_at e.sizes (inode_of m).value.number (record_in (inode_of m)) e.entry)
-enter_of (entering.Writing e slot m) = bind (write_of e.entry m) (entered_by slot)
+enter_of (entering.Writing p m) = bind (write_of p.entry m) (entered_by p.slot)
 enter_of entering.Gone = Ret (record { inode = no_record; room = NoSlot })
 
 -- what the result stands for
@@ -75,13 +75,13 @@ pub record IsEntering (e : Entering) (n : ℕ) : Type 0 where
 -- its guards go with the state
 unfoldable pub EnterFits : ℕ → State → Enter → Type 0
 EnterFits hart s (entering.Searching e m) = IsEntering e (inode_of m).value.number × IsSome (inode_of m).value.content × SearchFits hart s m
-EnterFits hart s (entering.Writing e slot m) = (slot < most_slots) × WriteFits hart e.entry s m
+EnterFits hart s (entering.Writing p m) = (p.slot < most_slots) × WriteFits hart p.entry s m
 EnterFits hart s entering.Gone = ⊥
 
 -- the inode's guard
 abbrev pub enterer_of : Enter → GuardState Inode
 enterer_of (entering.Searching e m) = inode_of m
-enterer_of (entering.Writing e slot m) = writer_of m
+enterer_of (entering.Writing p m) = writer_of m
 enterer_of entering.Gone = writer_of writing.Gone
 
 -- the end of the writing, as that of the entering
@@ -97,13 +97,13 @@ IsSearching _ = ⊥
 
 -- the slot is written
 abbrev pub IsWritingSlot : Enter → Type 0
-IsWritingSlot (entering.Writing e slot m) = Unit {0}
+IsWritingSlot (entering.Writing p m) = Unit {0}
 IsWritingSlot _ = ⊥
 
 abbrev pub HasWritten : Enter → Type 0
-HasWritten (entering.Writing e slot m) = (slot < most_slots) × (m ≡ writing.Gone)
+HasWritten (entering.Writing p m) = (p.slot < most_slots) × (m ≡ writing.Gone)
 HasWritten _ = ⊥
 
 abbrev pub WrittenAs : PartWritten → Enter → Entered → Type 0
-WrittenAs r (entering.Writing e slot m) entered = entered ≡ slot_written slot r
+WrittenAs r (entering.Writing p m) entered = entered ≡ slot_written p.slot r
 WrittenAs r _ entered = Unit {0}

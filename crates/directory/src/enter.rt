@@ -45,6 +45,13 @@ pub struct Entering {
     pub sizes: Super,
 }
 
+/// A name on its way into a slot: its entry, and the slot's place.
+#[derive(Drop, Clone, Copy)]
+pub struct Placing {
+    pub entry: [u8; DIRENT_LEN],
+    pub slot: usize,
+}
+
 /// Whether there was room for a name.
 #[derive(Clone, Copy, PartialEq, Eq, Debug)]
 pub enum Room {
@@ -68,7 +75,7 @@ pub enum Enter {
     /// A free slot is sought.
     Searching(Entering, Search),
     /// This slot is written.
-    Writing(Entering, usize, WritePart),
+    Writing(Placing, WritePart),
     /// It has ended, or is being changed.
     Gone,
 }
@@ -122,7 +129,7 @@ impl Enter {
         // With `return` a result is copied once.
         match self {
             Enter::Searching(_, _) => return self.search(hart, core),
-            Enter::Writing(_, _, _) => return self.write(hart, txn, core),
+            Enter::Writing(_, _) => return self.write(hart, txn, core),
             Enter::Gone => unreachable!(),
         }
     }
@@ -163,8 +170,8 @@ impl Enter {
         ensures tables { core.new.tables ≡ core.old.tables }
     {
         match self {
-            Enter::Writing(entering, _, part) => {
-                match part.step(hart, txn, &entering.entry, core) {
+            Enter::Writing(placing, part) => {
+                match part.step(hart, txn, &placing.entry, core) {
                     Came::Waits => Came::Waits,
                     Came::Ran(kind) => Came::Ran(kind),
                     Came::Done(written, kind) => Came::Done(self.written(written), kind),
@@ -182,12 +189,12 @@ impl Enter {
         ensures ended { self.new ≡ enters.Gone }
     {
         match mem::replace(self, Enter::Gone) {
-            Enter::Writing(_, slot, part) => {
+            Enter::Writing(placing, part) => {
                 match part {
                     WritePart::Gone => {}
                     _ => unreachable!(),
                 }
-                slot_written(slot, written)
+                slot_written(placing.slot, written)
             }
             _ => unreachable!(),
         }
@@ -230,7 +237,7 @@ impl Enter {
     pub fn retire(self, retired: &RetiredCore) {
         match self {
             Enter::Searching(_, search) => search.retire(retired),
-            Enter::Writing(_, _, part) => part.retire(retired),
+            Enter::Writing(_, part) => part.retire(retired),
             Enter::Gone => {}
         }
     }
@@ -275,11 +282,12 @@ fn place(entering: Entering, searched: Searched) -> Begun<Enter, Entered>
         });
     }
     let at = (DIRENT_LEN * slot) as u32;
-    Begun::Runs(Enter::Writing(
-        entering,
+    let part = WritePart::begin(inode, &entering.sizes, at, DIRENT_LEN);
+    let placing = Placing {
+        entry: entering.entry,
         slot,
-        WritePart::begin(inode, &entering.sizes, at, DIRENT_LEN),
-    ))
+    };
+    Begun::Runs(Enter::Writing(placing, part))
 }
 
 // One operation while a free slot is sought.

@@ -230,10 +230,10 @@ has_locate h s locating.Gone fits = absurd fits
 has_write : (h : ℕ) (bytes : List ℕ) (s : State) (m : WritePart) → WriteFits h bytes s m → HasOne (write_of bytes m)
 unfolding write_of WriteFits
 has_write h bytes s (writing.Locating w m) fits = first (locate_of m) _ (has_locate h s m fits.2)
-has_write h bytes s (writing.Fetching w (Some f)) fits = first (fetch_of f) _ (has_fetch f)
-has_write h bytes s (writing.Fetching w None) fits = absurd fits
-has_write h bytes s (writing.There w guard) fits = tt
-has_write h bytes s (writing.Storing w m) fits = first (store_of m) _ (has_store h s m fits.1)
+has_write h bytes s (writing.Fetching w d (Some f)) fits = first (fetch_of f) _ (has_fetch f)
+has_write h bytes s (writing.Fetching w d None) fits = absurd fits
+has_write h bytes s (writing.There w d guard) fits = tt
+has_write h bytes s (writing.Storing inode d upto m) fits = first (store_of m) _ (has_store h s m fits)
 has_write h bytes s writing.Gone fits = absurd fits
 
 has_numbers : {A : Type 0} (bitmap : ℕ) (bs : List ℕ) (after : P A) → HasOne after → HasOne (free_numbers bitmap bs after)
@@ -471,7 +471,7 @@ has_new (making_inode.GiveBack l guard) = tt
 has_enter : (h : ℕ) (s : State) (m : Enter) → EnterFits h s m → HasOne (enter_of m)
 unfolding enter_of EnterFits
 has_enter h s (entering.Searching e m) fits = first (search_of Unused m) _ (has_search Unused m)
-has_enter h s (entering.Writing e slot m) fits = first (write_of _ m) _ (has_write h _ s m fits.1)
+has_enter h s (entering.Writing p m) fits = first (write_of _ m) _ (has_write h _ s m fits.1)
 has_enter h s entering.Gone fits = absurd fits
 
 has_make : (e : Name) (h : ℕ) (s : State) (m : Make) → MakeFits h s m → HasOne (make_of e m)

@@ -196,10 +196,10 @@ module _ (h g : ℕ) (s t : State) (other : h ≢ g) (leaves : LeavesTied g s t)
   writes : (bytes : List ℕ) (m : WritePart) → WriteFits h bytes s m → WriteFits h bytes t m
   unfolding WriteFits
   writes bytes (writing.Locating w m) fits = (fits.0, fits.1, locates m fits.2)
-  writes bytes (writing.Fetching w (Some f)) fits = (fits.0, fits.1, fetch f fits.2)
-  writes bytes (writing.Fetching w None) fits = absurd fits
-  writes bytes (writing.There w guard) fits = (fits.0, fits.1, is_fetched _ guard fits.2)
-  writes bytes (writing.Storing w m) fits = (fits.0, store m fits.1)
+  writes bytes (writing.Fetching w d (Some f)) fits = (fits.0, fits.1, fetch f fits.2)
+  writes bytes (writing.Fetching w d None) fits = absurd fits
+  writes bytes (writing.There w d guard) fits = (fits.0, fits.1, is_fetched _ guard fits.2)
+  writes bytes (writing.Storing inode d upto m) fits = store m fits
   writes bytes writing.Gone fits = absurd fits
 
   truncates : (m : Truncate) → TruncateFits h s m → TruncateFits h t m
@@ -434,7 +434,7 @@ module _ (h g : ℕ) (s t : State) (other : h ≢ g) (leaves : LeavesTied g s t)
   enters : (m : Enter) → EnterFits h s m → EnterFits h t m
   unfolding EnterFits
   enters (entering.Searching e m) fits = (fits.0, fits.1, searches m fits.2)
-  enters (entering.Writing e slot m) fits = (fits.0, writes _ m fits.1)
+  enters (entering.Writing p m) fits = (fits.0, writes _ m fits.1)
   enters entering.Gone fits = absurd fits
 
   is_making : (m : Making) → IsMaking h m s → IsMaking h m t

@@ -14,7 +14,7 @@ use Rattle.inode_table.specs.Programs.{inode_block, no_record}
 use Rattle.inode_table.specs.Machines.{store_of, StoreFits}
 use Rattle.inode_data.specs.Widths.{most_blocks}
 use Rattle.inode_data.specs.Records.{record_in, with_record}
-use Rattle.inode_data.specs.Writing.{WriteResult, front_of, put_part, write_located, write_blocks, grown, store_written}
+use Rattle.inode_data.specs.Writing.{WriteResult, front_of, put_part, write_located, write_blocks, store_written}
 use Rattle.inode_data.specs.Locating.{locate_of, LocateFits}
 use Rattle.inode_data.specs.declared.location.Located.{Located}
 use Rattle.inode_data.specs.declared.location.Locate.TheVariants as locating
@@ -31,9 +31,9 @@ bytes_left w bytes = drop w.done bytes
 abbrev pub next_count : Writing → List ℕ → ℕ
 next_count w bytes = length (front_of w.at (bytes_left w bytes))
 
--- what was written so far
-abbrev pub written_so : Writing → WriteResult
-written_so w = record { inode = w.so_far; upto = w.at }
+-- what was written so far, where the inode's record is so
+abbrev pub written_so : Dinode → Writing → WriteResult
+written_so d w = record { inode = d; upto = w.at }
 
 -- the blocks behind the next one, where the inode is so
 abbrev pub blocks_behind : Writing → List ℕ → Dinode → P WriteResult
@@ -43,20 +43,21 @@ blocks_behind w bytes d = write_blocks w.left w.sizes (w.at + next_count w bytes
 abbrev pub stored : Writing → WriteResult → P WriteResult
 stored w written = store_written w.sizes w.inode.value.number written
 
--- all that is left, where so many blocks are
-abbrev pub write_rest : Writing → List ℕ → P WriteResult
-write_rest w bytes = bind (write_blocks w.left w.sizes w.at (bytes_left w bytes) w.so_far) (stored w)
+-- all that is left, where so many blocks are, and the inode is so
+abbrev pub write_rest : Writing → Dinode → List ℕ → P WriteResult
+write_rest w d bytes = bind (write_blocks w.left w.sizes w.at (bytes_left w bytes) d) (stored w)
 
 -- the next block was sought
 abbrev pub after_location : Writing → List ℕ → Located → P WriteResult
 after_location w bytes l = bind (write_located (blocks_behind w bytes) w.at (bytes_left w bytes) l) (stored w)
 
 -- its buffer is there
-abbrev pub after_fetch : Writing → List ℕ → ℕ → List ℕ → P WriteResult
-after_fetch w bytes b block = bind (put_part (blocks_behind w bytes w.so_far) b w.at (bytes_left w bytes) block) (stored w)
+abbrev pub after_fetch : Writing → Dinode → List ℕ → ℕ → List ℕ → P WriteResult
+after_fetch w d bytes b block = bind (put_part (blocks_behind w bytes d) b w.at (bytes_left w bytes) block) (stored w)
 
-abbrev pub give_written : Writing → Unit {0} → P WriteResult
-give_written w _ = Ret (record { inode = grown (written_so w); upto = w.at })
+-- the record was stored
+abbrev pub give_written : Dinode → ℕ → Unit {0} → P WriteResult
+give_written d upto _ = Ret (record { inode = d; upto = upto })
 
 -- that of nothing
 abbrev pub no_writing : P WriteResult
@@ -64,10 +65,10 @@ no_writing = Ret (record { inode = no_record; upto = 0 })
 
 unfoldable pub write_of : List ℕ → WritePart → P WriteResult
 write_of bytes (writing.Locating w m) = bind (locate_of m) (after_location w bytes)
-write_of bytes (writing.Fetching w (Some f)) = bind (fetch_of f) (after_fetch w bytes (block_of f))
-write_of bytes (writing.Fetching w None) = no_writing
-write_of bytes (writing.There w guard) = after_fetch w bytes guard.value.block (bytes_of guard)
-write_of bytes (writing.Storing w m) = bind (store_of m) (give_written w)
+write_of bytes (writing.Fetching w d (Some f)) = bind (fetch_of f) (after_fetch w d bytes (block_of f))
+write_of bytes (writing.Fetching w d None) = no_writing
+write_of bytes (writing.There w d guard) = after_fetch w d bytes guard.value.block (bytes_of guard)
+write_of bytes (writing.Storing inode d upto m) = bind (store_of m) (give_written d upto)
 write_of bytes writing.Gone = no_writing
 
 -- what the result stands for
@@ -83,16 +84,15 @@ pub record IsWriting (count : ℕ) (w : Writing) : Type 0 where
 -- its guards go with the state
 unfoldable pub WriteFits : ℕ → List ℕ → State → WritePart → Type 0
 WriteFits hart bytes s (writing.Locating w m) = IsWriting (w.left + 1) w × (w.done ≤ length bytes) × LocateFits hart s m
-WriteFits hart bytes s (writing.Fetching w (Some f)) = IsWriting (w.left + 1) w × (w.done ≤ length bytes) × FetchFits hart s f
-WriteFits hart bytes s (writing.Fetching w None) = ⊥
-WriteFits hart bytes s (writing.There w guard) = IsWriting (w.left + 1) w × (w.done ≤ length bytes) × IsFetched hart guard.value.block guard s
-WriteFits hart bytes s (writing.Storing w m) = IsWriting 0 w × StoreFits hart s m
+WriteFits hart bytes s (writing.Fetching w d (Some f)) = IsWriting (w.left + 1) w × (w.done ≤ length bytes) × FetchFits hart s f
+WriteFits hart bytes s (writing.Fetching w d None) = ⊥
+WriteFits hart bytes s (writing.There w d guard) = IsWriting (w.left + 1) w × (w.done ≤ length bytes) × IsFetched hart guard.value.block guard s
+WriteFits hart bytes s (writing.Storing inode d upto m) = StoreFits hart s m
 WriteFits hart bytes s writing.Gone = ⊥
 
 -- the next block was written
 pub record IsPast (w : Writing) (bytes : List ℕ) (next : Writing) : Type 0 where
   pub inode : next.inode ≡ w.inode
-  pub so_far : next.so_far ≡ w.so_far
   pub sizes : next.sizes ≡ w.sizes
   pub at : next.at ≡ w.at + next_count w bytes
   pub done : next.done ≡ w.done + next_count w bytes
@@ -106,14 +106,14 @@ no_guard = record { number = 0; hart = 0; value = record { number = 0; content =
 
 abbrev pub writer_of : WritePart → GuardState Inode
 writer_of (writing.Locating w m) = w.inode
-writer_of (writing.Fetching w f) = w.inode
-writer_of (writing.There w guard) = w.inode
-writer_of (writing.Storing w m) = w.inode
+writer_of (writing.Fetching w d f) = w.inode
+writer_of (writing.There w d guard) = w.inode
+writer_of (writing.Storing inode d upto m) = inode
 writer_of writing.Gone = no_guard
 
--- the writing's end
-abbrev pub finished : Writing → PartWritten
-finished w = record { inode = with_record (grown (written_so w)) w.inode; upto = w.at }
+-- the writing's end, with the record that was stored
+abbrev pub finished : GuardState Inode → Dinode → ℕ → PartWritten
+finished inode d upto = record { inode = with_record d inode; upto = upto }
 
 -- ---- from one state to the next
 
@@ -139,31 +139,31 @@ FoundTo l _ next = Unit {0}
 
 -- it is fetched
 abbrev pub IsFetching : WritePart → Type 0
-IsFetching (writing.Fetching w f) = Unit {0}
+IsFetching (writing.Fetching w d f) = Unit {0}
 IsFetching _ = ⊥
 
 abbrev pub HasFetched : WritePart → Type 0
-HasFetched (writing.Fetching w f) = f ≡ None
+HasFetched (writing.Fetching w d f) = f ≡ None
 HasFetched _ = ⊥
 
 abbrev pub fetched_in : GuardState BufferState → WritePart → WritePart
-fetched_in guard (writing.Fetching w f) = writing.There w guard
+fetched_in guard (writing.Fetching w d f) = writing.There w d guard
 fetched_in guard _ = writing.Gone
 
 -- it is there
 abbrev pub IsThere : WritePart → Type 0
-IsThere (writing.There w guard) = Unit {0}
+IsThere (writing.There w d guard) = Unit {0}
 IsThere _ = ⊥
 
 -- the inode is stored
 abbrev pub IsStoring : WritePart → Type 0
-IsStoring (writing.Storing w m) = Unit {0}
+IsStoring (writing.Storing inode d upto m) = Unit {0}
 IsStoring _ = ⊥
 
 abbrev pub HasStored : WritePart → Type 0
-HasStored (writing.Storing w m) = IsWriting 0 w × (m ≡ storing.Gone)
+HasStored (writing.Storing inode d upto m) = m ≡ storing.Gone
 HasStored _ = ⊥
 
 abbrev pub StoredAs : WritePart → PartWritten → Type 0
-StoredAs (writing.Storing w m) r = r ≡ finished w
+StoredAs (writing.Storing inode d upto m) r = r ≡ finished inode d upto
 StoredAs _ r = Unit {0}

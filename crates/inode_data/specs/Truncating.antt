@@ -60,8 +60,8 @@ listed_next e table i _ = listed_rest e table (i + 1)
 abbrev pub table_next : Emptying → Unit {0} → P Dinode
 table_next e _ = record_rest e
 
-abbrev pub record_next : Emptying → Unit {0} → P Dinode
-record_next e _ = Ret (without_content (record_in e.inode))
+abbrev pub record_next : GuardState Inode → Unit {0} → P Dinode
+record_next inode _ = Ret (without_content (record_in inode))
 
 -- that of nothing
 abbrev pub no_emptying : P Dinode
@@ -77,7 +77,7 @@ truncate_of (emptying.Listed e table i None) = no_emptying
 truncate_of (emptying.GiveBack e table) = free_table e.sizes.bmapstart table.value.block (record_rest e)
 truncate_of (emptying.Table e (Some m)) = bind (free_of m) (table_next e)
 truncate_of (emptying.Table e None) = no_emptying
-truncate_of (emptying.Record e m) = bind (store_of m) (record_next e)
+truncate_of (emptying.Record inode m) = bind (store_of m) (record_next inode)
 truncate_of emptying.Gone = no_emptying
 
 -- the inode is loaded, and its block has a number
@@ -96,7 +96,7 @@ TruncateFits hart s (emptying.Listed e table i None) = ⊥
 TruncateFits hart s (emptying.GiveBack e table) = IsEmptying e × IsFetched hart table.value.block table s
 TruncateFits hart s (emptying.Table e (Some m)) = IsEmptying e × FreeFits hart s m
 TruncateFits hart s (emptying.Table e None) = ⊥
-TruncateFits hart s (emptying.Record e m) = IsEmptying e × StoreFits hart s m
+TruncateFits hart s (emptying.Record inode m) = IsSome inode.value.content × StoreFits hart s m
 TruncateFits hart s emptying.Gone = ⊥
 
 -- the inode's guard
@@ -106,7 +106,7 @@ emptied_of (emptying.Indirect e f) = e.inode
 emptied_of (emptying.Listed e table i m) = e.inode
 emptied_of (emptying.GiveBack e table) = e.inode
 emptied_of (emptying.Table e m) = e.inode
-emptied_of (emptying.Record e m) = e.inode
+emptied_of (emptying.Record inode m) = inode
 emptied_of emptying.Gone = record { number = 0; hart = 0; value = record { number = 0; content = None } }
 
 -- ---- from one state to the next
@@ -178,13 +178,13 @@ FreedTableTo _ next = Unit {0}
 
 -- the record is stored
 abbrev pub IsRecord : Truncate → Type 0
-IsRecord (emptying.Record e m) = Unit {0}
+IsRecord (emptying.Record inode m) = Unit {0}
 IsRecord _ = ⊥
 
 abbrev pub HasStored : Truncate → Type 0
-HasStored (emptying.Record e m) = IsEmptying e × (m ≡ storing.Gone)
+HasStored (emptying.Record inode m) = IsSome inode.value.content × (m ≡ storing.Gone)
 HasStored _ = ⊥
 
 abbrev pub StoredAs : Truncate → GuardState Inode → Type 0
-StoredAs (emptying.Record e m) guard = guard ≡ with_record (without_content (record_in e.inode)) e.inode
+StoredAs (emptying.Record inode m) guard = guard ≡ with_record (without_content (record_in inode)) inode
 StoredAs _ guard = Unit {0}

@@ -59,7 +59,7 @@ pub enum Truncate {
     /// The indirect block itself is given back.
     Table(Emptying, Option<FreeBlock>),
     /// The record is stored.
-    Record(Emptying, StoreInode),
+    Record(Guard<Inode>, StoreInode),
     /// It has ended, or is being changed.
     Gone,
 }
@@ -407,9 +407,9 @@ impl Truncate {
         ensures ended { self.new ≡ emptying.Gone }
     {
         match mem::replace(self, Truncate::Gone) {
-            Truncate::Record(emptying, store) => {
+            Truncate::Record(inode, store) => {
                 store.end();
-                emptied(emptying)
+                emptied(inode)
             }
             _ => unreachable!(),
         }
@@ -448,8 +448,8 @@ impl Truncate {
                 emptying.retire(retired);
                 table.retire_in_row(&retired.buffers);
             }
-            Truncate::Record(emptying, store) => {
-                emptying.retire(retired);
+            Truncate::Record(inode, store) => {
+                inode.retire_in_row(&retired.inodes);
                 store.retire(retired);
             }
             Truncate::Gone => {}
@@ -565,7 +565,8 @@ fn store_record(emptying: Emptying) -> Truncate
     let inode = without(record(&emptying.inode));
     let number = emptying.inode.value().number;
     let store = StoreInode::new(emptying.sizes.inodestart, number, inode);
-    Truncate::Record(emptying, store)
+    let Emptying { inode, sizes: _ } = emptying;
+    Truncate::Record(inode, store)
 }
 
 // A record without a content.
@@ -580,11 +581,10 @@ fn without(inode: Dinode) -> Dinode
 }
 
 // The inode's guard with the record that was stored.
-fn emptied(emptying: Emptying) -> Guard<Inode>
-    requires { IsSome emptying.inode.value.content }
-    ensures { result ≡ with_record (without_content (record_in emptying.inode)) emptying.inode }
+fn emptied(inode: Guard<Inode>) -> Guard<Inode>
+    requires { IsSome inode.value.content }
+    ensures { result ≡ with_record (without_content (record_in inode)) inode }
 {
-    let Emptying { inode, sizes: _ } = emptying;
     let mut inode = inode;
     let stored = without(record(&inode));
     inode.value_mut().content = Some(stored);

@@ -14,7 +14,7 @@ ghost use Rattle.inode_table.specs.Programs.{inode_block};
 ghost use Rattle.inode_data.specs.Widths.{most_bytes};
 ghost use Rattle.inode_data.specs.Records.{record_in, with_record};
 ghost use Rattle.inode_data.specs.Writing.{grown, with_part, write_part};
-ghost use Rattle.inode_data.specs.PartWriting.{after_location, finished, fetched_in, stored, write_of, write_rest, writer_of, written_of, written_so, FoundTo, HasFetched, HasLocated, HasStored, IsFetching, IsLocating, IsPast, IsStoring, IsThere, IsWriting, StoredAs, WriteFits};
+ghost use Rattle.inode_data.specs.PartWriting.{after_location, fetched_in, stored, write_of, write_rest, writer_of, written_of, written_so, FoundTo, HasFetched, HasLocated, HasStored, IsFetching, IsLocating, IsPast, IsStoring, IsThere, IsWriting, StoredAs, WriteFits};
 ghost use Rattle.inode_data.specs.declared.write_part.WritePart.TheVariants as writing;
 
 use crate::begun::Begun;
@@ -37,8 +37,6 @@ use std::mem;
 /// What a writing has in hand: the inode, whose lock its hart has, and how far it is.
 pub struct Writing {
     pub inode: Guard<Inode>,
-    /// The inode's record so far, with the blocks that were taken.
-    pub so_far: Dinode,
     /// The superblock of its disk.
     pub sizes: Super,
     /// At this offset of the content it goes on.
@@ -62,11 +60,11 @@ pub enum WritePart {
     /// The next block is sought, and taken where it is missing.
     Locating(Writing, Locate),
     /// It is fetched.
-    Fetching(Writing, Option<Fetch>),
+    Fetching(Writing, Dinode, Option<Fetch>),
     /// It is there.
-    There(Writing, Guard<Buffer>),
-    /// The inode is stored.
-    Storing(Writing, StoreInode),
+    There(Writing, Dinode, Guard<Buffer>),
+    /// The inode is stored: up to this offset the bytes were written.
+    Storing(Guard<Inode>, Dinode, usize, StoreInode),
     /// It has ended, or is being changed.
     Gone,
 }
@@ -76,7 +74,6 @@ impl Writing {
     fn retire(self, retired: &RetiredCore) {
         let Writing {
             inode,
-            so_far: _,
             sizes: _,
             at: _,
             done: _,
@@ -99,14 +96,14 @@ impl WritePart {
     {
         let so_far = record(&inode);
         let at = offset as usize;
-        next(Writing {
+        let writing = Writing {
             inode,
-            so_far,
             sizes: *sizes,
             at,
             done: 0,
             left: blocks(at, at + count),
-        })
+        };
+        next(writing, &so_far)
     }
 
     /// One operation, in its place.
@@ -129,9 +126,9 @@ impl WritePart {
         // With `return` a result is copied once.
         match self {
             WritePart::Locating(_, _) => return self.locate(hart, txn, bytes, core),
-            WritePart::Fetching(_, _) => return self.fetch(hart, bytes, core),
-            WritePart::There(_, _) => return self.write(hart, txn, bytes, core),
-            WritePart::Storing(_, _) => return self.store(hart, txn, bytes, core),
+            WritePart::Fetching(_, _, _) => return self.fetch(hart, bytes, core),
+            WritePart::There(_, _, _) => return self.write(hart, txn, bytes, core),
+            WritePart::Storing(_, _, _, _) => return self.store(hart, txn, bytes, core),
             WritePart::Gone => unreachable!(),
         }
     }
@@ -184,7 +181,7 @@ impl WritePart {
         ensures tables { core.new.tables ≡ core.old.tables }
     {
         match self {
-            WritePart::Fetching(_, place) => match mem::replace(place, None) {
+            WritePart::Fetching(_, _, place) => match mem::replace(place, None) {
                 Some(fetch) => match fetch.step(hart, core) {
                     Stepped::Waits(fetch) => {
                         put_in(place, fetch);
@@ -228,11 +225,11 @@ impl WritePart {
         ensures tables { core.new.tables ≡ core.old.tables }
     {
         match mem::replace(self, WritePart::Gone) {
-            WritePart::There(mut writing, guard) => {
+            WritePart::There(mut writing, so_far, guard) => {
                 let part = rest(bytes, writing.done);
                 put(writing.at, part, guard, hart, txn, core);
                 pass(&mut writing, bytes.len());
-                self.put(next(writing));
+                self.put(next(writing, &so_far));
                 Came::Ran(Kind::Put)
             }
             _ => unreachable!(),
@@ -258,7 +255,7 @@ impl WritePart {
         ensures tables { core.new.tables ≡ core.old.tables }
     {
         match self {
-            WritePart::Storing(_, store) => match store.step(hart, txn, core) {
+            WritePart::Storing(_, _, _, store) => match store.step(hart, txn, core) {
                 Came::Waits => Came::Waits,
                 Came::Ran(kind) => Came::Ran(kind),
                 Came::Done((), kind) => Came::Done(self.stored(), kind),
@@ -292,12 +289,12 @@ impl WritePart {
         ensures { self.new ≡ fetched_in guard self.old }
     {
         match mem::replace(self, WritePart::Gone) {
-            WritePart::Fetching(writing, place) => {
+            WritePart::Fetching(writing, so_far, place) => {
                 match place {
                     None => {}
                     Some(_) => unreachable!(),
                 }
-                self.put(WritePart::There(writing, guard));
+                self.put(WritePart::There(writing, so_far, guard));
             }
             _ => unreachable!(),
         }
@@ -310,9 +307,12 @@ impl WritePart {
         ensures ended { self.new ≡ writing.Gone }
     {
         match mem::replace(self, WritePart::Gone) {
-            WritePart::Storing(writing, store) => {
+            WritePart::Storing(inode, stored, upto, store) => {
                 store.end();
-                finished(writing)
+                PartWritten {
+                    inode: with_record(inode, stored),
+                    upto,
+                }
             }
             _ => unreachable!(),
         }
@@ -336,19 +336,19 @@ impl WritePart {
                 writing.retire(retired);
                 locate.retire(retired);
             }
-            WritePart::Fetching(writing, place) => {
+            WritePart::Fetching(writing, _, place) => {
                 writing.retire(retired);
                 match place {
                     Some(fetch) => fetch.retire(retired),
                     None => {}
                 }
             }
-            WritePart::There(writing, guard) => {
+            WritePart::There(writing, _, guard) => {
                 writing.retire(retired);
                 guard.retire_in_row(&retired.buffers);
             }
-            WritePart::Storing(writing, store) => {
-                writing.retire(retired);
+            WritePart::Storing(inode, _, _, store) => {
+                inode.retire_in_row(&retired.inodes);
                 store.retire(retired);
             }
             WritePart::Gone => {}
@@ -358,31 +358,31 @@ impl WritePart {
 
 // Goes on with the next block, or with the store.
 #[tactic(auto, unfolding(crate::specs::PartWriting::write_of, crate::specs::PartWriting::WriteFits))]
-fn next(writing: Writing) -> WritePart
+fn next(writing: Writing, so_far: &Dinode) -> WritePart
     requires { IsWriting writing.left writing }
-    ensures program { (bytes : List ℕ) → write_of bytes result ≡ write_rest writing bytes }
+    ensures program { (bytes : List ℕ) → write_of bytes result ≡ write_rest writing so_far.now bytes }
     ensures inode { writer_of result ≡ writing.inode }
     ensures fits { (hart : ℕ) (bytes : List ℕ) (s : State) → writing.done ≤ length bytes → WriteFits hart bytes s result }
 {
     if writing.left == 0 {
-        return store(writing);
+        return store(writing, so_far);
     }
-    seek(writing)
+    seek(writing, so_far)
 }
 
 // Goes on with the next block, which is sought.
 #[tactic(auto, unfolding(crate::specs::PartWriting::write_of, crate::specs::PartWriting::WriteFits))]
-fn seek(writing: Writing) -> WritePart
+fn seek(writing: Writing, so_far: &Dinode) -> WritePart
     requires ready { IsWriting writing.left writing }
     requires some { writing.left ≢ 0 }
-    ensures program { (bytes : List ℕ) → write_of bytes result ≡ write_rest writing bytes }
+    ensures program { (bytes : List ℕ) → write_of bytes result ≡ write_rest writing so_far.now bytes }
     ensures inode { writer_of result ≡ writing.inode }
     ensures fits { (hart : ℕ) (bytes : List ℕ) (s : State) → writing.done ≤ length bytes → WriteFits hart bytes s result }
 {
     let mut writing = writing;
     writing.left -= 1;
     // With `return` a result is copied once.
-    match Locate::begin(&writing.so_far, &writing.sizes, writing.at / BLOCK_LEN) {
+    match Locate::begin(so_far, &writing.sizes, writing.at / BLOCK_LEN) {
         Begun::Runs(locate) => return WritePart::Locating(writing, locate),
         Begun::Is(located) => return found(writing, located),
     }
@@ -396,37 +396,43 @@ fn found(writing: Writing, located: Located) -> WritePart
     ensures inode { writer_of result ≡ writing.inode }
     ensures fits { (hart : ℕ) (bytes : List ℕ) (s : State) → writing.done ≤ length bytes → WriteFits hart bytes s result }
 {
-    let mut writing = writing;
-    writing.so_far = located.inode;
     // With `return` a result is copied once.
     match located.number {
-        None => return store(writing),
-        Some(b) => return WritePart::Fetching(writing, Some(Fetch::Get(b))),
+        None => return store(writing, &located.inode),
+        Some(b) => return WritePart::Fetching(writing, located.inode, Some(Fetch::Get(b))),
     }
 }
 
 // The record as it is to be stored.
-fn grown(writing: &Writing) -> Dinode
+fn grown(writing: &Writing, so_far: &Dinode) -> Dinode
     requires { IsWriting 0 writing.now }
-    ensures { result ≡ grown (written_so writing.now) }
+    ensures { result ≡ grown (written_so so_far.now writing.now) }
 {
     Dinode {
-        size: writing.so_far.size.max(writing.at as u32),
-        ..writing.so_far
+        size: so_far.size.max(writing.at as u32),
+        ..*so_far
     }
 }
 
 // The inode is stored.
 #[tactic(auto, unfolding(crate::specs::PartWriting::write_of, crate::specs::PartWriting::WriteFits))]
-fn store(writing: Writing) -> WritePart
+fn store(writing: Writing, so_far: &Dinode) -> WritePart
     requires { IsWriting 0 writing }
-    ensures program { (bytes : List ℕ) → write_of bytes result ≡ stored writing (written_so writing) }
+    ensures program { (bytes : List ℕ) → write_of bytes result ≡ stored writing (written_so so_far.now writing) }
     ensures inode { writer_of result ≡ writing.inode }
     ensures fits { (hart : ℕ) (bytes : List ℕ) (s : State) → WriteFits hart bytes s result }
 {
+    let stored = grown(&writing, so_far);
     let number = writing.inode.value().number;
-    let store = StoreInode::new(writing.sizes.inodestart, number, grown(&writing));
-    WritePart::Storing(writing, store)
+    let store = StoreInode::new(writing.sizes.inodestart, number, stored);
+    let Writing {
+        inode,
+        at,
+        sizes: _,
+        done: _,
+        left: _,
+    } = writing;
+    WritePart::Storing(inode, stored, at, store)
 }
 
 // Goes past the next block after it was written, of so many bytes in all.
@@ -438,26 +444,6 @@ fn pass(writing: &mut Writing, count: usize)
     let part = (BLOCK_LEN - writing.at % BLOCK_LEN).min(count - writing.done);
     writing.at += part;
     writing.done += part;
-}
-
-// The inode was stored.
-fn finished(writing: Writing) -> PartWritten
-    requires { IsWriting 0 writing }
-    ensures { result ≡ finished writing }
-{
-    let inode = grown(&writing);
-    let Writing {
-        inode: guard,
-        so_far: _,
-        sizes: _,
-        at,
-        done: _,
-        left: _,
-    } = writing;
-    PartWritten {
-        inode: with_record(guard, inode),
-        upto: at,
-    }
 }
 
 // The bytes behind so many.

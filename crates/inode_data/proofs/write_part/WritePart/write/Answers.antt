@@ -19,7 +19,7 @@ returns-clause-steps g c =
     let is = sym c.in-There.ensures.value in
     let past = c.pass.ensures bytes refl in
     record {
-      moves = there_moves h bytes old new c.args.self.now c.put-in-There.new.self w c.pass.new.writing guard is (rest_ran h old new guard w bytes _ c.rest-part.ensures (c.put.ensures.ran Passes)) past
+      moves = there_moves h bytes old new c.args.self.now c.put-in-There.new.self w c.pass.new.writing c.in-There.so_far guard is (rest_ran h old new guard w bytes _ c.rest-part.ensures (c.put.ensures.ran Passes)) past
           (ap (write_of bytes) c.put-in-There.ensures ∙ c.next.ensures.program bytes);
       honest = subst (λ m. OfNext (λ op s. Honest h op s Passes) (asks (write_of bytes m)) old) (sym is) tt;
       still = tt;
