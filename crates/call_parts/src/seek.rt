@@ -168,6 +168,7 @@ impl Seek {
     }
 
     // The parent has been reached.
+    #[inline(always)]
     #[tactic(auto, unfolding(crate::specs::Seeking::seek_of, crate::specs::Seeking::SeekFits))]
     fn reached(&mut self, path: &[u8], dots: Dots, reached: Reached, kind: Kind) -> Came<Seen, Kind>
         requires reaching { self.old ≡ seeking.Reaching dots reaching.Gone }
@@ -284,6 +285,7 @@ fn live(path: &[u8], dots: Dots, held: Held, element: Element, list: Listed) -> 
 }
 
 // In the parent that was reached.
+#[inline(always)]
 #[tactic(auto, unfolding(crate::specs::Seeking::seek_of, crate::specs::Seeking::SeekFits))]
 fn at(path: &[u8], dots: Dots, held: Held, last: Option<Element>, list: Listed) -> Begun<Seek, Seen>
     requires there { IsSome held.inode.value.content }

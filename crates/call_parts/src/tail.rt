@@ -292,6 +292,7 @@ impl Tail {
     }
 
     // A transaction has been left.
+    #[inline(always)]
     #[tactic(auto, unfolding(crate::specs::Tails::tail_of, crate::specs::Tails::TailFits))]
     fn left(&mut self)
         requires { HasLeft self.old }
@@ -322,6 +323,7 @@ impl Tail {
     }
 
     // An inode's lock is had.
+    #[inline(always)]
     #[tactic(auto, unfolding(crate::specs::Tails::tail_of, crate::specs::Tails::TailFits))]
     fn locked(&mut self, guard: Guard<Inode>)
         requires { HasLocked guard self.old }
@@ -336,6 +338,7 @@ impl Tail {
     }
 
     // An inode has been loaded.
+    #[inline(always)]
     #[tactic(auto, unfolding(crate::specs::Tails::tail_of, crate::specs::Tails::TailFits))]
     fn loaded(&mut self, inode: Dinode)
         requires { HasLoaded self.old }
@@ -466,6 +469,7 @@ fn free(ending: Ending, reference: Reference, txn: Txn, guard: Guard<Inode>) -> 
 }
 
 // The inode's lock is had: it is to be loaded, unless it is.
+#[inline(always)]
 #[tactic(auto, unfolding(crate::specs::Tails::tail_of, crate::specs::Tails::TailFits))]
 fn locked(ending: Ending, reference: Reference, txn: Txn, guard: Guard<Inode>) -> Tail
     requires early { IsEarly ending.sizes.inodestart }

@@ -110,6 +110,7 @@ impl Read {
     }
 
     // It has been, or was refused.
+    #[inline(always)]
     #[tactic(auto, unfolding(crate::specs::Machines::read_call_of, crate::specs::Machines::ReadCallFits))]
     fn loaded(
         &mut self,

@@ -448,6 +448,7 @@ impl Write {
     }
 
     // The lock of what the descriptor names is had.
+    #[inline(always)]
     #[tactic(auto, unfolding(crate::specs::Writing::write_call_of, crate::specs::Writing::WriteCallFits))]
     fn locked(&mut self, file: OpenFile, guard: Guard<Inode>)
         requires { HasLocked file guard self.old }
@@ -460,6 +461,7 @@ impl Write {
     }
 
     // The inode has been loaded.
+    #[inline(always)]
     #[tactic(auto, unfolding(crate::specs::Writing::write_call_of, crate::specs::Writing::WriteCallFits))]
     fn loaded(&mut self, inode: Dinode)
         requires { HasLoaded self.old }
@@ -492,6 +494,7 @@ impl Write {
     }
 
     // The piece's transaction has been left.
+    #[inline(always)]
     #[tactic(auto, unfolding(crate::specs::Writing::write_call_of, crate::specs::Writing::WriteCallFits))]
     fn left(&mut self)
         requires { HasLeft self.old }
@@ -631,6 +634,7 @@ fn loaded(writes: Writes, txn: Txn, file: OpenFile, guard: Guard<Inode>) -> Writ
 }
 
 // The lock of what the descriptor names is had: the inode is to be loaded, unless it is.
+#[inline(always)]
 #[tactic(auto, unfolding(crate::specs::Writing::write_call_of, crate::specs::Writing::WriteCallFits))]
 fn locked(writes: Writes, txn: Txn, file: OpenFile, guard: Guard<Inode>) -> Write
     requires write { IsWrite writes }

@@ -325,6 +325,7 @@ fn sought(entering: Entering, searched: Searched, kind: Kind) -> Stepped<Enter, 
 }
 
 // What a step comes to while a free slot is sought.
+#[inline(always)]
 #[tactic(auto, unfolding(crate::specs::Entering::enter_of, crate::specs::Entering::EnterFits))]
 fn searching(
     entering: Entering,

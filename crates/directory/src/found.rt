@@ -61,6 +61,7 @@ fn slots_in(inode: &Dinode, k: usize) -> usize
 }
 
 // The first slot of a block that is sought.
+#[inline(always)]
 fn first_in(block: &Block, k: usize, limit: usize, sought: Sought) -> Option<usize>
     requires block { k < most_blocks }
     requires limit { limit ≤ dirents_per_block }
@@ -88,6 +89,7 @@ fn found_at(block: &Block, k: usize, place: usize) -> Found
 }
 
 // What is found in block k of a directory.
+#[inline(always)]
 #[tactic(auto, unfolding(crate::specs::Programs::found_in))]
 pub(crate) fn found_in(block: &Block, inode: &Dinode, k: usize, sought: Sought) -> Option<Found>
     requires block { k < most_blocks }

@@ -182,6 +182,7 @@ fn open(place: &mut Option<Running>, sizes: &Super, path: Bytes, flags: u32, lis
 }
 
 /// A call begins in this place, on a disk of these sizes. The list is for references to inodes that it is to free.
+#[inline(always)]
 pub(crate) fn begin(place: &mut Option<Running>, sizes: &Super, call: Call, list: Listed)
     requires empty { place.old ≡ None }
     requires faultless { fault_of call ≡ None }

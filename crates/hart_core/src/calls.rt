@@ -146,6 +146,7 @@ impl Calls {
 
     /// One operation of a hart's call in its place, unless the world has stopped. A call that has replied leaves its place, hands its
     /// hart's list back, and has its reply stand in a place of its own.
+    #[inline(always)]
     pub fn step<D: Device>(
         &mut self,
         replied: &mut Option<Reply>,
@@ -185,6 +186,7 @@ impl Calls {
     }
 
     /// Has an idle hart begin a call, on a disk of these sizes, with its list.
+    #[inline(always)]
     pub fn begin(&mut self, hart: u8, sizes: &Super, call: Call)
         requires eight { hart < HARTS }
         requires idle { get_or self.old.calls hart None ≡ None }

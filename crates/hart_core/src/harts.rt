@@ -130,6 +130,7 @@ impl<D: Device> Harts<D> {
     /// One operation of a hart's call. It is idle where there is no such hart, or the hart has no call; and a call is stopped by the
     /// device's failure in this very step, or since the device has failed before. At most one call of the device is made.
     /// A reply is left in a place of its own, which is empty before.
+    #[inline(always)]
     pub fn step(&mut self, replied: &mut Option<Reply>, hart: u8) -> Told
         requires may { MayStep hart (programs_of D.contents D.failures self.old) }
         requires none { replied.old ≡ None }

@@ -25,6 +25,7 @@ use syscalls::Running;
 
 /// A step of the call that stands in this place, if one does, unless the world has stopped. Once it has replied it leaves its place; its reply
 /// goes into a place of its own, and the list that it hands back goes where its hart has it.
+#[inline(always)]
 pub(crate) fn step<D: Device>(
     place: &mut Option<Running>,
     list: &mut Option<Listed>,

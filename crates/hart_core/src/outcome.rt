@@ -47,6 +47,7 @@ pub enum Told {
 
 impl Told {
     /// The outcome, with the reply that stands in this place, which is empty again.
+    #[inline(always)]
     pub fn outcome(self, replied: &mut Option<Reply>) -> Outcome
         requires { IsTold self replied.old }
         ensures outcome { result ≡ outcome_with self replied.old }

@@ -31,6 +31,7 @@ pub enum StartRefused {
 
 /// The first fault of a call itself: of each path in turn its length, then its zero bytes; or how many bytes are to be read or
 /// written. It takes no memory.
+#[inline(always)]
 pub fn find_fault(call: &Call) -> Option<StartRefused>
     ensures fault { result ≡ fault_of call.now }
     ensures bytes { result ≡ None → IsOfBytes call.now }

@@ -134,6 +134,7 @@ impl<D: Device> World<D> {
 
     /// One operation of a hart's call. It is idle where there is no such hart, or the hart has no call; and a call is stopped by the
     /// device's failure in this very step, or since the device has failed before. At most one call of the device is made.
+    #[inline(always)]
     pub fn step(&mut self, hart: u8) -> Outcome
         ensures makes { Makes D.contents D.failures self.old.sizes (StepOf hart (said result (shared_of D.contents D.failures self.new.harts))) self.old.harts (outcome_of result) self.new.harts }
         ensures honest { Answers D.contents D.failures self.old.sizes (StepOf hart (said result (shared_of D.contents D.failures self.new.harts))) self.old.harts }

@@ -328,6 +328,7 @@ impl Truncate {
     }
 
     // A block of the inode's own has been given back.
+    #[inline(always)]
     #[tactic(auto, unfolding(crate::specs::Truncating::truncate_of, crate::specs::Truncating::TruncateFits))]
     fn own_freed(&mut self)
         requires { HasFreedOwn self.old }

@@ -266,6 +266,7 @@ impl WritePart {
     }
 
     // The next block has been sought.
+    #[inline(always)]
     #[tactic(auto, unfolding(crate::specs::PartWriting::write_of, crate::specs::PartWriting::WriteFits))]
     fn found(&mut self, located: Located)
         requires { HasLocated self.old }

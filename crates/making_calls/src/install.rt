@@ -406,6 +406,7 @@ fn full(opening: Opening, txn: Txn, inode: ToOpen, what: Full) -> Install
 }
 
 // What the taking of a descriptor came to.
+#[inline(always)]
 #[tactic(auto, unfolding(crate::specs::Opens::install_of, crate::specs::Opens::InstallFits))]
 fn descriptor_came(
     opening: Opening,
@@ -436,6 +437,7 @@ fn descriptor_came(
 }
 
 // It was opened by this descriptor.
+#[inline(always)]
 #[tactic(auto, unfolding(crate::specs::Opens::install_of, crate::specs::Opens::InstallFits))]
 fn opened(
     opening: Opening,

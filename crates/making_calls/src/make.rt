@@ -663,6 +663,7 @@ fn link(making: Making, child: Held) -> Make
 }
 
 // Goes on with an inode that has its link.
+#[inline(always)]
 #[tactic(auto, unfolding(crate::specs::Making::make_of, crate::specs::Making::MakeFits))]
 fn furnish(making: Making, name: &[u8], child: Held) -> Begun<Make, Named>
     requires sized { IsSized making.sizes }
@@ -701,6 +702,7 @@ fn fill(making: Making, child: Held) -> Make
 }
 
 // Goes on where "." and ".." are there, or had no block.
+#[inline(always)]
 #[tactic(auto, unfolding(crate::specs::Making::make_of, crate::specs::Making::MakeFits))]
 fn filled(making: Making, name: &[u8], child: Reference, written: PartWritten) -> Begun<Make, Named>
     requires sized { IsSized making.sizes }

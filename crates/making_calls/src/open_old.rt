@@ -367,6 +367,7 @@ pub(crate) fn at(opening: Opening, txn: Txn, list: Listed, held: Held) -> OpenOl
 }
 
 // What the path came to.
+#[inline(always)]
 #[tactic(auto, unfolding(crate::specs::Opens::open_old_of, crate::specs::Opens::OpenOldFits))]
 fn found(opening: Opening, txn: Txn, reached: Reached) -> OpenOld
     requires early { IsEarly opening.sizes.inodestart }

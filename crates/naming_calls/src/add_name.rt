@@ -321,6 +321,7 @@ impl AddName {
     }
 
     // The directory has been given up.
+    #[inline(always)]
     #[tactic(auto, unfolding(crate::specs::Links::add_of, crate::specs::Links::AddFits))]
     fn left(&mut self)
         requires { Leaves self.old }
@@ -339,6 +340,7 @@ impl AddName {
     }
 
     // The file has been taken again.
+    #[inline(always)]
     #[tactic(auto, unfolding(crate::specs::Links::add_of, crate::specs::Links::AddFits))]
     fn took(&mut self, file: Held)
         requires { Takes file self.old }

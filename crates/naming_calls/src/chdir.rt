@@ -193,6 +193,7 @@ impl Chdir {
     }
 
     // The path's end was reached.
+    #[inline(always)]
     #[tactic(auto, unfolding(crate::specs::Chdirs::chdir_of, crate::specs::Chdirs::ChdirFits))]
     fn reached(&mut self, reached: Reached)
         requires { Reaches reached self.old }

@@ -288,6 +288,7 @@ impl Link {
     }
 
     // The old path's end was reached.
+    #[inline(always)]
     #[tactic(auto, unfolding(crate::specs::Links::link_of, crate::specs::Links::LinkFits))]
     fn reached(&mut self, reached: Reached)
         requires { Reaches reached self.old }
@@ -389,6 +390,7 @@ fn joined(l: Linking, txn: Txn, list: Listed) -> Link
 }
 
 // At the old path's end.
+#[inline(always)]
 #[tactic(auto, unfolding(crate::specs::Links::link_of, crate::specs::Links::LinkFits))]
 fn found(l: Linking, txn: Txn, reached: Reached) -> Link
     requires l { IsLinking l }

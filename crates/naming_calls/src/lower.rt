@@ -228,6 +228,7 @@ impl Lower {
     }
 
     // The directory has been given up.
+    #[inline(always)]
     #[tactic(auto, unfolding(crate::specs::Unlinking::lower_of, crate::specs::Unlinking::LowerFits))]
     fn left(&mut self)
         requires { Leaves self.old }

@@ -383,6 +383,7 @@ impl Unlink {
     }
 
     // A transaction is joined.
+    #[inline(always)]
     #[tactic(auto, unfolding(crate::specs::Unlinking::unlink_of, crate::specs::Unlinking::UnlinkFits))]
     fn joined(&mut self, txn: Txn)
         requires { Joins self.old }
@@ -415,6 +416,7 @@ impl Unlink {
     }
 
     // A reference to what it names was wanted.
+    #[inline(always)]
     #[tactic(auto, unfolding(crate::specs::Unlinking::unlink_of, crate::specs::Unlinking::UnlinkFits))]
     fn referred(&mut self, up: Option<Reference>)
         requires { Refers self.old }
@@ -429,6 +431,7 @@ impl Unlink {
     }
 
     // That has been taken.
+    #[inline(always)]
     #[tactic(auto, unfolding(crate::specs::Unlinking::unlink_of, crate::specs::Unlinking::UnlinkFits))]
     fn took(&mut self, child: Held)
         requires { Takes child self.old }
@@ -465,6 +468,7 @@ impl Unlink {
     }
 
     // The name has been cleared.
+    #[inline(always)]
     #[tactic(auto, unfolding(crate::specs::Unlinking::unlink_of, crate::specs::Unlinking::UnlinkFits))]
     fn cleared(&mut self, inode: Guard<Inode>)
         requires { Clears inode self.old }
@@ -660,6 +664,7 @@ fn referred(removing: Removing, txn: Txn, up: Option<Reference>) -> Unlink
 }
 
 // What is named is had: it is searched for entries, where it is a directory.
+#[inline(always)]
 #[tactic(auto, unfolding(crate::specs::Unlinking::unlink_of, crate::specs::Unlinking::UnlinkFits))]
 fn had(removing: Removing, txn: Txn, child: Held) -> Unlink
     requires early { IsEarly removing.on.sizes.inodestart }
