@@ -59,11 +59,11 @@ pub struct PartWritten {
 pub enum WritePart {
     /// The next block is sought, and taken where it is missing.
     Locating(Writing, Locate),
-    /// It is fetched.
+    /// It is fetched. The inode's record so far is this, with the blocks that were taken.
     Fetching(Writing, Dinode, Option<Fetch>),
     /// It is there.
     There(Writing, Dinode, Guard<Buffer>),
-    /// The inode is stored: up to this offset the bytes were written.
+    /// The inode is stored with this record. The bytes were written up to this offset.
     Storing(Guard<Inode>, Dinode, usize, StoreInode),
     /// It has ended, or is being changed.
     Gone,
