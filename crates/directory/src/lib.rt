@@ -11,7 +11,7 @@ mod put_entry;
 mod search;
 mod slots;
 
-pub use crate::enter::{Enter, Entered, Entering, Room, entry_bytes};
+pub use crate::enter::{Enter, Entered, Entering, Placing, Room, entry_bytes};
 pub use crate::found::{Found, MOST_SLOTS, Sought};
 pub use crate::put_entry::{Change, PutEntry, Putting};
 pub use crate::search::{Search, Searched, Searching, is_directory, is_live_directory};
