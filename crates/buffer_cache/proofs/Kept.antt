@@ -1,19 +1,20 @@
 -- What is kept of the buffers, as it is seen.
 use Rattle.std.proofs.Common.{◌≡◌, ℕ, ◌<◌, ◌≤◌, List, length, set, Bool, refl, sym, ◌∙◌, ap, subst, arith, Option, Some, None, IsSome}
-use Rattle.std.specs.Option.{MatchOption, option_and_then}
+use Rattle.std.specs.Option.{MatchOption, option_map, option_and_then}
 use Rattle.std.specs.List.{position, find}
-use Rattle.std.proofs.lemmas.Option.{same_Some}
+use Rattle.std.proofs.lemmas.Option.{same_Some, none-some}
 use Rattle.sleep_lock.specs.SleepLock.{GuardState}
 use Rattle.sleep_lock.specs.Row.{unlocked}
 use Rattle.buffer_cache.specs.Buffers.{BufferState}
 use Rattle.buffer_cache.specs.Lists.{change_to_end, count_of}
-use Rattle.buffer_cache.specs.Seats.{SeatState, unused, has_block, is_free, seat_of, kept, with_holder, without_holder, with_content, with_pin, as_new, with_seat, given_back, unused_from, IsHeld, IsGuardOf}
+use Rattle.buffer_cache.specs.Seats.{SeatState, unused, has_block, is_free, seat_of, slot_of, kept, with_holder, without_holder, with_content, with_pin, as_new, with_seat, given_back, unused_from, IsHeld, IsGuardOf}
 use Rattle.buffer_cache.specs.Rows.{has_number, IsSeated}
 use Rattle.buffer_cache.specs.Order.{numbered, in_order, numbers, is_same, IsOrdered, IsKept}
 use Rattle.buffer_cache.specs.Getting.{get_of, guard_of}
 use Rattle.buffer_cache.specs.declared.got.Got.{Got}
 use Rattle.buffer_cache.specs.declared.got.Got.TheVariants.{Held}
 use Rattle.buffer_cache.proofs.Firsts.{position_some, place_change, no_place, first_counted, first_passes, none_counted}
+use Rattle.buffer_cache.proofs.Blocks.{is_block}
 use Rattle.buffer_cache.proofs.Seated.{Row, same_number, seated_at, slot_within, get_out, get_in, get_free, held_seat, held_cached, seated_filled, seated_pinned, seated_given_back}
 use Rattle.buffer_cache.proofs.Ordered.{ordered_new, is_equal, counted, once_of, first_of, same_first, placed_first, first_in, changed_in, moved_in, ordered_set, ordered_first, ordered_moved, number_is, none_in}
 
@@ -94,6 +95,32 @@ keeps_given slots seats order seen new order_new g all is once held unchanged to
     } in
     subst (λ (o : List ℕ). KeepsOn (unlocked slots g) new o (given_back b seen)) (sym moved)
     (subst (λ (l : List SeatState). KeepsOn (unlocked slots g) l (change_to_end (is_same n) (λ k. k) order) (given_back b seen)) (sym to) after)
+
+-- the buffer in a slot
+pub record IsIn (seats : List SeatState) (b n : ℕ) : Type 0 where
+  pub within : n < length seats
+  pub place : position (has_block b) seats ≡ Some n
+  pub block : (numbered seats n).block ≡ Some b
+
+pub slot_in : (seats : List SeatState) (order : List ℕ) (seen : List SeatState) (b n : ℕ) → IsOrdered seats order → in_order seats order ≡ seen → count_of (has_block b) seen ≤ 1 → slot_of b seen ≡ Some n → IsIn seats b n
+slot_in seats order seen b n ordered is once at = by_place (position (has_block b) seats) refl
+  where
+    number_of : Option SeatState → Option ℕ
+    number_of o = option_map (λ (s : SeatState). s.number) o
+
+    here : number_of (seat_of b seats) ≡ Some n
+    here = ap number_of (sym (first_of seats order seen (has_block b) ordered is once)) ∙ at
+
+    by_place : (o : Option ℕ) → position (has_block b) seats ≡ o → IsIn seats b n
+    by_place None none = let clash : None ≡ Some n = sym (ap number_of (no_place (has_block b) seats none)) ∙ here in absurd (none-some n clash)
+    by_place (Some i) place =
+        let first = placed_first seats (has_block b) i place in
+        let same : i ≡ n = sym (number_is seats order ordered i) ∙ same_Some (numbered seats i).number n (sym (ap number_of first) ∙ here) in
+        subst (IsIn seats b) same (record {
+          within = (position_some (has_block b) seats i place).1;
+          place = place;
+          block = is_block b (numbered seats i).block (first_passes (has_block b) seats (numbered seats i) first);
+        })
 
 -- what a get leaves
 pub keeps_lent : (seats : List SeatState) (order : List ℕ) (new : List SeatState) (hart b i : ℕ) (got : Got) → IsOrdered seats order → count_of (has_block b) seats ≤ 1 → position (has_block b) seats ≡ Some i

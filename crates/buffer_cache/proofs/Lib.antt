@@ -9,3 +9,6 @@ pub mod Laws
 pub mod Ordered
 pub mod Moved
 pub mod Kept
+pub mod Rings
+pub mod Walks
+pub mod Chained

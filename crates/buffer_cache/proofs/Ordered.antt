@@ -131,7 +131,7 @@ count_moved q n (m ∷ ms) =
     pick (m == n) (λ t. count_of q (if t then ms ++ m ∷ [] else m ∷ change_to_end (is_same n) (λ k. k) ms) ≡ cond (q m) 1 0 + count_of q ms) (λ _. omega (arith, a)) (λ _. omega (arith, more))
 
 -- the numbers from one on
-range_at : (a n k : ℕ) → k < n → slice_get (range_with_len a n) k ≡ Some (a + k)
+pub range_at : (a n k : ℕ) → k < n → slice_get (range_with_len a n) k ≡ Some (a + k)
 range_at a n k lt = slice_get_read (range_with_len a n) n k (a + k) (sym (length-range_with_len a n)) lt (sym (get_or-range_with_len a n k (a + k) lt))
 
 range_before : (k a n : ℕ) → k < a → count_of (is_same k) (range_with_len a n) ≡ 0
@@ -142,7 +142,7 @@ range_before k a (suc n) lt =
     let here : cond (a == k) 1 none ≡ none = ap (λ (t : Bool). cond t 1 none) (isnt_same a k (λ e. omega (arith, e, lt))) in
     omega (arith, more, here)
 
-range_apart : (k a n : ℕ) → count_of (is_same k) (range_with_len a n) ≤ 1
+pub range_apart : (k a n : ℕ) → count_of (is_same k) (range_with_len a n) ≤ 1
 range_apart k a zero = omega arith
 range_apart k a (suc n) =
     pick (a == k) (λ t. (a == k) ≡ t → cond t 1 0 + count_of (is_same k) (range_with_len (a + 1) n) ≤ 1)
@@ -150,7 +150,7 @@ range_apart k a (suc n) =
     (λ _ _. let rest = range_apart k (a + 1) n in omega (arith, rest))
     refl
 
-range_within : (k a n : ℕ) → 1 ≤ count_of (is_same k) (range_with_len a n) → k < a + n
+pub range_within : (k a n : ℕ) → 1 ≤ count_of (is_same k) (range_with_len a n) → k < a + n
 range_within k a zero some = absurd (omega (arith, some))
 range_within k a (suc n) some =
     pick (a == k) (λ t. (a == k) ≡ t → 1 ≤ cond t 1 0 + count_of (is_same k) (range_with_len (a + 1) n) → k < a + suc n)

@@ -5,4 +5,5 @@ pub mod Seats
 pub mod Getting
 pub mod Rows
 pub mod Order
+pub mod Links
 pub mod Lending

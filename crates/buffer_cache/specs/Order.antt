@@ -7,6 +7,7 @@ use Rattle.buffer_cache.specs.Limits.{buffer_count}
 use Rattle.buffer_cache.specs.Lists.{count_of}
 use Rattle.buffer_cache.specs.Seats.{SeatState, unused}
 use Rattle.buffer_cache.specs.Rows.{IsSeated}
+use Rattle.buffer_cache.specs.Links.{IsChained}
 
 -- the seat in the place of this number
 abbrev pub numbered : List SeatState → ℕ → SeatState
@@ -30,3 +31,8 @@ pub record IsOrdered (seats : List SeatState) (order : List ℕ) : Type 0 where
 pub record IsKept (slots : List (SlotState BufferState)) (seats : List SeatState) (order : List ℕ) : Type 0 where
   pub seated : IsSeated slots seats
   pub ordered : IsOrdered seats order
+
+-- and each is found by its block
+pub record IsLinked (slots : List (SlotState BufferState)) (seats : List SeatState) (order chains : List ℕ) : Type 0 where
+  pub kept : IsKept slots seats order
+  pub chained : IsChained seats chains

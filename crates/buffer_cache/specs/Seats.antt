@@ -71,6 +71,10 @@ unused_from n (suc count) = unused n ∷ unused_from (n + 1) count
 abbrev pub seat_of : ℕ → List SeatState → Option SeatState
 seat_of b seats = find (has_block b) seats
 
+-- the number of a block's buffer
+abbrev pub slot_of : ℕ → List SeatState → Option ℕ
+slot_of b seats = option_map (λ (s : SeatState). s.number) (seat_of b seats)
+
 -- a block's buffer is there, and passes
 abbrev pub Passes : (SeatState → Bool) → ℕ → List SeatState → Type 0
 Passes p b seats = option_map p (seat_of b seats) ≡ Some true

@@ -1,28 +1,28 @@
 // The buffers, their slots, and the order of giving back.
-ghost use Rattle.std.specs.Prelude.{count_by, ◌≡◌, ◌↔◌, ◌<◌, ◌≤◌, ◌++◌, length, take, drop, position, slice_set, Some, None, IsSome, IsTrue, IfOk, IfSome, OnOk, OnErr};
+ghost use Rattle.std.specs.Prelude.{count_by, ℕ, ◌≡◌, ◌↔◌, ◌<◌, ◌≤◌, ◌++◌, length, position, slice_set, Some, None, IsSome, IsTrue, IfOk, IfSome, OnOk, OnErr};
 ghost use Rattle.std.specs.List.{find};
 ghost use Rattle.sleep_lock.specs.SleepLock.{GuardState};
 ghost use Rattle.buffer_cache.specs.Buffers.{BufferState};
 ghost use Rattle.block_device.specs.Blocks.{block_at, faults_after};
 ghost use Rattle.buffer_cache.specs.Lists.{change_to_end, count_of};
-ghost use Rattle.buffer_cache.specs.Seats.{has_block, is_free, is_held_by, is_pinned, seat_of, kept, IsHeld, with_seat, with_content, with_pin, given_back, without_holder, as_new, unused_from};
+ghost use Rattle.buffer_cache.specs.Seats.{has_block, is_free, is_held_by, is_pinned, seat_of, slot_of, kept, IsHeld, with_seat, with_content, with_pin, given_back, without_holder, as_new, unused_from};
 ghost use Rattle.buffer_cache.specs.Rows.{IsSeated};
-ghost use Rattle.buffer_cache.specs.Order.{numbered, in_order, numbers, is_same, IsOrdered, IsKept};
+ghost use Rattle.buffer_cache.specs.Links.{IsChained};
+ghost use Rattle.buffer_cache.specs.Order.{numbered, in_order, is_same, IsOrdered, IsLinked};
 ghost use Rattle.buffer_cache.specs.Getting.{get_of, guard_of};
 ghost use Rattle.buffer_cache.specs.declared.got.Got.TheVariants.{Held};
 ghost use Rattle.buffer_cache.specs.Limits.{buffer_count};
 
 use crate::buffer::Buffer;
+use crate::chains::Chains;
 use crate::got::Got;
 use crate::limits::BUFFERS;
+use crate::order::Order;
 use crate::seat::Seat;
 use block_device::{Device, Fault};
 use sleep_lock::{Guard, RetiredSlots, Slots};
 use std::alloc::{AllocError, Global};
 use std::marker::Model;
-
-// For blocks whose numbers differ by less than this, the likely places are apart.
-const LIKELY: usize = 256;
 
 /// Forty-six buffers: the memory of a cache, taken before there is one. A contract sees the list of what is kept of
 /// each, in order of giving back.
@@ -31,26 +31,26 @@ pub struct Buffers {
     // Each in the place of its number, where it stays.
     seats: Vec<Seat>,
     // Their numbers, in order of giving back.
-    order: [u8; BUFFERS],
+    order: Order,
+    // Their numbers, by their blocks.
+    chains: Chains,
     slots: Slots<Buffer>,
-    // By a block's number modulo their count: where such a block was found last. It may have left since.
-    likely: [u8; LIKELY],
 }
 
 impl Model for Buffers {
     ghost use Rattle.std.specs.Prelude.{List};
     ghost use Rattle.buffer_cache.specs.Seats.{SeatState};
-    ghost use Rattle.buffer_cache.specs.Order.{in_order, IsKept};
+    ghost use Rattle.buffer_cache.specs.Order.{in_order, IsLinked};
 
     ghost Value = { List SeatState };
 
     ghost view = { λ b. in_order b.seats.items b.order };
 
-    ghost invariant = { λ b. IsKept b.slots b.seats.items b.order };
+    ghost invariant = { λ b. IsLinked b.slots b.seats.items b.order b.chains };
 }
 
 impl Buffers {
-    /// Forty-six buffers that were never used. An error is want of memory.
+    /// Forty-six buffers that were never used. An error is want of memory (xv6: `binit`).
     pub fn new(alloc: Global) -> Result<Buffers, AllocError>
         ensures { IfOk result (λ buffers. buffers ≡ unused_from 0 buffer_count) }
     {
@@ -58,9 +58,9 @@ impl Buffers {
         let slots = new_slots(alloc)?;
         Ok(Buffers {
             seats,
-            order: new_order(),
+            order: Order::new(),
+            chains: Chains::new(),
             slots,
-            likely: [0; LIKELY],
         })
     }
 
@@ -80,7 +80,7 @@ impl Buffers {
         requires once { count_of (has_block b) self.now ≤ 1 }
         ensures { IsTrue result ↔ IsSome (seat_of b self.now) }
     {
-        place_of(&self.seats, &self.likely, b).is_some()
+        self.chains.find(&self.seats, b).is_some()
     }
 
     // A block's buffer, else the first that is free.
@@ -92,11 +92,21 @@ impl Buffers {
         get_in(
             &mut self.seats,
             &self.order,
+            &mut self.chains,
             &mut self.slots,
-            &mut self.likely,
             hart,
             b,
         )
+    }
+
+    // The buffer in this slot, which has a block.
+    pub(crate) fn get_at(&mut self, hart: u8, slot: u32) -> Got
+        requires there { (b : ℕ) × (slot_of b self.old ≡ Some slot) }
+        requires once { (b : ℕ) → count_of (has_block b) self.old ≤ 1 }
+        ensures { (b : ℕ) → slot_of b self.old ≡ Some slot → (self.new, result) ≡ get_of hart b self.old }
+    {
+        let b = self.seats[slot as usize].block();
+        lend(&mut self.seats, &mut self.slots, slot as usize, hart, b)
     }
 
     // The device's block into a buffer that isn't valid.
@@ -122,7 +132,7 @@ impl Buffers {
         ensures contents { D.contents device.new ≡ D.contents device.old }
         ensures faults { D.failures device.new ≡ faults_after result (D.failures device.old) }
     {
-        fill_in(&mut self.seats, &self.likely, device, guard)
+        fill_in(&mut self.seats, &self.chains, device, guard)
     }
 
     // Keeps a guard's bytes.
@@ -132,7 +142,7 @@ impl Buffers {
         requires once { count_of (has_block guard.now.value.block) self.old ≤ 1 }
         ensures { IfSome guard.now.value.content (λ bytes. self.new ≡ with_seat guard.now.value.block (with_content bytes) self.old) }
     {
-        keep_in(&mut self.seats, &self.likely, guard)
+        keep_in(&mut self.seats, &self.chains, guard)
     }
 
     // Gives a buffer back, with the bytes that are kept. It is the most recent one then.
@@ -153,7 +163,7 @@ impl Buffers {
         requires once { count_of (has_block b) self.old ≤ 1 }
         ensures { self.new ≡ with_seat b (with_pin pinned) self.old }
     {
-        pin_in(&mut self.seats, &self.likely, b, pinned);
+        pin_in(&mut self.seats, &self.chains, b, pinned);
     }
 
     // Ends the buffers. A guard that is out may then be ended too.
@@ -163,8 +173,8 @@ impl Buffers {
         let Buffers {
             seats: _,
             order: _,
+            chains: _,
             slots,
-            likely: _,
         } = self;
         slots.retire()
     }
@@ -190,32 +200,6 @@ fn new_slots(alloc: Global) -> Result<Slots<Buffer>, AllocError>
     Slots::new(alloc, buffers)
 }
 
-// Where a block's buffer is: most often where such a block was found last.
-fn place_of(seats: &[Seat], likely: &[u8; LIKELY], b: u32) -> Option<usize>
-    requires once { count_of (has_block b) seats.now ≤ 1 }
-    ensures { result ≡ position (has_block b) seats.now }
-{
-    let place = likely[b as usize % LIKELY] as usize;
-    if place < seats.len() && seats[place].has_block(b) {
-        return Some(place);
-    }
-    seats.iter().position(|seat| seat.has_block(b))
-}
-
-// The least recently given back buffer that is neither out nor pinned.
-fn first_free(seats: &[Seat], order: &[u8; BUFFERS]) -> Option<usize>
-    requires ordered { IsOrdered seats.now order.now }
-    ensures { result ≡ find (λ n. is_free (numbered seats.now n)) order.now }
-{
-    for n in order {
-        let place = *n as usize;
-        if seats[place].is_free() {
-            return Some(place);
-        }
-    }
-    None
-}
-
 fn count_held(seats: &[Seat], hart: u8) -> usize
     ensures { result ≡ count_by (is_held_by hart) seats.now }
 {
@@ -230,26 +214,23 @@ fn count_pinned(seats: &[Seat]) -> usize
 
 fn get_in(
     seats: &mut Vec<Seat>,
-    order: &[u8; BUFFERS],
+    order: &Order,
+    chains: &mut Chains,
     slots: &mut Slots<Buffer>,
-    likely: &mut [u8; LIKELY],
     hart: u8,
     b: u32,
 ) -> Got
     requires free { IsSome (find is_free (in_order seats.old.items order.now)) }
     requires once { count_of (has_block b) seats.old.items ≤ 1 }
-    requires kept { IsKept slots.old seats.old.items order.now }
+    requires linked { IsLinked slots.old seats.old.items order.now chains.old }
     ensures gives { (in_order seats.new.items order.now, result) ≡ get_of hart b (in_order seats.old.items order.now) }
-    ensures kept { IsKept slots.new seats.new.items order.now }
+    ensures linked { IsLinked slots.new seats.new.items order.now chains.new }
 {
-    match place_of(seats, likely, b) {
-        Some(i) => {
-            likely[b as usize % LIKELY] = i as u8;
-            lend(seats, slots, i, hart, b)
-        }
+    match chains.find(seats, b) {
+        Some(i) => lend(seats, slots, i, hart, b),
         None => {
-            let i = first_free(seats, order).unwrap();
-            likely[b as usize % LIKELY] = i as u8;
+            let i = order.first_free(seats).unwrap();
+            chains.move_to(i as u8, b);
             renew(seats, slots, i, hart, b)
         }
     }
@@ -295,13 +276,14 @@ fn renew(seats: &mut Vec<Seat>, slots: &mut Slots<Buffer>, i: usize, hart: u8, b
 
 fn fill_in<D: Device>(
     seats: &mut Vec<Seat>,
-    likely: &[u8; LIKELY],
+    chains: &Chains,
     device: &mut D,
     guard: &mut Guard<Buffer>,
 ) -> Result<(), Fault>
     requires held { IsHeld seats.old.items guard.old }
     requires unread { guard.old.value.content ≡ None }
     requires within { guard.old.value.block < length (D.contents device.old) }
+    requires chained { IsChained seats.old.items chains.now }
     requires once { count_of (has_block guard.old.value.block) seats.old.items ≤ 1 }
     ensures called { D.Called device.old device.new }
     ensures ok { OnOk result (guard.new ≡ record guard.old {
@@ -317,36 +299,38 @@ fn fill_in<D: Device>(
     ensures faults { D.failures device.new ≡ faults_after result (D.failures device.old) }
 {
     let b = guard.value().block();
-    let i = place_of(seats, likely, b).unwrap();
+    let i = chains.find(seats, b).unwrap();
     guard.value_mut().read(device)?;
     let seat = &mut seats[i];
     seat.keep(guard.value().bytes());
     Ok(())
 }
 
-fn keep_in(seats: &mut Vec<Seat>, likely: &[u8; LIKELY], guard: &Guard<Buffer>)
+fn keep_in(seats: &mut Vec<Seat>, chains: &Chains, guard: &Guard<Buffer>)
     requires held { IsSome (seat_of guard.now.value.block seats.old.items) }
     requires valid { IsSome guard.now.value.content }
+    requires chained { IsChained seats.old.items chains.now }
     requires once { count_of (has_block guard.now.value.block) seats.old.items ≤ 1 }
     ensures { IfSome guard.now.value.content (λ bytes. seats.new.items ≡ with_seat guard.now.value.block (with_content bytes) seats.old.items) }
 {
     let buffer = guard.value();
-    let i = place_of(seats, likely, buffer.block()).unwrap();
+    let i = chains.find(seats, buffer.block()).unwrap();
     let seat = &mut seats[i];
     seat.keep(buffer.bytes());
 }
 
-fn pin_in(seats: &mut Vec<Seat>, likely: &[u8; LIKELY], b: u32, pinned: bool)
+fn pin_in(seats: &mut Vec<Seat>, chains: &Chains, b: u32, pinned: bool)
     requires there { IsSome (seat_of b seats.old.items) }
+    requires chained { IsChained seats.old.items chains.now }
     requires once { count_of (has_block b) seats.old.items ≤ 1 }
     ensures { seats.new.items ≡ with_seat b (with_pin pinned) seats.old.items }
 {
-    let i = place_of(seats, likely, b).unwrap();
+    let i = chains.find(seats, b).unwrap();
     let seat = &mut seats[i];
     seat.set_pinned(pinned);
 }
 
-fn give_back(seats: &mut Vec<Seat>, order: &mut [u8; BUFFERS], i: u32)
+fn give_back(seats: &mut Vec<Seat>, order: &mut Order, i: u32)
     requires place { i < length seats.old.items }
     requires ordered { IsOrdered seats.old.items order.old }
     ensures seats { seats.new.items ≡ slice_set seats.old.items i (without_holder (numbered seats.old.items i)) }
@@ -354,47 +338,5 @@ fn give_back(seats: &mut Vec<Seat>, order: &mut [u8; BUFFERS], i: u32)
 {
     let seat = &mut seats[i as usize];
     seat.take_back();
-    move_last(order, i as u8);
-}
-
-// From the end on, each number takes the place of the one before it, up to the place of this one, which is the last then.
-fn move_last(order: &mut [u8; BUFFERS], number: u8)
-    requires there { count_of (is_same number) order.old ≡ 1 }
-    ensures { order.new ≡ change_to_end (is_same number) (λ n. n) order.old }
-{
-    if order[0] == number {
-        first_to_last(order);
-        return;
-    }
-    let mut next = number;
-    for back in 0..BUFFERS {
-        let place = BUFFERS - 1 - back;
-        let here = order[place];
-        order[place] = next;
-        if here == number {
-            return;
-        }
-        next = here;
-    }
-}
-
-// What was taken for another block was mostly the first.
-fn first_to_last(order: &mut [u8; BUFFERS])
-    ensures { order.new ≡ drop 1 order.old ++ take 1 order.old }
-{
-    let old = *order;
-    let front = &mut order[..BUFFERS - 1];
-    front.copy_from_slice(&old[1..]);
-    order[BUFFERS - 1] = old[0];
-}
-
-// The numbers from 0 on.
-fn new_order() -> [u8; BUFFERS]
-    ensures { result ≡ numbers }
-{
-    let mut order = [0; BUFFERS];
-    for number in 0..BUFFERS {
-        order[number] = number as u8;
-    }
-    order
+    order.move_last(i as u8);
 }

@@ -6,7 +6,7 @@ ghost use Rattle.block_device.specs.Blocks.{block_at, faults_after};
 ghost use Rattle.buffer_cache.specs.Buffers.{BufferState};
 ghost use Rattle.buffer_cache.specs.Limits.{buffer_count, hart_count, most_pinned};
 ghost use Rattle.buffer_cache.specs.Lists.{count_of};
-ghost use Rattle.buffer_cache.specs.Seats.{is_any, is_held_by, is_pinned, is_recorded, is_unused, IsPinned, IsRecorded, Keeps, seat_of, holder_of, kept, IsHeld, KeepsHeld, KeepsOthers, with_seat, with_content, with_pin, given_back, unused_from};
+ghost use Rattle.buffer_cache.specs.Seats.{is_any, is_held_by, is_pinned, is_recorded, is_unused, IsPinned, IsRecorded, Keeps, seat_of, slot_of, holder_of, kept, IsHeld, KeepsHeld, KeepsOthers, with_seat, with_content, with_pin, given_back, unused_from};
 
 use crate::buffer::Buffer;
 use crate::buffers::Buffers;
@@ -75,7 +75,7 @@ impl<D: Device> Cache<D> {
 
     /// A block's buffer for a hart that has one other at most: the one that has the block, else a buffer that is
     /// neither out nor pinned, the least recently given back (one that was never used before any other). It waits
-    /// exactly where the block's buffer is out, and then nothing changes.
+    /// exactly where the block's buffer is out, and then nothing changes (xv6: `bget`).
     pub fn get(&mut self, hart: u8, b: u32) -> Got
         requires hart { hart < hart_count }
         requires few { count_of (is_held_by hart) self.old.seats ≤ 1 }
@@ -99,8 +99,32 @@ impl<D: Device> Cache<D> {
         self.buffers.get(hart, b)
     }
 
+    /// The buffer in a pinned slot, the one that a guard of it had as its number: what a get of its block answers, without a search.
+    pub fn get_at(&mut self, hart: u8, slot: u32) -> Got
+        requires hart { hart < hart_count }
+        requires few { count_of (is_held_by hart) self.old.seats ≤ 1 }
+        requires pinned { (b : ℕ) × (slot_of b self.old.seats ≡ Some slot) × IsPinned b self.old.seats }
+        ensures gives { (b : ℕ) → slot_of b self.old.seats ≡ Some slot → (self.new.seats, result) ≡ get_of hart b self.old.seats }
+        ensures waits { (b : ℕ) → slot_of b self.old.seats ≡ Some slot → ((result ≡ Got.Waits) ↔ IsSome (holder_of b self.old.seats)) }
+
+        // The guard has the block's buffer, and a valid one has the bytes as they are seen.
+        ensures held { (b : ℕ) → slot_of b self.old.seats ≡ Some slot
+            → IfHeld result (λ guard. (guard.hart ≡ hart) × (guard.value.block ≡ b) × IsHeld self.new.seats guard) }
+        ensures bytes { (b : ℕ) → slot_of b self.old.seats ≡ Some slot
+            → IfHeld result (λ guard. IfSome guard.value.content (λ bytes. bytes ≡ seen D.contents self.old b)) }
+
+        // All else is as it was.
+        ensures others { KeepsHeld self.old.seats self.new.seats }
+        ensures pins { Keeps is_pinned self.old.seats self.new.seats }
+        ensures recorded { Keeps is_recorded self.old.seats self.new.seats }
+        ensures device { self.new.device ≡ self.old.device }
+        ensures seen { (k : ℕ) → seen D.contents self.new k ≡ seen D.contents self.old k }
+    {
+        self.buffers.get_at(hart, slot)
+    }
+
     /// Reads the guard's block from the device into its buffer, which isn't valid, by one call. After a fault the guard
-    /// and the buffers are as they were.
+    /// and the buffers are as they were (xv6: what `bread` adds to `bget`).
     pub fn fill(&mut self, guard: &mut Guard<Buffer>) -> Result<(), Fault>
         requires held { IsHeld self.old.seats guard.old }
         requires unread { guard.old.value.content ≡ None }
@@ -128,7 +152,7 @@ impl<D: Device> Cache<D> {
         self.buffers.fill(&mut self.device, guard)
     }
 
-    /// Gives a buffer back, unchanged. It is the most recent one then.
+    /// Gives a buffer back, unchanged. It is the most recent one then (xv6: `brelse`).
     pub fn release(&mut self, guard: Guard<Buffer>)
         requires held { IsHeld self.old.seats guard }
         requires unchanged { IfSome guard.value.content (λ bytes. bytes ≡ seen D.contents self.old guard.value.block) }
@@ -162,7 +186,7 @@ impl<D: Device> Cache<D> {
         self.buffers.release(guard);
     }
 
-    /// Pins a block's buffer: until its pin is given back it isn't taken for another block.
+    /// Pins a block's buffer: until its pin is given back it isn't taken for another block (xv6: `bpin`).
     pub fn pin(&mut self, b: u32)
         requires cached { IsSome (seat_of b self.old.seats) }
         requires room { IsPinned b self.old.seats ⊎ (count_of is_pinned self.old.seats < most_pinned) }
@@ -177,7 +201,7 @@ impl<D: Device> Cache<D> {
         self.buffers.set_pinned(b, true);
     }
 
-    /// Gives a block's pin back. The block has to stand on the device as it is seen.
+    /// Gives a block's pin back. The block has to stand on the device as it is seen (xv6: `bunpin`).
     pub fn unpin(&mut self, b: u32)
         requires cached { IsSome (seat_of b self.old.seats) }
         requires home { block_at (D.contents self.old.device) b ≡ seen D.contents self.old b }
@@ -192,7 +216,7 @@ impl<D: Device> Cache<D> {
     }
 
     /// Writes a guard's bytes, as they are seen, to its block on the device, by one call. A write that fails leaves the
-    /// old block there or the new one.
+    /// old block there or the new one (xv6: `bwrite`).
     pub fn write_home(&mut self, guard: &Guard<Buffer>) -> Result<(), Fault>
         requires held { IsHeld self.old.seats guard.now }
         requires valid { IsSome guard.now.value.content }

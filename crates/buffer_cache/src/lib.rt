@@ -11,8 +11,11 @@
 mod buffer;
 mod buffers;
 mod cache;
+mod chains;
 mod got;
 mod limits;
+mod links;
+mod order;
 mod seat;
 
 pub use buffer::Buffer;

@@ -1,5 +1,5 @@
 // What the cache keeps of a buffer, and the list of these in order of giving back.
-ghost use Rattle.std.specs.Prelude.{◌≡◌};
+ghost use Rattle.std.specs.Prelude.{◌≡◌, IfSome};
 ghost use Rattle.buffer_cache.specs.Seats.{has_block, is_free, is_held_by, is_pinned, unused, with_holder, without_holder, with_content, with_pin, as_new};
 
 use block_device::BLOCK_LEN;
@@ -54,6 +54,13 @@ impl Seat {
         ensures { result ≡ self.now.number }
     {
         self.number
+    }
+
+    // The block, once it is used.
+    pub fn block(&self) -> u32
+        ensures { IfSome self.now.block (λ b. result ≡ b) }
+    {
+        self.block
     }
 
     pub fn has_block(&self, b: u32) -> bool

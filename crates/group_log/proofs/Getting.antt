@@ -1,14 +1,14 @@
 -- What a get gives, where the block was recorded, and what it leaves.
-use Rattle.std.proofs.Common.{◌≡◌, ◌≢◌, inl, inr, ℕ, List, [], false, refl, sym, ◌∙◌, ap, subst, Option, Some, None, IsSome, is_some, if◌then◌else◌}
+use Rattle.std.proofs.Common.{◌≡◌, ◌≢◌, inl, inr, ℕ, List, [], true, false, refl, sym, ◌∙◌, ap, subst, Option, Some, None, IsSome, is_some, if◌then◌else◌}
 use Rattle.std.proofs.lemmas.Bool.{cases_eq}
-use Rattle.std.specs.Option.{MatchOption, IfSome, option_and_then, unwrap_or}
+use Rattle.std.specs.Option.{MatchOption, IfSome, option_map, option_and_then, unwrap_or}
 use Rattle.std.specs.List.{find}
 use Rattle.sleep_lock.specs.SleepLock.{GuardState}
 use Rattle.buffer_cache.specs.Buffers.{BufferState}
 use Rattle.buffer_cache.specs.declared.got.Got.{Got}
 use Rattle.buffer_cache.specs.declared.got.Got.TheVariants.{Held, Waits}
 use Rattle.buffer_cache.specs.Getting.{get_of, get_by, get_new, guard_of}
-use Rattle.buffer_cache.specs.Seats.{SeatState, CacheState, has_block, is_free, seat_of, holder_of, with_seat, with_holder, without_holder, with_pin, given_back, IsHeld, IsGuardOf, KeepsHeld, KeepsOthers}
+use Rattle.buffer_cache.specs.Seats.{SeatState, CacheState, has_block, is_free, is_pinned, seat_of, holder_of, with_seat, with_holder, without_holder, with_pin, given_back, IsPinned, IsHeld, IsGuardOf, KeepsHeld, KeepsOthers}
 use Rattle.group_log.specs.Pins.{KeepsRecorded, HasRecorded}
 use Rattle.group_log.proofs.Seats.{pick, changed_twice, changed_and_ended}
 
@@ -121,3 +121,11 @@ apart_from b at ss pinned none e = absent (seat_of b ss) pinned (ap (λ (k : ℕ
     absent : (o : Option SeatState) → MatchOption o ⊥ KeepsRecorded → o ≡ None → ⊥
     absent None recorded is = recorded
     absent (Some s) recorded is = cc is
+
+-- a recorded block's buffer is pinned
+pub recorded_pinned : (b : ℕ) (ss : List SeatState) → HasRecorded ss b → IsPinned b ss
+recorded_pinned b ss is = by_seat (seat_of b ss) is
+  where
+    by_seat : (o : Option SeatState) → MatchOption o ⊥ KeepsRecorded → option_map is_pinned o ≡ Some true
+    by_seat None recorded = absurd recorded
+    by_seat (Some s) recorded = ap Some recorded.pinned

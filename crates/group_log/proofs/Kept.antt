@@ -77,7 +77,7 @@ none_passes {X} q p (y ∷ xs) x none here =
     here)
     refl none
 
-first_stays : {X : Type 0} (q p : X → Bool) (f : X → X) (xs : List X) (s : X) → find q xs ≡ Some s → p s ≡ false → ((x : X) → q (f x) ≡ false) → find q (change_first p f xs) ≡ Some s
+pub first_stays : {X : Type 0} (q p : X → Bool) (f : X → X) (xs : List X) (s : X) → find q xs ≡ Some s → p s ≡ false → ((x : X) → q (f x) ≡ false) → find q (change_first p f xs) ≡ Some s
 first_stays q p f [] s here isnt apart = here
 first_stays {X} q p f (x ∷ xs) s here isnt apart =
     pick (p x) (λ t. p x ≡ t → find q (if t then f x ∷ xs else x ∷ change_first p f xs) ≡ Some s)
@@ -96,7 +96,7 @@ pub some_recorded : (o : Option SeatState) → MatchOption o ⊥ KeepsRecorded �
 some_recorded None is = absurd is
 some_recorded (Some s) is = (s, refl, is)
 
-not_free : (s : SeatState) → s.pinned ≡ true → is_free s ≡ false
+pub not_free : (s : SeatState) → s.pinned ≡ true → is_free s ≡ false
 not_free s e = ap (λ (t : Bool). not t && is_none s.holder) e
 
 pub kept_new : (hart b : ℕ) (ss : List SeatState) → seat_of b ss ≡ None → Kept b ss (change_first is_free (as_new hart b) ss)

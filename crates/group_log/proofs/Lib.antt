@@ -4,6 +4,7 @@ pub mod Getting
 pub mod Outcomes
 pub mod Writes
 pub mod Kept
+pub mod Slots
 pub mod Steps
 pub mod Recording
 pub mod Leaving

@@ -2,6 +2,7 @@ pub mod Group
 pub mod Phases
 pub mod Pins
 pub mod Soundness
+pub mod Slots
 pub mod Written
 pub mod Turns
 pub mod Waiting

@@ -1,14 +1,15 @@
 // The steps of a commit.
-ghost use Rattle.std.specs.Prelude.{◌≡◌, ◌≢◌, ◌↔◌, ◌<◌, ◌≤◌, ℕ, List, length, IsTrue};
+ghost use Rattle.std.specs.Prelude.{◌≡◌, ◌≢◌, ◌↔◌, ◌<◌, ◌≤◌, ℕ, List, length, slice_index, IsTrue};
 ghost use Rattle.buffer_cache.specs.Lists.{count_of};
 ghost use Rattle.buffer_cache.specs.Seats.{is_held_by, has_block, seen, KeepsHeld};
 ghost use Rattle.fs_layout.specs.Recovered.{IsOutsideLog};
 ghost use Rattle.group_log.specs.Phases.{write_to, write_of, IsUnderWay};
+ghost use Rattle.group_log.specs.Slots.{HasSlots};
 ghost use Rattle.group_log.specs.Soundness.{CanWrite};
 ghost use Rattle.group_log.specs.Turns.{turn_is_out, seats_after, seats_at_fault};
 ghost use Rattle.group_log.specs.Written.{Writes, by_outcome, faults_of};
 
-use crate::copies::{Written, copy_home, copy_to_log, write_head};
+use crate::copies::{Recorded, Written, copy_home, copy_to_log, write_head};
 use crate::phase::Phase;
 use block_device::Device;
 use buffer_cache::{Cache, HARTS};
@@ -33,12 +34,14 @@ pub(crate) fn write_next<D: Device>(
     hart: u8,
     sizes: &Super,
     group: &[u32],
+    slots: &[u32],
     phase: Phase,
 ) -> Written
     requires hart { hart < HARTS }
     requires few { count_of (is_held_by hart) cache.old.seats ≤ 1 }
     requires runs { IsUnderWay (length group.now) phase }
     requires ready { CanWrite (D.contents cache.old.device) cache.old.seats sizes.now group.now phase }
+    requires slots { HasSlots cache.old.seats group.now slots.now phase }
     ensures waits { (result ≡ Written.Waits) ↔ IsTrue (turn_is_out cache.old.seats group.now phase) }
     ensures same { (result ≡ Written.Waits) → cache.new ≡ cache.old }
     ensures called { (result ≢ Written.Waits) → D.Called cache.old.device cache.new.device }
@@ -55,18 +58,31 @@ pub(crate) fn write_next<D: Device>(
             if i as usize == group.len() {
                 write_head(cache, sizes.logstart, group)
             } else {
-                copy_to_log(cache, hart, group[i as usize], sizes.logstart + 1 + i)
+                let recorded = recorded_at(group, slots, i as usize);
+                copy_to_log(cache, hart, recorded, sizes.logstart + 1 + i)
             }
         }
         Phase::Installing(i) => {
             if i as usize == group.len() {
                 write_head(cache, sizes.logstart, &[])
             } else {
-                copy_home(cache, hart, group[i as usize])
+                copy_home(cache, hart, recorded_at(group, slots, i as usize))
             }
         }
         Phase::Open => unreachable!(),
         Phase::Halted => unreachable!(),
+    }
+}
+
+// The group's block in this place.
+fn recorded_at(group: &[u32], slots: &[u32], i: usize) -> Recorded
+    requires within { i < length group.now }
+    requires count { length slots.now ≡ length group.now }
+    ensures { result ≡ record { block = slice_index group.now i; slot = slice_index slots.now i } }
+{
+    Recorded {
+        block: group[i],
+        slot: slots[i],
     }
 }
 

@@ -1,9 +1,9 @@
 // One write of a commit, over the cache.
-ghost use Rattle.std.specs.Prelude.{◌≡◌, ◌≢◌, ◌↔◌, ◌⊎◌, ◌<◌, ◌≤◌, ℕ, List, [], false, length, slice_set, replicate, None, IsSome, OnOk, OnErr};
+ghost use Rattle.std.specs.Prelude.{◌≡◌, ◌≢◌, ◌↔◌, ◌⊎◌, ◌<◌, ◌≤◌, ℕ, List, [], false, length, slice_set, replicate, None, Some, IsSome, OnOk, OnErr};
 ghost use Rattle.std.specs.Option.{unwrap_or};
 ghost use Rattle.block_device.specs.Blocks.{faults_after};
 ghost use Rattle.buffer_cache.specs.Lists.{count_of};
-ghost use Rattle.buffer_cache.specs.Seats.{is_held_by, seat_of, holder_of, with_seat, with_pin, given_back, seen, KeepsHeld};
+ghost use Rattle.buffer_cache.specs.Seats.{is_held_by, seat_of, holder_of, with_seat, with_pin, given_back, slot_of, seen, KeepsHeld};
 ghost use Rattle.group_log.specs.Pins.{HasRecorded};
 ghost use Rattle.group_log.specs.Phases.{head_block};
 ghost use Rattle.group_log.specs.Written.{Writes, by_outcome, faults_of, outcome_of};
@@ -13,6 +13,13 @@ use buffer_cache::{Buffer, Cache, Got, HARTS};
 use fs_layout::widths::{BLOCK_LEN, Block, LOG_HEAD_LEN};
 use fs_layout::write_log_head;
 use sleep_lock::Guard;
+
+/// A recorded block, and the slot that its buffer is in.
+#[derive(Drop)]
+pub(crate) struct Recorded {
+    pub block: u32,
+    pub slot: u32,
+}
 
 /// What came of a write.
 pub(crate) enum Written {
@@ -34,22 +41,29 @@ fn outcome(made: Result<(), Fault>) -> Written
 }
 
 /// Writes a recorded block, as it is seen, to a block of the log.
-pub(crate) fn copy_to_log<D: Device>(cache: &mut Cache<D>, hart: u8, b: u32, at: u32) -> Written
+pub(crate) fn copy_to_log<D: Device>(
+    cache: &mut Cache<D>,
+    hart: u8,
+    recorded: Recorded,
+    at: u32,
+) -> Written
     requires hart { hart < HARTS }
     requires few { count_of (is_held_by hart) cache.old.seats ≤ 1 }
-    requires pinned { HasRecorded cache.old.seats b }
+    requires pinned { HasRecorded cache.old.seats recorded.block }
+    requires slot { slot_of recorded.block cache.old.seats ≡ Some recorded.slot }
     requires uncached { seat_of at cache.old.seats ≡ None }
     requires within { at < length (D.contents cache.old.device) }
-    ensures waits { (result ≡ Written.Waits) ↔ IsSome (holder_of b cache.old.seats) }
+    ensures waits { (result ≡ Written.Waits) ↔ IsSome (holder_of recorded.block cache.old.seats) }
     ensures same { (result ≡ Written.Waits) → cache.new ≡ cache.old }
     ensures called { (result ≢ Written.Waits) → D.Called cache.old.device cache.new.device }
-    ensures writes { Writes (D.contents cache.old.device) at (seen D.contents cache.old b) result (D.contents cache.new.device) }
+    ensures writes { Writes (D.contents cache.old.device) at (seen D.contents cache.old recorded.block) result (D.contents cache.new.device) }
     ensures faults { D.failures cache.new.device ≡ faults_of result (D.failures cache.old.device) }
-    ensures seats { cache.new.seats ≡ by_outcome result cache.old.seats (given_back b cache.old.seats) (given_back b cache.old.seats) }
+    ensures seats { cache.new.seats
+        ≡ by_outcome result cache.old.seats (given_back recorded.block cache.old.seats) (given_back recorded.block cache.old.seats) }
     ensures held { KeepsHeld cache.old.seats cache.new.seats }
     ensures seen { (k : ℕ) → k ≢ at → seen D.contents cache.new k ≡ seen D.contents cache.old k }
 {
-    match cache.get(hart, b) {
+    match cache.get_at(hart, recorded.slot) {
         Got::Waits => Written::Waits,
         Got::Held(guard) => {
             let made = write_copy(cache, &guard, at);
@@ -77,26 +91,28 @@ fn write_copy<D: Device>(cache: &mut Cache<D>, guard: &Guard<Buffer>, at: u32) -
 }
 
 /// Writes a recorded block, as it is seen, to its own place, and gives its pin back.
-pub(crate) fn copy_home<D: Device>(cache: &mut Cache<D>, hart: u8, b: u32) -> Written
+pub(crate) fn copy_home<D: Device>(cache: &mut Cache<D>, hart: u8, recorded: Recorded) -> Written
     requires hart { hart < HARTS }
     requires few { count_of (is_held_by hart) cache.old.seats ≤ 1 }
-    requires pinned { HasRecorded cache.old.seats b }
-    requires within { b < length (D.contents cache.old.device) }
-    ensures waits { (result ≡ Written.Waits) ↔ IsSome (holder_of b cache.old.seats) }
+    requires pinned { HasRecorded cache.old.seats recorded.block }
+    requires slot { slot_of recorded.block cache.old.seats ≡ Some recorded.slot }
+    requires within { recorded.block < length (D.contents cache.old.device) }
+    ensures waits { (result ≡ Written.Waits) ↔ IsSome (holder_of recorded.block cache.old.seats) }
     ensures same { (result ≡ Written.Waits) → cache.new ≡ cache.old }
     ensures called { (result ≢ Written.Waits) → D.Called cache.old.device cache.new.device }
-    ensures writes { Writes (D.contents cache.old.device) b (seen D.contents cache.old b) result (D.contents cache.new.device) }
+    ensures writes { Writes (D.contents cache.old.device) recorded.block (seen D.contents cache.old recorded.block) result (D.contents cache.new.device) }
     ensures faults { D.failures cache.new.device ≡ faults_of result (D.failures cache.old.device) }
     ensures seats { cache.new.seats
-        ≡ by_outcome result cache.old.seats (given_back b (with_seat b (with_pin false) cache.old.seats)) (given_back b cache.old.seats) }
+        ≡ by_outcome result cache.old.seats (given_back recorded.block (with_seat recorded.block (with_pin false) cache.old.seats))
+        (given_back recorded.block cache.old.seats) }
     ensures held { KeepsHeld cache.old.seats cache.new.seats }
     ensures seen { (k : ℕ) → seen D.contents cache.new k ≡ seen D.contents cache.old k }
 {
-    match cache.get(hart, b) {
+    match cache.get_at(hart, recorded.slot) {
         Got::Waits => Written::Waits,
         Got::Held(guard) => match cache.write_home(&guard) {
             Ok(()) => {
-                cache.unpin(b);
+                cache.unpin(recorded.block);
                 cache.release(guard);
                 Written::Done
             }

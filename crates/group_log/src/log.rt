@@ -39,18 +39,21 @@ pub struct Log<D: Device> {
     cache: Cache<D>,
     sizes: Super,
     group: ArrayVec<u32, MOST_LOGGED>,
+    // The slots of its blocks' buffers, as long as these are pinned.
+    slots: ArrayVec<u32, MOST_LOGGED>,
     members: [Option<u8>; PLACES],
     phase: Phase,
 }
 
 impl<D: Device> Model for Log<D> {
-    ghost use Rattle.group_log.specs.Soundness.{LogState, IsSoundLog};
+    ghost use Rattle.group_log.specs.Slots.{IsSlottedLog};
+    ghost use Rattle.group_log.specs.Soundness.{LogState};
 
     ghost Value = { LogState D };
 
     ghost view = { λ l. record { cache = l.cache; sizes = l.sizes; group = l.group.items; members = l.members; phase = l.phase } };
 
-    ghost invariant = { λ l. IsSoundLog (D.contents l.cache.device) l.cache.seats l.sizes l.group.items l.members l.phase };
+    ghost invariant = { λ l. IsSlottedLog (D.contents l.cache.device) l.cache.seats l.sizes l.group.items l.slots.items l.members l.phase };
 }
 
 impl<D: Device> Log<D> {
@@ -64,7 +67,7 @@ impl<D: Device> Log<D> {
     ghost use Rattle.group_log.specs.Waiting.{join_waits, faults_at, IfWaits, IfMade, IfFailed, StaysOrBecomes};
     ghost use Rattle.group_log.specs.declared.phase.Phase.TheVariants.{Open, Halted};
 
-    /// A log with nothing recorded, over a fresh cache on a disk whose log is empty.
+    /// A log with nothing recorded, over a fresh cache on a disk whose log is empty (xv6: `initlog`).
     pub fn new(cache: Cache<D>, sizes: Super) -> Log<D>
         requires fresh { cache.seats ≡ unused_from 0 BUFFERS }
         requires place { IsPlaced (D.contents cache.device) sizes }
@@ -77,6 +80,7 @@ impl<D: Device> Log<D> {
             cache,
             sizes,
             group: ArrayVec::new(),
+            slots: ArrayVec::new(),
             members: [None; PLACES],
             phase: Phase::Open,
         }
@@ -163,7 +167,7 @@ impl<D: Device> Log<D> {
     }
 
     /// Joins a transaction. It waits exactly while a commit runs, where the group might outgrow the log, and for good
-    /// once the log is halted; then nothing changes.
+    /// once the log is halted; then nothing changes (xv6: `begin_op`).
     pub fn join(&mut self, hart: u8) -> Option<Txn>
         requires hart { hart < HARTS }
         requires idle { slice_get self.old.members hart ≡ Some None }
@@ -186,7 +190,7 @@ impl<D: Device> Log<D> {
 
     /// Records a valid buffer and gives it back: its block is seen with these bytes from now on, and its buffer stays
     /// pinned until a commit has copied it home. A block that is recorded again takes no further place in the group.
-    /// A transaction adds at most ten blocks.
+    /// A transaction adds at most ten blocks (xv6: `log_write` and `brelse`).
     pub fn record(&mut self, txn: &mut Txn, guard: Guard<Buffer>)
         requires member { IsMember self.old.members txn.old }
         requires running { self.old.phase ≢ Halted }
@@ -211,12 +215,19 @@ impl<D: Device> Log<D> {
     {
         show_each_once(&self.cache);
         let b = guard.value().block();
-        add(&mut self.group, &mut self.members, txn.hart() as usize, b);
+        add(
+            &mut self.group,
+            &mut self.slots,
+            &mut self.members,
+            txn.hart() as usize,
+            b,
+            guard.number(),
+        );
         self.cache.pin(b);
         self.cache.release_changed(guard);
     }
 
-    /// Leaves a transaction. The last one to leave begins the commit, where something was recorded.
+    /// Leaves a transaction. The last one to leave begins the commit, where something was recorded (xv6: `end_op`).
     pub fn leave(&mut self, txn: Txn) -> Left
         requires member { IsMember self.old.members txn }
         requires running { self.old.phase ≢ Halted }
@@ -243,7 +254,7 @@ impl<D: Device> Log<D> {
     /// Makes the next step of the commit: one write to the device. First each block of the group is copied into the
     /// log, then the head is written with their numbers, then each is copied home and its pin given back, and then the
     /// head is written with none. It waits exactly where the buffer of the block to be copied is out, and then nothing
-    /// changes. After a fault the log is halted for good.
+    /// changes. After a fault the log is halted for good (xv6: `commit`; a write of `write_log`, `write_head` or `install_trans`).
     pub fn commit_step(&mut self, hart: u8) -> Progress
         requires hart { hart < HARTS }
         requires few { count_of (is_held_by hart) self.old.cache.seats ≤ 1 }
@@ -289,7 +300,14 @@ impl<D: Device> Log<D> {
         ensures moves { IsCommitMove D.contents result self.old self.new }
     {
         show_each_once(&self.cache);
-        match write_next(&mut self.cache, hart, &self.sizes, &self.group, self.phase) {
+        match write_next(
+            &mut self.cache,
+            hart,
+            &self.sizes,
+            &self.group,
+            &self.slots,
+            self.phase,
+        ) {
             Written::Waits => Progress::Waits,
             Written::Failed => {
                 self.phase = Phase::Halted;
@@ -298,6 +316,7 @@ impl<D: Device> Log<D> {
             Written::Done => {
                 let phase = after(self.phase, self.group.len());
                 clear_when_open(&mut self.group, phase);
+                clear_when_open(&mut self.slots, phase);
                 self.phase = phase;
                 progress_to(phase)
             }
@@ -375,6 +394,7 @@ impl<D: Device> Log<D> {
             cache,
             sizes: _,
             group: _,
+            slots: _,
             members: _,
             phase: _,
         } = self;

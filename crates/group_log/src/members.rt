@@ -1,6 +1,7 @@
 // Which harts are in a transaction, and how many blocks each added to the group.
 ghost use Rattle.std.specs.Prelude.{◌≡◌, ◌↔◌, ◌<◌, ◌≤◌, ◌+◌, ◌*◌, ℕ, List, length, false, IsTrue};
 ghost use Rattle.group_log.specs.Group.{joined, HasRoom, IsMember, one_more, members_with, has, with_block};
+ghost use Rattle.group_log.specs.Slots.{slots_with};
 
 use crate::limits::{BLOCKS_OF_A_TRANSACTION, MOST_LOGGED, PLACES};
 use arrayvec::ArrayVec;
@@ -32,20 +33,25 @@ fn count_up(members: &mut [Option<u8>], hart: usize)
     }
 }
 
-/// A block into the group, once.
+/// A block into the group, once, with its buffer's slot.
 pub(crate) fn add(
     group: &mut ArrayVec<u32, MOST_LOGGED>,
+    slots: &mut ArrayVec<u32, MOST_LOGGED>,
     members: &mut [Option<u8>],
     hart: usize,
     b: u32,
+    slot: u32,
 )
     requires within { hart < length members.old }
     requires room { has group.old.items b ≡ false → HasRoom members.old hart × (length group.old.items < MOST_LOGGED) }
+    requires count { length slots.old.items ≡ length group.old.items }
     ensures group { group.new.items ≡ with_block group.old.items b }
+    ensures slots { slots.new.items ≡ slots_with group.old.items b slots.old.items slot }
     ensures members { members.new ≡ members_with group.old.items b members.old hart }
 {
     if !contains(group, b) {
         group.push(b);
+        slots.push(slot);
         count_up(members, hart);
     }
 }

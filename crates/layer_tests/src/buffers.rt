@@ -2,6 +2,7 @@
 ghost use Rattle.std.specs.Prelude.{◌≡◌};
 ghost use Rattle.buffer_cache.specs.Seats.{unused_from};
 
+use crate::images::fresh;
 use block_device::{BLOCK_LEN, Device, Fused, MemoryDisk};
 use buffer_cache::{BUFFERS, BUFFERS_OF_A_HART, Buffers, Cache, Got, HARTS, MOST_PINNED};
 use sleep_lock::Guard;
@@ -9,10 +10,10 @@ use std::alloc::{AllocError, Global};
 use std::process::Abort;
 use std::test::Fail;
 
-const BLOCKS: u32 = 60;
+pub const BLOCKS: u32 = 60;
 
-// Sixty blocks, each full of its number.
-fn numbered(alloc: Global) -> Result<MemoryDisk, AllocError> {
+/// Sixty blocks, each full of its number.
+pub fn numbered(alloc: Global) -> Result<MemoryDisk, AllocError> {
     let mut bytes = Vec::new(alloc);
     for b in 0..BLOCKS {
         for _ in 0..BLOCK_LEN {
@@ -22,8 +23,8 @@ fn numbered(alloc: Global) -> Result<MemoryDisk, AllocError> {
     Ok(MemoryDisk::new(bytes))
 }
 
-// The buffers, asked for once more where memory was refused.
-fn buffers(rt: &impl Abort, alloc: Global) -> Buffers
+/// The buffers, asked for once more where memory was refused.
+pub fn buffers(rt: &impl Abort, alloc: Global) -> Buffers
     ensures { result ≡ unused_from 0 BUFFERS }
 {
     match Buffers::new(alloc) {
@@ -32,8 +33,8 @@ fn buffers(rt: &impl Abort, alloc: Global) -> Buffers
     }
 }
 
-// Gets a block, fills it if it isn't valid, and gives it back: was it valid?
-fn touch<D: Device>(rt: &impl Abort, cache: &mut Cache<D>, hart: u8, b: u32) -> bool {
+// Gets a block, which has this byte at place 7, fills it if it isn't valid, and gives it back: was it valid?
+fn touch<D: Device>(rt: &impl Abort, cache: &mut Cache<D>, hart: u8, b: u32, byte: u8) -> bool {
     assert!(rt; hart < HARTS && b < cache.device().blocks());
     assert!(rt; cache.held_by(hart) < BUFFERS_OF_A_HART);
     match cache.get(hart, b) {
@@ -43,28 +44,30 @@ fn touch<D: Device>(rt: &impl Abort, cache: &mut Cache<D>, hart: u8, b: u32) -> 
             if !valid {
                 assert!(rt; cache.fill(&mut guard).is_ok());
             }
-            assert_eq!(rt; guard.value().bytes()[7] as u32, b);
+            assert_eq!(rt; guard.value().bytes()[7], byte);
             cache.release(guard);
             valid
         }
     }
 }
 
+/// On a fresh image, whose first 47 blocks have a zero at place 7, the first 46 blocks are in the buffers, and the first of them is asked
+/// for once more. Then block 46 takes the buffer of block 1; or of block 2, where block 1 is pinned.
 #[test]
 fn the_least_recent_is_taken(rt: HostRuntime) -> Result<(), Fail> {
     for (pin, taken) in [(None, 1), (Some(1), 2)] {
-        let disk = numbered(rt.alloc())?;
+        let disk = fresh(rt.alloc())?;
         let mut cache = Cache::new(buffers(&rt, rt.alloc()), disk);
         for b in 0..BUFFERS as u32 {
-            assert!(rt; !touch(&rt, &mut cache, 0, b));
+            assert!(rt; !touch(&rt, &mut cache, 0, b, 0));
         }
-        assert!(rt; touch(&rt, &mut cache, 0, 0));
+        assert!(rt; touch(&rt, &mut cache, 0, 0, 0));
         if let Some(b) = pin {
             assert!(rt; cache.is_cached(b) && cache.pinned() < MOST_PINNED);
             cache.pin(b);
         }
-        assert!(rt; !touch(&rt, &mut cache, 0, BUFFERS as u32));
-        for b in 0..BUFFERS as u32 {
+        assert!(rt; !touch(&rt, &mut cache, 0, BUFFERS as u32, 0));
+        for b in 0..=BUFFERS as u32 {
             assert_eq!(rt; cache.is_cached(b), b != taken);
         }
         let _ = cache.retire();
@@ -80,7 +83,7 @@ fn a_fault_leaves_the_guard(rt: HostRuntime) -> Result<(), Fail> {
         let disk = Fused::new(numbered(rt.alloc())?, calls as u64);
         let mut cache = Cache::new(buffers(&rt, rt.alloc()), disk);
         for b in 0..calls {
-            assert!(rt; !touch(&rt, &mut cache, 1, b));
+            assert!(rt; !touch(&rt, &mut cache, 1, b, b as u8));
         }
         assert!(rt; calls < cache.device().blocks());
         assert!(rt; cache.held_by(7) < BUFFERS_OF_A_HART);
@@ -91,7 +94,7 @@ fn a_fault_leaves_the_guard(rt: HostRuntime) -> Result<(), Fail> {
                 assert!(rt; cache.fill(&mut guard).is_err());
                 assert!(rt; !guard.value().is_valid());
                 for b in 0..calls {
-                    assert!(rt; touch(&rt, &mut cache, 1, b));
+                    assert!(rt; touch(&rt, &mut cache, 1, b, b as u8));
                 }
                 let (retired, disk) = cache.retire();
                 assert_eq!(rt; disk.faults(), 1);
@@ -110,7 +113,7 @@ fn there_is_one_more(rt: HostRuntime) -> Result<(), Fail> {
     let mut guards = Vec::with_capacity(rt.alloc(), 16)?;
     let mut cache = Cache::new(buffers(&rt, rt.alloc()), disk);
     for b in 0..MOST_PINNED as u32 {
-        assert!(rt; !touch(&rt, &mut cache, 0, b));
+        assert!(rt; !touch(&rt, &mut cache, 0, b, b as u8));
         assert!(rt; cache.is_cached(b) && cache.pinned() < MOST_PINNED);
         cache.pin(b);
     }
@@ -143,7 +146,7 @@ fn there_is_one_more(rt: HostRuntime) -> Result<(), Fail> {
 fn what_is_recorded_is_seen_and_comes_home(rt: HostRuntime) -> Result<(), Fail> {
     let disk = numbered(rt.alloc())?;
     let mut cache = Cache::new(buffers(&rt, rt.alloc()), disk);
-    assert!(rt; !touch(&rt, &mut cache, 2, 9));
+    assert!(rt; !touch(&rt, &mut cache, 2, 9, 9));
     assert!(rt; cache.is_cached(9) && cache.pinned() < MOST_PINNED);
     cache.pin(9);
     assert!(rt; cache.held_by(2) < BUFFERS_OF_A_HART && 9 < cache.device().blocks());

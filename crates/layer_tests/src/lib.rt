@@ -7,9 +7,13 @@ mod buffers;
 #[cfg(test)]
 mod disks;
 #[cfg(test)]
+mod images;
+#[cfg(test)]
 mod locks;
 #[cfg(test)]
 mod logs;
+#[cfg(test)]
+mod plain_buffers;
 #[cfg(test)]
 mod records;
 #[cfg(test)]

@@ -3,6 +3,7 @@ ghost use Rattle.std.specs.Prelude.{◌≡◌, ◌-◌, [], IfOk};
 ghost use Rattle.fs_layout.specs.Recovered.{logged};
 ghost use Rattle.group_log.specs.Soundness.{IsPlaced};
 
+use crate::images::fresh;
 use arrayvec::ArrayVec;
 use block_device::{BLOCK_LEN, Device, Fault, Fused, MemoryDisk};
 use buffer_cache::{BUFFERS_OF_A_HART, Buffers, Cache, Got, HARTS};
@@ -36,11 +37,12 @@ fn disk(rt: &impl Abort, alloc: Global, sizes: &Super) -> Result<MemoryDisk, All
     Ok(disk)
 }
 
-// A disk that keeps the numbers of the blocks that were written, in order.
+// A disk that keeps the numbers of the blocks that were written, in order, and of those of the log's head how many blocks each names.
 #[derive(Drop)]
 struct Watched {
     disk: Fused,
     writes: ArrayVec<u32, 64>,
+    named: ArrayVec<u8, 64>,
 }
 
 impl Device for Watched {
@@ -71,6 +73,9 @@ impl Device for Watched {
         self.disk.write(b, from)?;
         if !self.writes.is_full() {
             self.writes.push(b);
+        }
+        if b == FRESH.logstart && !self.named.is_full() {
+            self.named.push(from[0]);
         }
         Ok(())
     }
@@ -160,11 +165,14 @@ fn commit<D: Device>(rt: &impl Abort, log: &mut Log<D>, hart: u8) -> (u64, Progr
     panic!(rt; "a commit has an end")
 }
 
+/// On a fresh image a transaction records block 48, block 46 and block 48 once more: the commit writes their two copies, the head, which
+/// names two blocks, both at home in the order in which they were first recorded, and the empty head.
 #[test]
 fn a_commit_writes_in_order(rt: HostRuntime) -> Result<(), Fail> {
     let disk = Watched {
-        disk: Fused::new(disk(&rt, rt.alloc(), &FRESH)?, u64::MAX),
+        disk: Fused::new(fresh(rt.alloc())?, u64::MAX),
         writes: ArrayVec::new(),
+        named: ArrayVec::new(),
     };
     let mut log = open(&rt, rt.alloc(), disk)?;
     let mut txn = join(&rt, &mut log, 0).expect(&rt, "there is room");
@@ -172,15 +180,18 @@ fn a_commit_writes_in_order(rt: HostRuntime) -> Result<(), Fail> {
         assert_eq!(rt; change(&rt, &mut log, &mut txn, b, byte), Ok(()));
     }
     assert!(rt; log.is_recorded(46) && log.is_recorded(48) && !log.is_recorded(47));
-    assert!(rt;
-        log.is_home(46) && !log.is_home(1) && !log.is_home(32) && !log.is_home(BLOCKS as u32)
-    );
+    assert!(rt; log.is_home(46) && !log.is_home(1) && !log.is_home(32) && !log.is_home(2000));
     assert_eq!(rt; leave(&rt, &mut log, txn), Left::Commits);
     assert_eq!(rt; commit(&rt, &mut log, 0), (6, Progress::Ended));
     assert!(rt; !log.is_recorded(46));
     let (_ended, _slots, disk) = log.retire();
-    let Watched { disk, writes } = disk;
+    let Watched {
+        disk,
+        writes,
+        named,
+    } = disk;
     assert_eq!(rt; writes.as_slice(), [3, 4, 2, 48, 46, 2].as_slice());
+    assert_eq!(rt; named.as_slice(), [2, 0].as_slice());
     let bytes = disk.into_disk().into_bytes();
     for (b, byte) in [(46usize, 2), (48, 3), (3, 3), (4, 2), (2, 0)] {
         assert_eq!(rt; bytes.get(b * BLOCK_LEN).copied(), Some(byte), "block {b}");

@@ -23,7 +23,7 @@ use Rattle.inodes_on_blocks.specs.Shown.{Shows}
 use Rattle.inodes_on_blocks.proofs.Mounted.{mounts_show_their_trees}
 use Rattle.calls_on_blocks.specs.History.{first}
 use Rattle.calls_on_blocks.specs.Layer.{SharedState, layer, exec_shared}
-use Rattle.calls_on_blocks.specs.Programs.{handlers}
+use Rattle.inodes_on_blocks.specs.Programs.{handlers}
 use Rattle.calls_on_blocks.specs.Theory.{served_calls, child_of, begin_in, block_calls, block_code}
 use Rattle.calls_on_blocks.proofs.Bridges.{programs_are_lowered}
 use Rattle.calls_on_blocks.proofs.History.{first_holds, first_idle}

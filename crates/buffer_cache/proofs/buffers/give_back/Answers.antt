@@ -1,13 +1,13 @@
 use Rattle.std.proofs.Common.{◌∙◌, ap, set, arith}
 use Rattle.buffer_cache.specs.Seats.{SeatState, without_holder}
-use Rattle.buffer_cache.proofs.Ordered.{seats_count, once_in, numbered_read}
+use Rattle.buffer_cache.proofs.Ordered.{seats_count, numbered_read}
 use Rattle.buffer_cache.proofs.buffers.give_back.Goals as goal
 
 pub overflow_cast-i-2 : goal.overflow_cast-i-2
 overflow_cast-i-2 c = let count = seats_count c.args.seats.now.items c.args.order.now c.requires.ordered in omega (arith, count, c.requires.place)
 
 pub move_last-requires : goal.move_last-requires
-move_last-requires c = record { there = once_in c.args.seats.now.items c.args.order.now c.args.i c.requires.ordered c.requires.place }
+move_last-requires c = let count = seats_count c.args.seats.now.items c.args.order.now c.requires.ordered in omega (arith, count, c.requires.place)
 
 pub returns-clause-seats : goal.returns-clause-seats
 returns-clause-seats c =

@@ -1,10 +1,11 @@
-use Rattle.std.proofs.Common.{ℕ, List, Option, Some, None, IsSome}
+use Rattle.std.proofs.Common.{ℕ, List, Option, Some, None, IsSome, refl}
 use Rattle.std.specs.Prelude.{IfSome}
-use Rattle.buffer_cache.specs.Seats.{has_block}
-use Rattle.buffer_cache.specs.Order.{IsKept}
+use Rattle.buffer_cache.specs.Seats.{has_block, with_content}
+use Rattle.buffer_cache.specs.Order.{IsLinked}
 use Rattle.buffer_cache.proofs.Seated.{held_cached}
 use Rattle.buffer_cache.proofs.Ordered.{once_of}
 use Rattle.buffer_cache.proofs.Kept.{held_of, keeps_filled}
+use Rattle.buffer_cache.proofs.Chained.{chained_with}
 use Rattle.buffer_cache.proofs.buffers.Buffers.keep.Goals as goal
 
 some_then : (o : Option (List ℕ)) {P : List ℕ → Type 0} (Q : Type 0) → IsSome o → IfSome o P → ((x : List ℕ) → P x → Q) → Q
@@ -18,19 +19,22 @@ if_some (Some x) p k = k x p
 pub keep_in-requires-clause-held : goal.keep_in-requires-clause-held
 keep_in-requires-clause-held c =
     held_cached c.self.inside.seats.items c.args.guard.now
-    (held_of c.self.inside.seats.items c.self.inside.order c.args.self.now c.args.guard.now c.self.invariant.ordered c.self.view_is c.requires.once c.requires.held)
+    (held_of c.self.inside.seats.items c.self.inside.order c.args.self.now c.args.guard.now c.self.invariant.kept.ordered c.self.view_is c.requires.once c.requires.held)
 
 pub keep_in-requires-clause-once : goal.keep_in-requires-clause-once
-keep_in-requires-clause-once c = once_of c.self.inside.seats.items c.self.inside.order c.args.self.now (has_block c.args.guard.now.value.block) c.self.invariant.ordered c.self.view_is c.requires.once
+keep_in-requires-clause-once c = once_of c.self.inside.seats.items c.self.inside.order c.args.self.now (has_block c.args.guard.now.value.block) c.self.invariant.kept.ordered c.self.view_is c.requires.once
 
 pub invariant_of-self : goal.invariant_of-self
 invariant_of-self c =
     let in_ = c.self.inside in
-    some_then c.args.guard.now.value.content (IsKept in_.slots c.keep_in.new.seats.items in_.order) c.requires.valid c.keep_in.ensures
-    (λ bytes to. (keeps_filled in_.slots in_.seats.items in_.order c.args.self.now c.keep_in.new.seats.items c.args.guard.now bytes c.self.invariant c.self.view_is c.requires.once c.requires.held to).all)
+    some_then c.args.guard.now.value.content (IsLinked in_.slots c.keep_in.new.seats.items in_.order in_.chains) c.requires.valid c.keep_in.ensures
+    (λ bytes to. record {
+      kept = (keeps_filled in_.slots in_.seats.items in_.order c.args.self.now c.keep_in.new.seats.items c.args.guard.now bytes c.self.invariant.kept c.self.view_is c.requires.once c.requires.held to).all;
+      chained = chained_with in_.seats.items c.keep_in.new.seats.items in_.chains (has_block c.args.guard.now.value.block) (with_content bytes) (λ _. refl) to c.self.invariant.chained;
+    })
 
 pub returns : goal.returns
 returns c =
     let in_ = c.self.inside in
     if_some c.args.guard.now.value.content c.keep_in.ensures
-    (λ bytes to. (keeps_filled in_.slots in_.seats.items in_.order c.args.self.now c.keep_in.new.seats.items c.args.guard.now bytes c.self.invariant c.self.view_is c.requires.once c.requires.held to).view)
+    (λ bytes to. (keeps_filled in_.slots in_.seats.items in_.order c.args.self.now c.keep_in.new.seats.items c.args.guard.now bytes c.self.invariant.kept c.self.view_is c.requires.once c.requires.held to).view)

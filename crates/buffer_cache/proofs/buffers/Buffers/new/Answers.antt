@@ -1,14 +1,18 @@
-use Rattle.std.proofs.Common.{List, ◌∙◌, ap}
+use Rattle.std.proofs.Common.{List, sym, ◌∙◌, ap, subst}
 use Rattle.buffer_cache.specs.Seats.{SeatState, unused_from}
+use Rattle.buffer_cache.specs.Links.{IsChained}
 use Rattle.buffer_cache.specs.Order.{in_order}
 use Rattle.buffer_cache.proofs.Ordered.{in_order_new}
 use Rattle.buffer_cache.proofs.Kept.{kept_new}
 use Rattle.buffer_cache.proofs.buffers.Buffers.new.Goals as goal
 
 pub invariant_of-result : goal.invariant_of-result
-invariant_of-result c = kept_new c.in_ok-slots.slots c.in_ok-seats.seats.items c.new_order.result c.in_ok-slots.ensures c.in_ok-seats.ensures c.new_order.ensures
+invariant_of-result c = record {
+  kept = kept_new c.in_ok-slots.slots c.in_ok-seats.seats.items c.new.result c.in_ok-slots.ensures c.in_ok-seats.ensures c.new.ensures;
+  chained = subst (λ (l : List SeatState). IsChained l c.new-2.result) (sym c.in_ok-seats.ensures) c.new-2.ensures;
+}
 
 pub returns : goal.returns
 returns c =
-    ap (λ (l : List SeatState). in_order l c.new_order.result) c.in_ok-seats.ensures
-    ∙ ap (in_order (unused_from 0 46)) c.new_order.ensures ∙ in_order_new
+    ap (λ (l : List SeatState). in_order l c.new.result) c.in_ok-seats.ensures
+    ∙ ap (in_order (unused_from 0 46)) c.new.ensures ∙ in_order_new

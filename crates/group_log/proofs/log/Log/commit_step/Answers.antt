@@ -1,28 +1,38 @@
-use Rattle.std.proofs.Common.{◌≡◌, ◌≢◌, ◌∙◌, ap, refl, sym, subst, ℕ, length, if◌then◌else◌}
+use Rattle.std.proofs.Common.{◌≡◌, ◌≢◌, ◌∙◌, ap, refl, sym, subst, ℕ, List, length, if◌then◌else◌}
 use Rattle.fs_layout.specs.Recovered.{recovered, IsOutsideLog}
 use Rattle.buffer_cache.specs.Seats.{seen}
 use Rattle.group_log.specs.declared.phase.Phase.TheVariants.{Open, Halted}
 use Rattle.group_log.specs.declared.commit.Progress.{Progress}
 use Rattle.group_log.specs.declared.commit.Progress.TheVariants.{Waits, Wrote, Ended, Failed}
 use Rattle.group_log.specs.Phases.{is_point, next_phase}
+use Rattle.group_log.specs.Turns.{seats_after}
 use Rattle.group_log.specs.Waiting.{IfMade, StaysOrBecomes}
 use Rattle.group_log.proofs.Committed.{done_good, failed_good, done_recovered, failed_recovered}
 use Rattle.group_log.proofs.Moving.{commit_move, done_move}
+use Rattle.group_log.proofs.Slots.{slots_halted, slots_written}
 use Rattle.group_log.proofs.log.Log.commit_step.Goals as goal
 
 pub invariant_of-self-in-Failed : goal.invariant_of-self-in-Failed
 invariant_of-self-in-Failed g c =
     let l = c.self.inside in
     let begun : (l.phase ≢ Open) × (l.phase ≢ Halted) = subst (λ v. (v.phase ≢ Open) × (v.phase ≢ Halted)) (sym c.self.view_is) c.requires.begun in
-    failed_good (g.D.Device.contents l.cache.device) (g.D.Device.contents c.write_next.new.cache.device) l.cache.seats c.write_next.new.cache.seats l.sizes l.group.items c.deref.result.now l.members l.phase
-    c.self.invariant begun c.deref.ensures.0 c.in-Failed.ensures.writes c.in-Failed.ensures.seen
+    record {
+      log = failed_good (g.D.Device.contents l.cache.device) (g.D.Device.contents c.write_next.new.cache.device) l.cache.seats c.write_next.new.cache.seats l.sizes l.group.items c.deref.result.now l.members l.phase
+          c.self.invariant.log begun c.deref.ensures.0 c.in-Failed.ensures.writes c.in-Failed.ensures.seen;
+      placed = slots_halted l.cache.seats c.write_next.new.cache.seats l.group.items l.slots.items l.phase c.self.invariant.placed;
+    }
 
 pub invariant_of-self-in-Done : goal.invariant_of-self-in-Done
 invariant_of-self-in-Done g c =
     let l = c.self.inside in
     let begun : (l.phase ≢ Open) × (l.phase ≢ Halted) = subst (λ v. (v.phase ≢ Open) × (v.phase ≢ Halted)) (sym c.self.view_is) c.requires.begun in
-    done_good (g.D.Device.contents l.cache.device) (g.D.Device.contents c.write_next.new.cache.device) l.cache.seats c.write_next.new.cache.seats l.sizes l.group.items c.deref.result.now l.members l.phase
-    c.self.invariant begun c.deref.ensures.0 c.clear_when_open.new.group.items c.after-phase.result c.len.result c.show_each_once.ensures c.in-Done.ensures.writes c.in-Done.ensures.seats c.in-Done.ensures.seen c.len.ensures.value c.after-phase.ensures c.clear_when_open.ensures
+    record {
+      log = done_good (g.D.Device.contents l.cache.device) (g.D.Device.contents c.write_next.new.cache.device) l.cache.seats c.write_next.new.cache.seats l.sizes l.group.items c.deref.result.now l.members l.phase
+          c.self.invariant.log begun c.deref.ensures.0 c.clear_when_open.new.group.items c.after-phase.result c.len.result c.show_each_once.ensures c.in-Done.ensures.writes c.in-Done.ensures.seats c.in-Done.ensures.seen c.len.ensures.value c.after-phase.ensures c.clear_when_open.ensures;
+      placed = slots_written l.cache.seats c.write_next.new.cache.seats l.group.items c.clear_when_open.new.group.items l.slots.items c.clear_when_open-in-Done.new.group.items c.len.result l.phase c.after-phase.result
+          begun c.show_each_once.ensures c.self.invariant.placed (◌∙◌ {b = seats_after c.deref.result.now l.phase l.cache.seats} c.in-Done.ensures.seats (ap (λ (ks : List ℕ). seats_after ks l.phase l.cache.seats) c.deref.ensures.0))
+          c.len.ensures.value c.after-phase.ensures c.clear_when_open.ensures c.clear_when_open-in-Done.ensures;
+    }
 
 pub returns-in-Failed-clause-kept : goal.returns-in-Failed-clause-kept
 returns-in-Failed-clause-kept g c =
@@ -31,7 +41,7 @@ returns-in-Failed-clause-kept g c =
     subst (λ v. StaysOrBecomes v.sizes (recovered (g.D.Device.contents v.cache.device)) (λ b. if is_point (length v.group) v.phase then seen g.D.Device.contents v.cache b else recovered (g.D.Device.contents v.cache.device) b) (recovered (g.D.Device.contents c.write_next.new.cache.device)))
     c.self.view_is
     (failed_recovered (g.D.Device.contents l.cache.device) (g.D.Device.contents c.write_next.new.cache.device) l.cache.seats c.write_next.new.cache.seats l.sizes l.group.items c.deref.result.now l.members l.phase
-    c.self.invariant begun c.deref.ensures.0 c.in-Failed.ensures.writes c.in-Failed.ensures.seen)
+    c.self.invariant.log begun c.deref.ensures.0 c.in-Failed.ensures.writes c.in-Failed.ensures.seen)
 
 if_made : (r : Progress) (P : Type 0) → P → IfMade r P
 if_made Waits P p = tt
@@ -47,7 +57,7 @@ returns-in-Done-clause-recovered g c =
     (subst (λ v. (b : ℕ) → IsOutsideLog v.sizes b → recovered (g.D.Device.contents c.write_next.new.cache.device) b ≡ (if is_point (length v.group) v.phase then seen g.D.Device.contents v.cache b else recovered (g.D.Device.contents v.cache.device) b))
     c.self.view_is
     (done_recovered (g.D.Device.contents l.cache.device) (g.D.Device.contents c.write_next.new.cache.device) l.cache.seats c.write_next.new.cache.seats l.sizes l.group.items c.deref.result.now l.members l.phase
-    c.self.invariant begun c.deref.ensures.0 c.in-Done.ensures.writes c.in-Done.ensures.seen))
+    c.self.invariant.log begun c.deref.ensures.0 c.in-Done.ensures.writes c.in-Done.ensures.seen))
 
 pub returns-in-Failed-clause-moves : goal.returns-in-Failed-clause-moves
 returns-in-Failed-clause-moves g c =
@@ -67,4 +77,4 @@ returns-in-Done-clause-moves g c =
     (subst (λ v. (b : ℕ) → IsOutsideLog v.sizes b → recovered (g.D.Device.contents c.write_next.new.cache.device) b ≡ (if is_point (length v.group) v.phase then seen g.D.Device.contents v.cache b else recovered (g.D.Device.contents v.cache.device) b))
     c.self.view_is
     (done_recovered (g.D.Device.contents l.cache.device) (g.D.Device.contents c.write_next.new.cache.device) l.cache.seats c.write_next.new.cache.seats l.sizes l.group.items c.deref.result.now l.members l.phase
-    c.self.invariant begun c.deref.ensures.0 c.in-Done.ensures.writes c.in-Done.ensures.seen))
+    c.self.invariant.log begun c.deref.ensures.0 c.in-Done.ensures.writes c.in-Done.ensures.seen))

@@ -2,14 +2,18 @@ use Rattle.std.proofs.Common.{◌≡◌, ◌∙◌, ap, sym, subst}
 use Rattle.fs_layout.specs.Recovered.{IsOutsideLog}
 use Rattle.group_log.proofs.Getting.{same_cache, waits_same}
 use Rattle.group_log.proofs.Kept.{kept_get, sound_kept}
+use Rattle.group_log.proofs.Slots.{slots_get, slots_kept}
 use Rattle.group_log.proofs.log.Log.get.Goals as goal
 
 pub invariant_of-self : goal.invariant_of-self
 invariant_of-self g c =
     let l = c.self.inside in
     let out : IsOutsideLog l.sizes c.args.b = subst (λ v. IsOutsideLog v.sizes c.args.b) (sym c.self.view_is) c.requires.outside in
-    sound_kept (g.D.Device.contents l.cache.device) (g.D.Device.contents c.get.new.self.device) l.cache.seats c.get.new.self.seats l.sizes l.group.items l.members l.phase c.args.b
-    c.self.invariant (kept_get c.args.hart c.args.b l.cache.seats c.get.new.self.seats c.get.result c.get.ensures.gives) out (ap g.D.Device.contents c.get.ensures.device) c.get.ensures.seen
+    record {
+      log = sound_kept (g.D.Device.contents l.cache.device) (g.D.Device.contents c.get.new.self.device) l.cache.seats c.get.new.self.seats l.sizes l.group.items l.members l.phase c.args.b
+          c.self.invariant.log (kept_get c.args.hart c.args.b l.cache.seats c.get.new.self.seats c.get.result c.get.ensures.gives) out (ap g.D.Device.contents c.get.ensures.device) c.get.ensures.seen;
+      placed = slots_kept l.sizes l.cache.seats c.get.new.self.seats l.group.items l.slots.items l.phase (slots_get c.args.hart c.args.b l.cache.seats c.get.new.self.seats c.get.result c.get.ensures.gives) c.self.invariant.log.buffers c.self.invariant.placed;
+    }
 
 pub returns-clause-same : goal.returns-clause-same
 returns-clause-same g c waits =

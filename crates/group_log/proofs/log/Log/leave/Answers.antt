@@ -9,6 +9,7 @@ use Rattle.group_log.specs.Soundness.{LogState, IsSoundLog}
 use Rattle.group_log.proofs.Rooms.{member_below, member_leaves}
 use Rattle.group_log.proofs.Steps.{open_of}
 use Rattle.group_log.proofs.Leaving.{commits_none, free_stays, left_good, begun_good}
+use Rattle.group_log.proofs.Slots.{slots_begun}
 use Rattle.group_log.proofs.log.Log.leave.Goals as goal
 
 pub bounds-self-inside-hart : goal.bounds-self-inside-hart
@@ -17,7 +18,7 @@ bounds-self-inside-hart g c =
     let member : IsMember l.members c.args.txn = subst (λ v. IsMember v.members c.args.txn) (sym c.self.view_is) c.requires.member in
     let below = member_below l.members c.args.txn member in
     let is : c.end-hart.result ≡ c.args.txn = c.end-hart.ensures in
-    omega (arith, below, is, c.self.invariant.eight)
+    omega (arith, below, is, c.self.invariant.log.eight)
 
 pub invariant_of-self : goal.invariant_of-self
 invariant_of-self g c =
@@ -25,10 +26,13 @@ invariant_of-self g c =
     let d = g.D.Device.contents l.cache.device in
     let member : IsMember l.members c.args.txn = subst (λ v. IsMember v.members c.args.txn) (sym c.self.view_is) c.requires.member in
     let running : l.phase ≢ Halted = subst (λ v. v.phase ≢ Halted) (sym c.self.view_is) c.requires.running in
-    let is_open : l.phase ≡ Open = open_of l.phase l.members c.args.txn c.self.invariant.quiet running member in
-    let sound : IsSoundLog d l.cache.seats l.sizes l.group.items l.members Open = subst (λ (p : Phase). IsSoundLog d l.cache.seats l.sizes l.group.items l.members p) is_open c.self.invariant in
-    subst (λ (p : Phase). IsSoundLog d l.cache.seats l.sizes l.group.items (slice_set l.members c.end-hart.result None) p) (sym is_open)
-    (left_good d l.cache.seats l.sizes l.group.items l.members c.end-hart.result sound)
+    let is_open : l.phase ≡ Open = open_of l.phase l.members c.args.txn c.self.invariant.log.quiet running member in
+    let sound : IsSoundLog d l.cache.seats l.sizes l.group.items l.members Open = subst (λ (p : Phase). IsSoundLog d l.cache.seats l.sizes l.group.items l.members p) is_open c.self.invariant.log in
+    record {
+      log = subst (λ (p : Phase). IsSoundLog d l.cache.seats l.sizes l.group.items (slice_set l.members c.end-hart.result None) p) (sym is_open)
+          (left_good d l.cache.seats l.sizes l.group.items l.members c.end-hart.result sound);
+      placed = c.self.invariant.placed;
+    }
 
 pub invariant_of-self-in-Commits : goal.invariant_of-self-in-Commits
 invariant_of-self-in-Commits g c =
@@ -36,24 +40,27 @@ invariant_of-self-in-Commits g c =
     let d = g.D.Device.contents l.cache.device in
     let member : IsMember l.members c.args.txn = subst (λ v. IsMember v.members c.args.txn) (sym c.self.view_is) c.requires.member in
     let running : l.phase ≢ Halted = subst (λ v. v.phase ≢ Halted) (sym c.self.view_is) c.requires.running in
-    let is_open : l.phase ≡ Open = open_of l.phase l.members c.args.txn c.self.invariant.quiet running member in
-    let sound : IsSoundLog d l.cache.seats l.sizes l.group.items l.members Open = subst (λ (p : Phase). IsSoundLog d l.cache.seats l.sizes l.group.items l.members p) is_open c.self.invariant in
+    let is_open : l.phase ≡ Open = open_of l.phase l.members c.args.txn c.self.invariant.log.quiet running member in
+    let sound : IsSoundLog d l.cache.seats l.sizes l.group.items l.members Open = subst (λ (p : Phase). IsSoundLog d l.cache.seats l.sizes l.group.items l.members p) is_open c.self.invariant.log in
     let none : c.outstanding.result ≡ 0 = commits_none c.outstanding.result c.deref.result.now (sym c.what_follows.ensures ∙ c.in-Commits.is) in
-    begun_good d l.cache.seats l.sizes l.group.items l.members c.end-hart.result sound (sym c.outstanding.ensures.count ∙ none)
+    record {
+      log = begun_good d l.cache.seats l.sizes l.group.items l.members c.end-hart.result sound (sym c.outstanding.ensures.count ∙ none);
+      placed = slots_begun l.cache.seats l.group.items l.slots.items l.phase is_open c.self.invariant.placed;
+    }
 
 pub returns-in-Free-clause-open : goal.returns-in-Free-clause-open
 returns-in-Free-clause-open g c =
     let l = c.self.inside in
     let member : IsMember l.members c.args.txn = subst (λ v. IsMember v.members c.args.txn) (sym c.self.view_is) c.requires.member in
     let running : l.phase ≢ Halted = subst (λ v. v.phase ≢ Halted) (sym c.self.view_is) c.requires.running in
-    ap (λ v. v.phase) (sym c.self.view_is) ∙ open_of l.phase l.members c.args.txn c.self.invariant.quiet running member
+    ap (λ v. v.phase) (sym c.self.view_is) ∙ open_of l.phase l.members c.args.txn c.self.invariant.log.quiet running member
 
 pub returns-in-Commits-clause-open : goal.returns-in-Commits-clause-open
 returns-in-Commits-clause-open g c =
     let l = c.self.inside in
     let member : IsMember l.members c.args.txn = subst (λ v. IsMember v.members c.args.txn) (sym c.self.view_is) c.requires.member in
     let running : l.phase ≢ Halted = subst (λ v. v.phase ≢ Halted) (sym c.self.view_is) c.requires.running in
-    ap (λ v. v.phase) (sym c.self.view_is) ∙ open_of l.phase l.members c.args.txn c.self.invariant.quiet running member
+    ap (λ v. v.phase) (sym c.self.view_is) ∙ open_of l.phase l.members c.args.txn c.self.invariant.log.quiet running member
 
 pub returns-in-Free-clause-falls : goal.returns-in-Free-clause-falls
 returns-in-Free-clause-falls g c =
@@ -80,7 +87,7 @@ returns-in-Free-clause-leaves g c =
     let l = c.self.inside in
     let member : IsMember l.members c.args.txn = subst (λ v. IsMember v.members c.args.txn) (sym c.self.view_is) c.requires.member in
     let running : l.phase ≢ Halted = subst (λ v. v.phase ≢ Halted) (sym c.self.view_is) c.requires.running in
-    let is_open : l.phase ≡ Open = open_of l.phase l.members c.args.txn c.self.invariant.quiet running member in
+    let is_open : l.phase ≡ Open = open_of l.phase l.members c.args.txn c.self.invariant.log.quiet running member in
     let now = c.args.self.now in
     let begin : now.phase ≡ Open = ap (λ v. v.phase) (sym c.self.view_is) ∙ is_open in
     let counted : c.outstanding.result ≡ joined (slice_set now.members c.end-hart.result None) = c.outstanding.ensures.count ∙ ap (λ v. joined (slice_set v.members c.end-hart.result None)) c.self.view_is in

@@ -2,12 +2,15 @@ use Rattle.std.proofs.Common.{sym, subst, ℕ, List, None, replicate}
 use Rattle.group_log.specs.declared.phase.Phase.TheVariants.{Open}
 use Rattle.group_log.specs.Soundness.{IsSoundLog}
 use Rattle.group_log.proofs.Fresh.{fresh_good, fresh_recovered, seen_on_disk}
+use Rattle.group_log.proofs.Slots.{no_slots}
 use Rattle.group_log.proofs.log.Log.new.Goals as goal
 
 pub invariant_of-result : goal.invariant_of-result
-invariant_of-result g c =
-    subst (λ (l : List ℕ). IsSoundLog (g.D.Device.contents c.args.cache.device) c.args.cache.seats c.args.sizes l (replicate 8 None) Open) (sym c.new.ensures)
-    (fresh_good (g.D.Device.contents c.args.cache.device) c.args.cache.seats c.args.sizes c.requires.fresh c.requires.place c.requires.empty)
+invariant_of-result g c = record {
+  log = subst (λ (l : List ℕ). IsSoundLog (g.D.Device.contents c.args.cache.device) c.args.cache.seats c.args.sizes l (replicate 8 None) Open) (sym c.new.ensures)
+      (fresh_good (g.D.Device.contents c.args.cache.device) c.args.cache.seats c.args.sizes c.requires.fresh c.requires.place c.requires.empty);
+  placed = no_slots c.args.cache.seats c.new.result.items c.new-2.result.items c.new.ensures c.new-2.ensures;
+}
 
 pub returns-clause-seen : goal.returns-clause-seen
 returns-clause-seen g c = λ b. seen_on_disk (g.D.Device.contents c.args.cache.device) c.args.cache.seats b c.requires.fresh

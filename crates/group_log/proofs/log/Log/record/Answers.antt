@@ -12,6 +12,7 @@ use Rattle.group_log.proofs.Getting.{same_cache}
 use Rattle.group_log.proofs.Steps.{open_of}
 use Rattle.group_log.proofs.Recorded.{room_to_add, room_to_pin, pinned_by_pin, recorded_all}
 use Rattle.group_log.proofs.Moving.{open_move}
+use Rattle.group_log.proofs.Slots.{slots_open, slots_recorded}
 use Rattle.group_log.proofs.log.Log.record.Goals as goal
 
 pub add-requires-clause-within : goal.add-requires-clause-within
@@ -28,8 +29,8 @@ add-requires-clause-room g c =
     let d = g.D.Device.contents l.cache.device in
     let member : IsMember l.members c.args.txn.now = subst (λ v. IsMember v.members c.args.txn.now) (sym c.self.view_is) c.requires.member in
     let running : l.phase ≢ Halted = subst (λ v. v.phase ≢ Halted) (sym c.self.view_is) c.requires.running in
-    let is_open : l.phase ≡ Open = open_of l.phase l.members c.args.txn.now c.self.invariant.quiet running member in
-    let sound : IsSoundLog d l.cache.seats l.sizes l.group.items l.members Open = subst (λ (p : Phase). IsSoundLog d l.cache.seats l.sizes l.group.items l.members p) is_open c.self.invariant in
+    let is_open : l.phase ≡ Open = open_of l.phase l.members c.args.txn.now c.self.invariant.log.quiet running member in
+    let sound : IsSoundLog d l.cache.seats l.sizes l.group.items l.members Open = subst (λ (p : Phase). IsSoundLog d l.cache.seats l.sizes l.group.items l.members p) is_open c.self.invariant.log in
     let b : c.block-b.result ≡ c.args.guard.value.block = c.block-b.ensures ∙ ap (λ (x : BufferState). x.block) c.value.ensures in
     let has_room : has l.group.items c.args.guard.value.block ≡ false → HasRoom l.members c.args.txn.now = subst (λ v. has v.group c.args.guard.value.block ≡ false → HasRoom v.members c.args.txn.now) (sym c.self.view_is) c.requires.room in
     λ isnt.
@@ -42,8 +43,8 @@ pin-requires-clause-room g c =
     let d = g.D.Device.contents l.cache.device in
     let member : IsMember l.members c.args.txn.now = subst (λ v. IsMember v.members c.args.txn.now) (sym c.self.view_is) c.requires.member in
     let running : l.phase ≢ Halted = subst (λ v. v.phase ≢ Halted) (sym c.self.view_is) c.requires.running in
-    let is_open : l.phase ≡ Open = open_of l.phase l.members c.args.txn.now c.self.invariant.quiet running member in
-    let sound : IsSoundLog d l.cache.seats l.sizes l.group.items l.members Open = subst (λ (p : Phase). IsSoundLog d l.cache.seats l.sizes l.group.items l.members p) is_open c.self.invariant in
+    let is_open : l.phase ≡ Open = open_of l.phase l.members c.args.txn.now c.self.invariant.log.quiet running member in
+    let sound : IsSoundLog d l.cache.seats l.sizes l.group.items l.members Open = subst (λ (p : Phase). IsSoundLog d l.cache.seats l.sizes l.group.items l.members p) is_open c.self.invariant.log in
     let b : c.block-b.result ≡ c.args.guard.value.block = c.block-b.ensures ∙ ap (λ (x : BufferState). x.block) c.value.ensures in
     let has_room : has l.group.items c.args.guard.value.block ≡ false → HasRoom l.members c.args.txn.now = subst (λ v. has v.group c.args.guard.value.block ≡ false → HasRoom v.members c.args.txn.now) (sym c.self.view_is) c.requires.room in
     subst (λ (k : ℕ). (option_map is_pinned (seat_of k l.cache.seats) ≡ Some true) ⊎ (count_of is_pinned l.cache.seats < 30)) (sym b)
@@ -62,24 +63,30 @@ invariant_of-self g c =
     let d = g.D.Device.contents l.cache.device in
     let member : IsMember l.members c.args.txn.now = subst (λ v. IsMember v.members c.args.txn.now) (sym c.self.view_is) c.requires.member in
     let running : l.phase ≢ Halted = subst (λ v. v.phase ≢ Halted) (sym c.self.view_is) c.requires.running in
-    let is_open : l.phase ≡ Open = open_of l.phase l.members c.args.txn.now c.self.invariant.quiet running member in
-    let sound : IsSoundLog d l.cache.seats l.sizes l.group.items l.members Open = subst (λ (p : Phase). IsSoundLog d l.cache.seats l.sizes l.group.items l.members p) is_open c.self.invariant in
+    let is_open : l.phase ≡ Open = open_of l.phase l.members c.args.txn.now c.self.invariant.log.quiet running member in
+    let sound : IsSoundLog d l.cache.seats l.sizes l.group.items l.members Open = subst (λ (p : Phase). IsSoundLog d l.cache.seats l.sizes l.group.items l.members p) is_open c.self.invariant.log in
     let b : c.block-b.result ≡ c.args.guard.value.block = c.block-b.ensures ∙ ap (λ (x : BufferState). x.block) c.value.ensures in
     let held : IsHeld l.cache.seats c.args.guard = subst (λ v. IsHeld v.cache.seats c.args.guard) (sym c.self.view_is) c.requires.held in
     let home : IsHome d l.sizes c.args.guard.value.block = subst (λ v. IsHome (g.D.Device.contents v.cache.device) v.sizes c.args.guard.value.block) (sym c.self.view_is) c.requires.home in
     let has_room : has l.group.items c.args.guard.value.block ≡ false → HasRoom l.members c.args.txn.now = subst (λ v. has v.group c.args.guard.value.block ≡ false → HasRoom v.members c.args.txn.now) (sym c.self.view_is) c.requires.room in
-    subst (λ (p : Phase). IsSoundLog (g.D.Device.contents c.release_changed.new.self.device) c.release_changed.new.self.seats l.sizes c.add.new.group.items c.add.new.members p) (sym is_open)
-    (recorded_all d (g.D.Device.contents c.pin.new.self.device) (g.D.Device.contents c.release_changed.new.self.device) l.cache.seats c.pin.new.self.seats c.release_changed.new.self.seats l.sizes l.group.items c.add.new.group.items l.members c.add.new.members c.block-b.result c.args.txn.now c.hart.result c.args.guard
-    c.show_each_once.ensures sound held c.requires.valid has_room home b c.hart.ensures c.add.ensures.group c.add.ensures.members
-    (ap g.D.Device.contents c.pin.ensures.device) c.pin.ensures.seats c.pin.ensures.seen
-    (ap g.D.Device.contents c.release_changed.ensures.device) c.release_changed.ensures.seats c.release_changed.ensures.seen)
+    record {
+      log = subst (λ (p : Phase). IsSoundLog (g.D.Device.contents c.release_changed.new.self.device) c.release_changed.new.self.seats l.sizes c.add.new.group.items c.add.new.members p) (sym is_open)
+          (recorded_all d (g.D.Device.contents c.pin.new.self.device) (g.D.Device.contents c.release_changed.new.self.device) l.cache.seats c.pin.new.self.seats c.release_changed.new.self.seats l.sizes l.group.items c.add.new.group.items l.members c.add.new.members c.block-b.result c.args.txn.now c.hart.result c.args.guard
+          c.show_each_once.ensures sound held c.requires.valid has_room home b c.hart.ensures c.add.ensures.group c.add.ensures.members
+          (ap g.D.Device.contents c.pin.ensures.device) c.pin.ensures.seats c.pin.ensures.seen
+          (ap g.D.Device.contents c.release_changed.ensures.device) c.release_changed.ensures.seats c.release_changed.ensures.seen);
+      placed = slots_open l.cache.seats c.release_changed.new.self.seats l.group.items c.add.new.group.items l.slots.items c.add.new.slots.items l.phase is_open
+          (slots_recorded l.cache.seats c.pin.new.self.seats c.release_changed.new.self.seats l.group.items c.add.new.group.items l.slots.items c.add.new.slots.items c.block-b.result c.number.result c.args.guard
+          c.show_each_once.ensures held c.requires.valid b c.number.ensures c.add.ensures.group c.add.ensures.slots c.pin.ensures.seats c.release_changed.ensures.seats)
+          c.self.invariant.placed;
+    }
 
 pub returns-clause-open : goal.returns-clause-open
 returns-clause-open g c =
     let l = c.self.inside in
     let member : IsMember l.members c.args.txn.now = subst (λ v. IsMember v.members c.args.txn.now) (sym c.self.view_is) c.requires.member in
     let running : l.phase ≢ Halted = subst (λ v. v.phase ≢ Halted) (sym c.self.view_is) c.requires.running in
-    let is_open : l.phase ≡ Open = open_of l.phase l.members c.args.txn.now c.self.invariant.quiet running member in
+    let is_open : l.phase ≡ Open = open_of l.phase l.members c.args.txn.now c.self.invariant.log.quiet running member in
     (ap (λ v. v.phase) (sym c.self.view_is) ∙ is_open, is_open)
 
 pub returns-clause-moves : goal.returns-clause-moves
@@ -87,7 +94,7 @@ returns-clause-moves g c =
     let l = c.self.inside in
     let member : IsMember l.members c.args.txn.now = subst (λ v. IsMember v.members c.args.txn.now) (sym c.self.view_is) c.requires.member in
     let running : l.phase ≢ Halted = subst (λ v. v.phase ≢ Halted) (sym c.self.view_is) c.requires.running in
-    let is_open : l.phase ≡ Open = open_of l.phase l.members c.args.txn.now c.self.invariant.quiet running member in
+    let is_open : l.phase ≡ Open = open_of l.phase l.members c.args.txn.now c.self.invariant.log.quiet running member in
     open_move g.D.Device.contents c.args.self.now _ (ap (λ v. v.sizes) c.self.view_is)
     (ap g.D.Device.contents (c.release_changed.ensures.device ∙ c.pin.ensures.device) ∙ ap (λ v. g.D.Device.contents v.cache.device) c.self.view_is)
     (ap (λ v. v.phase) (sym c.self.view_is) ∙ is_open) is_open

@@ -1,0 +1,9 @@
+use Rattle.std.proofs.Common.{◌-◌}
+use Rattle.std.specs.List.{find}
+use Rattle.buffer_cache.specs.Seats.{is_free}
+use Rattle.buffer_cache.specs.Order.{numbered}
+use Rattle.buffer_cache.proofs.Walks.{IsGoing}
+use Rattle.buffer_cache.proofs.order.Order.first_free.Given as goal
+
+abbrev pub invariant-loop : goal.invariant-loop
+invariant-loop l = IsGoing (λ n. is_free (numbered l.seats n)) l.self-inside.younger l.at (46 - l.counter) (find (λ n. is_free (numbered l.seats n)) l.self)
