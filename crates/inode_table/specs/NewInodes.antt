@@ -32,13 +32,13 @@ free_in ninodes q block = free_among ninodes (inodes_per_block * q) block inodes
 abbrev pub inode_blocks : ℕ → ℕ
 inode_blocks ninodes = (ninodes + (inodes_per_block - 1)) / inodes_per_block
 
--- a free inode's record after it was taken: the device numbers stay
-abbrev pub new_record : ℤ → Dinode → Dinode
-new_record kind old = record { kind = kind; major = old.major; minor = old.minor; nlink = pos 0; size = 0; addrs = replicate addresses 0 }
+-- a new inode's record: its type alone, and zeros
+abbrev pub new_record : ℤ → Dinode
+new_record kind = record { kind = kind; major = pos 0; minor = pos 0; nlink = pos 0; size = 0; addrs = replicate addresses 0 }
 
 -- the block is recorded with the inode that was claimed; or it is given back as it was, where no inode in memory was free; or it was given back
 abbrev pub make_in : {M : Type 0} → Prog Op Answer M Made → ℤ → ℕ → List ℕ → ClaimResult → Prog Op Answer M Made
-make_in more kind b block (Claims n) = Do (Put b (Some (with_dinode n (new_record kind (dinode_at (place_of n) block)) block))) unmarked (λ _. Ret (Inode n))
+make_in more kind b block (Claims n) = Do (Put b (Some (with_dinode n (new_record kind) block))) unmarked (λ _. Ret (Inode n))
 make_in more kind b block HasNoPlace = Do (Put b None) unmarked (λ _. Ret NoPlace)
 make_in more kind b block HasNoInode = more
 

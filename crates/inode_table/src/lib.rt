@@ -11,5 +11,5 @@ mod place;
 mod store_inode;
 
 pub use crate::load_inode::LoadInode;
-pub use crate::new_inode::{Looking, Made, NewInode};
+pub use crate::new_inode::{Looking, Made, NewInode, as_new, free_numbers};
 pub use crate::store_inode::StoreInode;

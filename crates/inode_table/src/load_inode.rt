@@ -15,7 +15,7 @@ use fs_layout::Dinode;
 use fs_machine::{Core, Fetch, Kind, RetiredCore};
 use sleep_lock::Guard;
 
-/// Reads an inode from its block. It is for the holder of the inode's lock, to whom the inode wasn't loaded yet.
+/// Reads an inode from its block. It is for the holder of the inode's lock, to whom the inode wasn't loaded yet (xv6: the read of `ilock`).
 pub enum LoadInode {
     /// The block of this inode is fetched.
     Fetching(u32, Fetch),

@@ -2,7 +2,6 @@
 ghost use Rattle.std.specs.Prelude.{◌≡◌, ◌<◌, ◌≤◌, ◌+◌, ◌-◌, ◌*◌, ◌^◌, ℕ, Some, take};
 ghost use Rattle.fs_layout.specs.Bytes.{i16_at};
 ghost use Rattle.fs_layout.specs.Widths.{inode_len, inodes_per_block};
-ghost use Rattle.fs_layout.specs.Inode.{dinode_at};
 ghost use Rattle.atomic_programs.specs.Prog.{Ret, Ran as ItRan};
 ghost use Rattle.atomic_programs.specs.Machines.{Still, Left as LeftOf};
 ghost use Rattle.fs_machine.specs.LogPart.{Outside};
@@ -12,11 +11,11 @@ ghost use Rattle.fs_machine.specs.Machines.{MayNext, Moves, Answers, CallsOnce};
 ghost use Rattle.fs_machine.specs.Tied.{IsOwnInode, LeavesTied, bytes_of};
 ghost use Rattle.fs_machine.specs.Stays.{LeavesAll};
 ghost use Rattle.fs_machine.specs.Fetching.{IsFetched};
-ghost use Rattle.inode_table.specs.Programs.{place_of, with_dinode};
+ghost use Rattle.inode_table.specs.Programs.{with_dinode};
 ghost use Rattle.inode_table.specs.NewInodes.{is_free_in, free_in, inode_blocks, new_record, new_from, new_inode};
 ghost use Rattle.inode_table.specs.NewMachines.{rest_of, new_of, NewFits, IsLooking, in_new_fetch};
 
-use crate::place::{inode_in, write_in};
+use crate::place::write_in;
 use atomic_programs::machines::Stepped;
 use block_device::Device;
 use buffer_cache::Buffer;
@@ -50,7 +49,7 @@ pub struct Looking {
     pub left: u32,
 }
 
-/// Takes the first inode whose type is 0 and to which no reference stands, by rising number, and records it with its type.
+/// Takes the first inode whose type is 0 and to which no reference stands, by rising number, and records it with its type (xv6: `ialloc`).
 pub enum NewInode {
     /// An inode block is fetched.
     Fetching(Looking, Fetch),
@@ -201,8 +200,8 @@ fn is_free(block: &Block, number: usize, ninodes: u32) -> bool
     0 < number && number < ninodes as usize && kind_at(block, number % INODES_PER_BLOCK) == 0
 }
 
-// The free inodes of a block, and how many there are.
-fn free_numbers(block: &Block, ninodes: u32, before: u32) -> ([u32; INODES_PER_BLOCK], usize)
+/// The free inodes of an inode block, of which so many stand before it, and how many there are.
+pub fn free_numbers(block: &Block, ninodes: u32, before: u32) -> ([u32; INODES_PER_BLOCK], usize)
     ensures count { result.1 ≤ inodes_per_block }
     ensures numbers { take result.1 result.0 ≡ free_in ninodes before block.now }
 {
@@ -218,16 +217,17 @@ fn free_numbers(block: &Block, ninodes: u32, before: u32) -> ([u32; INODES_PER_B
     (numbers, count)
 }
 
-// A free inode's record after it was taken.
-fn as_new(kind: i16, free: Dinode) -> Dinode
-    ensures { result ≡ new_record kind free }
+/// A new inode's record: all but its type is zero.
+pub fn as_new(kind: i16) -> Dinode
+    ensures { result ≡ new_record kind }
 {
     Dinode {
         kind,
+        major: 0,
+        minor: 0,
         nlink: 0,
         size: 0,
         addrs: [0; ADDRESSES],
-        ..free
     }
 }
 
@@ -242,8 +242,8 @@ fn make<D: Device>(
 )
     requires txn { txn.old ≡ hart }
     requires fetched { IsFetched hart guard.value.block guard (state_of D.contents D.failures core.old) }
-    requires may { May hart (Put guard.value.block (Some (with_dinode number (new_record kind (dinode_at (place_of number) (bytes_of guard))) (bytes_of guard)))) (state_of D.contents D.failures core.old) }
-    ensures ran { (x : Outside) → exec hart x (Put guard.value.block (Some (with_dinode number (new_record kind (dinode_at (place_of number) (bytes_of guard))) (bytes_of guard)))) (state_of D.contents D.failures core.old)
+    requires may { May hart (Put guard.value.block (Some (with_dinode number (new_record kind) (bytes_of guard)))) (state_of D.contents D.failures core.old) }
+    ensures ran { (x : Outside) → exec hart x (Put guard.value.block (Some (with_dinode number (new_record kind) (bytes_of guard)))) (state_of D.contents D.failures core.old)
         ≡ ItRan tt (state_of D.contents D.failures core.new) }
     ensures kept { txn.new ≡ txn.old }
     ensures others { LeavesTied hart (state_of D.contents D.failures core.old) (state_of D.contents D.failures core.new) }
@@ -251,8 +251,7 @@ fn make<D: Device>(
     ensures tables { core.new.tables ≡ core.old.tables }
 {
     let mut guard = guard;
-    let inode = as_new(kind, inode_in(&guard, number));
-    write_in(&mut guard, number, &inode);
+    write_in(&mut guard, number, &as_new(kind));
     core.put_changed(hart, txn, guard);
 }
 

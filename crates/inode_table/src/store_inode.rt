@@ -22,7 +22,7 @@ use group_log::Txn;
 use sleep_lock::Guard;
 use std::mem;
 
-/// Records an inode in its block.
+/// Records an inode in its block (xv6: `iupdate`).
 pub enum StoreInode {
     /// The block of this inode is fetched.
     Fetching(u32, Dinode, Option<Fetch>),

@@ -5,7 +5,7 @@ use Rattle.std.specs.Prelude.{IsSome}
 use Rattle.std.proofs.lemmas.Option.{none-some, same_Some}
 use Rattle.fs_layout.specs.declared.inode.Dinode.{Dinode}
 use Rattle.fs_layout.specs.declared.superblock.Super.{Super}
-use Rattle.fs_layout.specs.Inode.{dinode_at, IsDinode}
+use Rattle.fs_layout.specs.Inode.{IsDinode}
 use Rattle.fs_layout.specs.Recovered.{sizes_of}
 use Rattle.plain_tree.specs.declared.node.Node.{Node}
 use Rattle.plain_tree.specs.Tree.{put}
@@ -30,7 +30,7 @@ use Rattle.fs_machine.specs.LogPart.{LogPart, put_block}
 use Rattle.fs_machine.specs.Own.{Own}
 use Rattle.fs_machine.specs.Shown.{seen_of}
 use Rattle.inode_table.specs.NewInodes.{new_record}
-use Rattle.inode_table.specs.Programs.{inode_block, place_of, with_dinode}
+use Rattle.inode_table.specs.Programs.{inode_block, with_dinode}
 use Rattle.inode_machine.specs.Inodes.{Sort, OfDirectory, OfFile, OfDevice}
 use Rattle.inode_machine.specs.World as above
 use Rattle.inode_machine.specs.Exec as above_exec
@@ -59,7 +59,7 @@ use Rattle.inodes_on_blocks.proofs.Putting.{lock_range, load_range}
 use Rattle.inodes_on_blocks.proofs.Recorded.{whole_put, own_put, seen_then, good_then, bytes_then, members_joined, put_hand}
 use Rattle.inodes_on_blocks.proofs.RecordPuts.{record_put, quiet_leaves, quiet_owners}
 use Rattle.inodes_on_blocks.proofs.RecordThen.{inode_home, untaken}
-use Rattle.inodes_on_blocks.proofs.Records.{placed_dinode, stored_long, stored_bytes}
+use Rattle.inodes_on_blocks.proofs.Records.{stored_long, stored_bytes}
 use Rattle.inodes_on_blocks.proofs.StatSteps.{in_use}
 use Rattle.inodes_on_blocks.proofs.Tables.{with_tables, unlocked_holds}
 
@@ -250,8 +250,8 @@ has_kind OfDirectory = refl
 has_kind OfFile = refl
 has_kind (OfDevice major) = refl
 
-new_fits : (sort : Sort) (old : Dinode) → IsDinode old → IsDinode (new_record (kind_of sort) old)
-new_fits sort old is = record { kind = kind_fits sort; major = is.major; minor = is.minor; nlink = omega arith; size = omega arith; thirteen = refl; addrs = none_large 13 }
+new_fits : (sort : Sort) → IsDinode (new_record (kind_of sort))
+new_fits sort = record { kind = kind_fits sort; major = omega arith; minor = omega arith; nlink = omega arith; size = omega arith; thirteen = refl; addrs = none_large 13 }
 
 module _ (h : ℕ) (n : ℕ) (sort : Sort) (c : Carry) (r : World) (g : above.World) (shows : Shows r g) (claims : HasClaimed h n sort c r g) where
   abbrev l : LogPart
@@ -263,11 +263,8 @@ module _ (h : ℕ) (n : ℕ) (sort : Sort) (c : Carry) (r : World) (g : above.Wo
   is : IsNew n h l g.lock g.keeper (loaded (tables_of r))
   is = shows.news n h claims.new
 
-  abbrev old : Dinode
-  old = dinode_at (place_of n) (seen_of l b)
-
   abbrev put_record : Dinode
-  put_record = new_record (kind_of sort) old
+  put_record = new_record (kind_of sort)
 
   abbrev pub stored : List ℕ
   stored = with_dinode n put_record (seen_of l b)
@@ -279,7 +276,7 @@ module _ (h : ℕ) (n : ℕ) (sort : Sort) (c : Carry) (r : World) (g : above.Wo
   long = shows.blocks.seen.whole b home.within home.outside
 
   fits : IsDinode put_record
-  fits = new_fits sort old (placed_dinode (place_of n) (seen_of l b) (shows.bytes b home.within home.outside))
+  fits = new_fits sort
 
   -- the block may be put, where its buffer is in hand and there is room
   pub can_put_new : holder_of b l.seats ≡ Some h → IsSome (kept b l.seats) → (has l.group b ≡ false → HasRoom l.members h) → CanPut h b stored l
@@ -317,7 +314,7 @@ module _ (h : ℕ) (n : ℕ) (sort : Sort) (c : Carry) (r : World) (g : above.Wo
 
     -- it holds what it is above
     holds : IsMade sort → HoldsAt (disk_of now) r.owner n (Some (blank sort))
-    holds made = new_holds (disk_of l) (disk_of now) r.owner n sort old shows.blocks.running.front (within n is.bound) made is.free held put_is
+    holds made = new_holds (disk_of l) (disk_of now) r.owner n sort shows.blocks.running.front (within n is.bound) made is.free held put_is
 
     abbrev new : ℕ → Option ℕ
     new = untyped now r.new

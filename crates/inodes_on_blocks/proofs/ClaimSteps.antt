@@ -288,10 +288,10 @@ module _ (sizes : Super) (l : Labels) (laws : Laws (labelled l)) (keeps : Keeps 
 
         -- its record is put
         puts : (z : W) (es fs : List l.Step) → Here (labelled l) (below sizes) laws (below_laws sizes l keeps) h B (C (above.New i)) (record { real = then_; seen = g' }) z fs
-            → premises.May h (steps.Put b (Some (with_dinode i (new_record kind (dinode_at (place_of i) bytes)) bytes))) z.real.state
-            × ((x : Outside) → premises.Honest h (steps.Put b (Some (with_dinode i (new_record kind (dinode_at (place_of i) bytes)) bytes))) z.real.state x
-            → Silent (labelled l) (below sizes) laws (below_laws sizes l keeps) h B z (premises.MayWait h (steps.Put b (Some (with_dinode i (new_record kind (dinode_at (place_of i) bytes)) bytes))) z.real.state)
-            (exec h x (steps.Put b (Some (with_dinode i (new_record kind (dinode_at (place_of i) bytes)) bytes))) z.real) (λ a y. Wp M h B Q (answers (above.New i) c) 0 fs (record { real = y; seen = z.seen })))
+            → premises.May h (steps.Put b (Some (with_dinode i (new_record kind) bytes))) z.real.state
+            × ((x : Outside) → premises.Honest h (steps.Put b (Some (with_dinode i (new_record kind) bytes))) z.real.state x
+            → Silent (labelled l) (below sizes) laws (below_laws sizes l keeps) h B z (premises.MayWait h (steps.Put b (Some (with_dinode i (new_record kind) bytes))) z.real.state)
+            (exec h x (steps.Put b (Some (with_dinode i (new_record kind) bytes))) z.real) (λ a y. Wp M h B Q (answers (above.New i) c) 0 fs (record { real = y; seen = z.seen })))
         unfolding steps.exec premises.MayWait premises.Honest
         puts z es fs here =
             let v = z.real in
@@ -308,9 +308,9 @@ module _ (sizes : Super) (l : Labels) (laws : Laws (labelled l)) (keeps : Keeps 
             let stored_ = stored h i sort c v z.seen here.shows claims in
             let one_v : in_hand h v ≡ 1 = here.same.held ∙ one in
             subst
-            (λ (p : ℕ × List ℕ). premises.May h (steps.Put p.0 (Some (with_dinode i (new_record kind (dinode_at (place_of i) p.1)) p.1))) v.state
+            (λ (p : ℕ × List ℕ). premises.May h (steps.Put p.0 (Some (with_dinode i (new_record kind) p.1))) v.state
             × ((x : Outside) → Unit {0}
-            → Silent (labelled l) (below sizes) laws (below_laws sizes l keeps) h B z ⊥ (exec h x (steps.Put p.0 (Some (with_dinode i (new_record kind (dinode_at (place_of i) p.1)) p.1))) v) (λ a y. Wp M h B Q (answers (above.New i) c) 0 fs (record { real = y; seen = z.seen }))))
+            → Silent (labelled l) (below sizes) laws (below_laws sizes l keeps) h B z ⊥ (exec h x (steps.Put p.0 (Some (with_dinode i (new_record kind) p.1))) v) (λ a y. Wp M h B Q (answers (above.New i) c) 0 fs (record { real = y; seen = z.seen }))))
             (λ y. (sym there y, same_bytes y)) (
               may_put h at stored_ v.state here.shows.whole here.shows.blocks.seen can,
               λ x t_.
@@ -332,8 +332,8 @@ module _ (sizes : Super) (l : Labels) (laws : Laws (labelled l)) (keeps : Keeps 
               (λ j. shows_marked then_ (claimed h sort g i) g' (marked_same h (m (above.New i)) (claimed h sort g i)) (claimed_shows h lt sort r g shows inv i is.low bound free zero_refs may.1 t after)),
               claimed_same h lt sort r g shows inv i is.low bound free zero_refs may.1 t after,
               λ fs j done.
-                  Wp-more M h (Do (steps.Put b (Some (with_dinode i (new_record kind (dinode_at (place_of i) bytes)) bytes))) unmarked (λ _. answers (above.New i) c)) B Q 1 (claim_steps n) fs (record { real = then_; seen = g' }) (some_steps n)
-                  (s-silent (labelled l) (below sizes) laws (below_laws sizes l keeps) h B (steps.Put b (Some (with_dinode i (new_record kind (dinode_at (place_of i) bytes)) bytes))) (λ _. answers (above.New i) c) Q (C (above.New i)) 0 fs (record { real = then_; seen = g' })
+                  Wp-more M h (Do (steps.Put b (Some (with_dinode i (new_record kind) bytes))) unmarked (λ _. answers (above.New i) c)) B Q 1 (claim_steps n) fs (record { real = then_; seen = g' }) (some_steps n)
+                  (s-silent (labelled l) (below sizes) laws (below_laws sizes l keeps) h B (steps.Put b (Some (with_dinode i (new_record kind) bytes))) (λ _. answers (above.New i) c) Q (C (above.New i)) 0 fs (record { real = then_; seen = g' })
                   (acted (labelled l) (below sizes) laws (below_laws sizes l keeps) h B (Claim sort) m C lasts (above.New i)) done (λ z es here. puts z fs es here)),
             )
 

@@ -57,10 +57,10 @@ all_zero zero k z l = absurd (omega (arith, l))
 all_zero (suc n) zero z l = refl
 all_zero (suc n) (suc k) z l = all_zero n k z (omega (arith, l))
 
-blank_inode : (sort : Sort) (old : Dinode) → IsMade sort → IsInode (new_record (kind_of sort) old) (blank sort)
-blank_inode OfDirectory old made = record { kind = refl; count = refl; size = refl; device = tt }
-blank_inode OfFile old made = record { kind = refl; count = refl; size = refl; device = tt }
-blank_inode (OfDevice major) old made = absurd made
+blank_inode : (sort : Sort) → IsMade sort → IsInode (new_record (kind_of sort)) (blank sort)
+blank_inode OfDirectory made = record { kind = refl; count = refl; size = refl; device = tt }
+blank_inode OfFile made = record { kind = refl; count = refl; size = refl; device = tt }
+blank_inode (OfDevice major) made = absurd made
 
 blank_empty : (sort : Sort) → IsMade sort → size_in (blank sort).kind ≡ 0
 blank_empty OfDirectory made = refl
@@ -68,11 +68,11 @@ blank_empty OfFile made = refl
 blank_empty (OfDevice major) made = absurd made
 
 -- An inode that is free has no block; put with a type alone it holds the node of that type, without links or content.
-pub new_holds : (disk new : List (List ℕ)) (owner : ℕ → ℕ) (n : ℕ) (sort : Sort) (old : Dinode) → UpToLog disk → n < (sizes_of disk).ninodes → IsMade sort → is_free (inode_of disk n) ≡ true → HoldsAt disk owner n None
-    → IsInodePut disk new n (new_record (kind_of sort) old) → HoldsAt new owner n (Some (blank sort))
-new_holds disk new owner n sort old front bound made free held put =
-    let d : Dinode = new_record (kind_of sort) old in
-    let is : IsInode d (blank sort) = blank_inode sort old made in
+pub new_holds : (disk new : List (List ℕ)) (owner : ℕ → ℕ) (n : ℕ) (sort : Sort) → UpToLog disk → n < (sizes_of disk).ninodes → IsMade sort → is_free (inode_of disk n) ≡ true → HoldsAt disk owner n None
+    → IsInodePut disk new n (new_record (kind_of sort)) → HoldsAt new owner n (Some (blank sort))
+new_holds disk new owner n sort front bound made free held put =
+    let d : Dinode = new_record (kind_of sort) in
+    let is : IsInode d (blank sort) = blank_inode sort made in
     let none : All {X = ℕ} (λ b. b ≡ 0) d.addrs = all_zero addresses in
     let owned : NamesOwned disk owner n [] = subst (NamesOwned disk owner n) (numbers_by_free disk n (inode_of disk n) refl free) held.blocks.named in
     node_held disk new owner n d (blank sort) front bound put (empty_laid disk owner n d (blank sort) is (blank_empty sort made) none) (empty_named disk owner n d (blank sort) is (blank_empty sort made) none owned)

@@ -1,13 +1,12 @@
 -- The program below of the operation that takes a new inode. On a disk of these sizes; c: what the hart has of the inodes whose locks it has.
 use Rattle.std.specs.Prelude.{ℕ, zero, suc, ◌+◌, ◌<◌, ◌^◌, ℤ, List, Option, Some, None}
 use Rattle.fs_layout.specs.declared.superblock.Super.{Super}
-use Rattle.fs_layout.specs.Inode.{dinode_at}
 use Rattle.atomic_programs.specs.Prog.{Ret, Do, bind, unmarked}
 use Rattle.atomic_programs.specs.Joined.{Handover}
 use Rattle.fs_machine.specs.Steps as steps
 use Rattle.fs_machine.specs.Programs.{fetch}
 use Rattle.inode_table.specs.NewInodes.{free_in, inode_blocks, new_record}
-use Rattle.inode_table.specs.Programs.{place_of, with_dinode}
+use Rattle.inode_table.specs.Programs.{with_dinode}
 use Rattle.inode_machine.specs.Inodes.{Sort, OfDirectory, OfFile, OfDevice}
 use Rattle.inode_machine.specs.World as above
 use Rattle.inode_machine.specs.World.Op.{Claim}
@@ -43,7 +42,7 @@ claim_mark sort m n steps.NoInode = if_last n (acts (Claim sort) above.Room m)
 
 -- The inode's record goes into the block with its type; or the block is given back as it was; or it was given back, and it goes on.
 abbrev pub claim_in : P (Handover above.ClaimResult Carry) → ℤ → (b : ℕ) → List ℕ → Carry → steps.ClaimResult → P (Handover above.ClaimResult Carry)
-claim_in more kind b block c (steps.Claims i) = Do (steps.Put b (Some (with_dinode i (new_record kind (dinode_at (place_of i) block)) block))) unmarked (λ _. answers (above.New i) c)
+claim_in more kind b block c (steps.Claims i) = Do (steps.Put b (Some (with_dinode i (new_record kind) block))) unmarked (λ _. answers (above.New i) c)
 claim_in more kind b block c steps.NoPlace = Do (steps.Put b None) unmarked (λ _. answers above.NoPlace c)
 claim_in more kind b block c steps.NoInode = more
 

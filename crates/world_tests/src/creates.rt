@@ -4,8 +4,9 @@ use crate::lists::{are_run, play};
 use crate::rows::Ask::{Chdir, Close, Dup, Fill, Fstat, Mkdir, Open, Read, Unlink, Write};
 use crate::rows::Line::{All, Do, Start};
 use crate::rows::Says::{Bytes, Count, Done, Failed, Fd, NoRoom, State};
-use crate::rows::{CREATE, READ, READ_AND_WRITE, Row, TRUNCATE, WRITE};
+use crate::rows::{CREATE, Line, READ, READ_AND_WRITE, Row, TRUNCATE, WRITE};
 use plain_tree::{Cause, Full, NodeType};
+use std::ops::Range;
 use std::test::Fail;
 
 const ROWS: &[Row] = &[
@@ -115,6 +116,29 @@ const ROWS: &[Row] = &[
         (2, 0, 1),
     ),
 ];
+
+// Inodes 5 and 6 of the image with a tree: an empty file, and a directory with one block.
+const INODES: Range<usize> = 34_112..34_240;
+
+const MADE: &[u8] = b"\x02\0\0\0\0\0\x01\0\0\0\0\0\0\0\0\0\0\0\0\0\0\0\0\0\0\0\0\0\0\0\0\0\
+    \0\0\0\0\0\0\0\0\0\0\0\0\0\0\0\0\0\0\0\0\0\0\0\0\0\0\0\0\0\0\0\0\
+    \x01\0\0\0\0\0\x01\0\x20\0\0\0\x33\0\0\0\0\0\0\0\0\0\0\0\0\0\0\0\0\0\0\0\
+    \0\0\0\0\0\0\0\0\0\0\0\0\0\0\0\0\0\0\0\0\0\0\0\0\0\0\0\0\0\0\0\0";
+
+/// A directory and a file that take the inodes of removed devices have nothing of these, the device numbers neither.
+#[test]
+fn new_inodes_have_no_device_numbers(rt: HostRuntime) -> Result<(), Fail> {
+    const LINES: &[Line] = &[
+        Do(0, Unlink(b"/u"), Done),
+        Do(0, Mkdir(b"/d/y"), Done),
+        Do(0, Unlink(b"/t"), Done),
+        Do(0, Open(b"/x", CREATE), Fd(0)),
+    ];
+    let disk = disk_of(rt.alloc(), Image::Tree)?;
+    let (_made, disk) = play(&rt, rt.alloc(), disk, LINES)?;
+    assert_eq!(rt; disk.into_bytes().as_slice().get(INODES), Some(MADE));
+    Ok(())
+}
 
 /// Each row comes to what it tells, and is run again by its events.
 #[test]

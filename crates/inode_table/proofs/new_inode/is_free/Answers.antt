@@ -1,6 +1,6 @@
-use Rattle.std.proofs.Common.{rules, ◌≡◌, ◌+◌, ◌*◌, ◌%◌, ℕ, w16, sym, ◌∙◌, ap, arith}
+use Rattle.std.proofs.Common.{rules, ◌≡◌, ◌+◌, ◌*◌, ◌%◌, w16, sym, ◌∙◌, ap, arith}
 use Rattle.std.specs.Int.{cast_signed}
-use Rattle.fs_layout.specs.Bytes.{u16_at, i16_at}
+use Rattle.fs_layout.specs.Bytes.{u16_at}
 use Rattle.fs_layout.specs.Inode.{dinode_at}
 use Rattle.fs_layout.proofs.Numbers.{u16_at-part}
 use Rattle.inode_table.proofs.new_inode.is_free.Goals as goal
