@@ -1,5 +1,5 @@
 -- What a mount comes to.
-use Rattle.std.specs.Prelude.{◌≡◌, ◌≢◌, ℕ, false, List, [], None, replicate}
+use Rattle.std.specs.Prelude.{◌≡◌, ◌≢◌, ℕ, false, true, All, List, [], None, replicate}
 use Rattle.block_device.specs.Blocks.{HasBytes, HasWholeBlocks, block_at}
 use Rattle.fs_layout.specs.Recovered.{logged, recovered, sizes_of, IsOutsideLog}
 use Rattle.buffer_cache.specs.Limits.{buffer_count, hart_count}
@@ -10,22 +10,29 @@ use Rattle.image_tree.specs.declared.fault.MountFault.{MountFault}
 use Rattle.image_tree.specs.declared.fault.MountFault.TheVariants.{DeviceFault}
 use Rattle.image_tree.specs.Damage.{IsWellFormed, JudgesFault, fault_count_of}
 use Rattle.image_tree.specs.Trees.{tree_in}
+use Rattle.image_tree.specs.Checks.{is_marked}
+use Rattle.image_tree.specs.Inodes.{numbers_by}
+use Rattle.image_tree.specs.Shape.{is_orphan}
+use Rattle.orphans.specs.Freeing.{AreNamed}
 use Rattle.fs_tables.specs.Fresh.{fresh}
 use Rattle.hart_core.specs.Harts.{HartsOf}
 
--- A disk that a mount has recovered: each block is as recovery would leave it, the log is empty, and it is a well-formed image of the same tree.
-pub record IsRecovered (old new : List (List ℕ)) : Type 0 where
-  pub blocks : (b : ℕ) → IsOutsideLog (sizes_of old) b → block_at new b ≡ recovered old b
+-- A disk that a mount has settled: it is a well-formed image of the same tree, its log is empty, each node has a name, and the blocks of those that had none
+-- are free. Where each node had a name before, each block is as recovery would leave it.
+pub record IsSettled (old new : List (List ℕ)) : Type 0 where
+  pub blocks : AreNamed old → (b : ℕ) → IsOutsideLog (sizes_of old) b → block_at new b ≡ recovered old b
   pub empty : logged new ≡ []
   pub sizes : sizes_of new ≡ sizes_of old
   pub well : IsWellFormed new
   pub tree : tree_in new ≡ tree_in old
+  pub named : AreNamed new
+  pub freed : (i : ℕ) → is_orphan old i ≡ true → All (λ b. b ≢ 0 → is_marked new b ≡ false) (numbers_by old i)
 
 module _ {D : Type 0} (contents : D → List (List ℕ)) (failures : D → ℕ) where
   -- Over this device, which has failed at no call, eight harts are idle; nothing is cached, recorded or open, and no inode but the root, which is every hart's
   -- directory, is referred to.
   pub record Rests (device : D) (w : HartsOf D) : Type 0 where
-    pub disk : IsRecovered (contents device) (contents w.core.log.cache.device)
+    pub disk : IsSettled (contents device) (contents w.core.log.cache.device)
     -- its blocks are whole, and of bytes; and the log lies in it
     pub whole : HasWholeBlocks (contents w.core.log.cache.device)
     pub bytes : HasBytes (contents w.core.log.cache.device)
@@ -43,7 +50,7 @@ module _ {D : Type 0} (contents : D → List (List ℕ)) (failures : D → ℕ) 
     pub children : w.children ≡ replicate hart_count None
     pub idle : w.calls ≡ replicate hart_count None
 
-  -- The device is handed back. It has failed only where that is the answer, and is as it was but for a recovery that it stopped.
+  -- The device is handed back. It has failed only where that is the answer, and is as it was but for a recovery, or the freeing of a node, that it stopped.
   pub record HandsBack (device back : D) (fault : MountFault) : Type 0 where
     pub judges : JudgesFault (contents device) fault
     pub unwritten : fault ≢ DeviceFault → contents back ≡ contents device

@@ -8,7 +8,7 @@ ghost use Rattle.fs_tables.specs.Fresh.{fresh};
 ghost use Rattle.group_log.specs.Soundness.{IsPlaced};
 ghost use Rattle.image_tree.specs.Damage.{IsWellFormed, faults_with};
 ghost use Rattle.hart_core.specs.Harts.{AreIdle};
-ghost use Rattle.hart_core.specs.Mounting.{IsRecovered, HandsBack, Rests};
+ghost use Rattle.hart_core.specs.Mounting.{IsSettled, HandsBack, Rests};
 
 use crate::calls::Calls;
 use crate::harts::Harts;
@@ -18,8 +18,9 @@ use fs_layout::Super;
 use fs_machine::Core;
 use fs_tables::Tables;
 use group_log::Log;
-use image_tree::{MountFault, examine_layout, recover};
+use image_tree::{MountFault, examine_layout};
 use log_images::logs_may_begin;
+use orphans::settle;
 use std::alloc::Global;
 
 /// All memory that a file system takes, and the sizes of its disk.
@@ -30,10 +31,10 @@ struct Ready {
     calls: Calls,
 }
 
-// Examines the image, takes the memory, and recovers the disk.
+// Examines the image, takes the memory, recovers the disk, and frees the nodes without a name.
 fn prepare<D: Device>(alloc: Global, device: &mut D) -> Result<Ready, MountFault>
     ensures ready { IfOk result (λ r. (r.sizes ≡ sizes_of (D.contents device.old)) × (r.buffers ≡ unused_from 0 buffer_count) × (r.tables ≡ fresh) × AreIdle r.calls) }
-    ensures ok { IfOk result (λ _. IsWellFormed (D.contents device.old) × IsRecovered (D.contents device.old) (D.contents device.new)) }
+    ensures ok { IfOk result (λ _. IsWellFormed (D.contents device.old) × IsSettled (D.contents device.old) (D.contents device.new)) }
     ensures placed { IfOk result (λ r. IsPlaced (D.contents device.new) r.sizes) }
     ensures blocks { IfOk result (λ _. HasWholeBlocks (D.contents device.new) × HasBytes (D.contents device.new)) }
     ensures faults { D.failures device.new ≡ faults_with result (D.failures device.old) }
@@ -43,11 +44,11 @@ fn prepare<D: Device>(alloc: Global, device: &mut D) -> Result<Ready, MountFault
     let buffers = Buffers::new(alloc)?;
     let tables = Tables::new(alloc)?;
     let calls = Calls::idle(alloc)?;
-    match recover(device) {
+    match settle(device, layout.sizes) {
         Ok(()) => {}
         Err(fault) => {
             calls.end();
-            return Err(fault);
+            return Err(MountFault::from(fault));
         }
     }
     let _count = device.blocks();
@@ -60,8 +61,8 @@ fn prepare<D: Device>(alloc: Global, device: &mut D) -> Result<Ready, MountFault
     })
 }
 
-/// Eight harts at rest over the recovered disk, and its sizes; or the device, with the image's first damage, its own failure, or want
-/// of memory. Nothing was written then, unless the device failed in the recovery.
+/// Eight harts at rest over the settled disk, and its sizes; or the device, with the image's first damage, its own failure, or want
+/// of memory. Nothing was written then, unless the device failed in the recovery or behind it.
 pub(crate) fn mount_harts<D: Device>(
     alloc: Global,
     device: D,

@@ -46,9 +46,10 @@ impl<D: Device> Model for World<D> {
 }
 
 impl<D: Device> World<D> {
-    /// Examines the image on a device, takes all memory, and then recovers the disk. It answers the image's first damage, a failure of
-    /// the device, or want of memory, and hands the device back; nothing was written then, unless the device failed in the recovery.
-    /// Each hart is idle, in the root, and has no descriptors.
+    /// Examines the image on a device, takes all memory, and then recovers the disk and frees each node without a name. It answers the
+    /// image's first damage, a failure of the device, or want of memory, and hands the device back; nothing was written then, unless the
+    /// device failed in the recovery or behind it. Each hart is idle, in the root, and has no descriptors (xv6: `fsinit` with `readsb`,
+    /// `initlog` and `ireclaim`; `binit`, `iinit`, `fileinit`).
     pub fn mount(alloc: Global, device: D) -> Result<World<D>, (D, MountFault)>
         ensures ok { IfOk result (λ w. IsWellFormed (D.contents device) × Rests D.contents D.failures device w.harts × (w.sizes ≡ sizes_of (D.contents device))) }
         ensures err { IfErr result (λ e. HandsBack D.contents D.failures device e.0 e.1) }

@@ -1,22 +1,10 @@
 //! What the examination of images answers that are made by hand.
-use crate::by_hand::{Change, FRESH, fresh, put, with};
+use crate::by_hand::{Change, FRESH, RICH, SMALL, fresh, put, with};
 use block_device::{Device, Fused, MemoryDisk};
 use image_tree::{MountFault, Shape};
 use plain_tree::{Kind, Slot, Tree};
 use std::alloc::{AllocError, Global};
 use std::test::Fail;
-
-// 40 blocks, 16 inodes, a log of 30 blocks, and a root without names in block 34.
-const SMALL: [Change; 5] = [
-    (
-        1024,
-        b"\x40\x30\x20\x10\x28\0\0\0\x06\0\0\0\x10\0\0\0\x1e\0\0\0\x02\0\0\0\x20\0\0\0\x21\0\0\0",
-    ),
-    (32832, b"\x01\0\0\0\0\0\x01\0\0\x04\0\0\x22\0\0\0"),
-    (33792, b"\xff\xff\xff\xff\x07"),
-    (34816, b"\x01\0."),
-    (34832, b"\x01\0.."),
-];
 
 // Examines an image, once more where memory was refused: that changed nothing, so the answer is the same.
 pub fn examine<D: Device>(alloc: Global, device: &mut D) -> Result<Shape, MountFault> {
@@ -99,40 +87,6 @@ fn changed_bytes_are_damage(rt: HostRuntime) -> Result<(), Fail> {
     }
     Ok(())
 }
-
-// 64 blocks, 16 inodes, a log of 30 blocks. The log hides the inode block 32 by its copy in block 3. "/d" is inode 2,
-// "/f" and "/d/g" are inode 3 with 12 blocks, an indirect block and 5 bytes behind it, "/t" is the device 4, and inode 5 is
-// a file without a name.
-const RICH: [Change; 19] = [
-    (
-        1024,
-        b"\x40\x30\x20\x10\x40\0\0\0\x1e\0\0\0\x10\0\0\0\x1e\0\0\0\x02\0\0\0\x20\0\0\0\x21\0\0\0",
-    ),
-    (2048, b"\x01\0\0\0\x20\0\0\0"),
-    (3136, b"\x01\0\0\0\0\0\x02\0\x50\0\0\0\x22\0\0\0"),
-    (3200, b"\x01\0\0\0\0\0\x01\0\x40\0\0\0\x23\0\0\0"),
-    (
-        3264,
-        b"\x02\0\0\0\0\0\x02\0\x05\x30\0\0\x24\0\0\0\x25\0\0\0\x26\0\0\0\x27\0\0\0\x28\0\0\0\x29\0\0\0",
-    ),
-    (
-        3300,
-        b"\x2a\0\0\0\x2b\0\0\0\x2c\0\0\0\x2d\0\0\0\x2e\0\0\0\x2f\0\0\0\x30\0\0\0",
-    ),
-    (3328, b"\x03\0\x01\0\x02\0\x01\0"),
-    (3392, b"\x02\0\0\0\0\0\0\0\x01\0\0\0\x32\0\0\0"),
-    (33792, b"\xff\xff\xff\xff\xff\xff\x07"),
-    (34816, b"\x01\0."),
-    (34832, b"\x01\0.."),
-    (34848, b"\x02\0d"),
-    (34864, b"\x03\0f"),
-    (34880, b"\x04\0t"),
-    (35840, b"\x02\0.\0\0\0\0\0\0\0\0\0\0\0\0\0\x01\0.."),
-    (35872, b"\x03\0g"),
-    (36864, b"A"),
-    (49152, b"\x31"),
-    (50176, b"hello"),
-];
 
 #[test]
 fn shapes_count_nodes_and_blocks(rt: HostRuntime) -> Result<(), Fail> {

@@ -8,4 +8,8 @@ mod images;
 #[cfg(test)]
 mod makes;
 #[cfg(test)]
+mod nameless;
+#[cfg(test)]
 mod recoveries;
+#[cfg(test)]
+mod short;

@@ -1,0 +1,111 @@
+-- What an inode in use holds is seen in its own blocks alone.
+use Rattle.std.proofs.Common.{◌≡◌, ◌≢◌, ◌⊎◌, inl, inr, ℕ, zero, suc, ◌+◌, ◌/◌, ◌%◌, ◌<◌, ◌≤◌, ◌==◌, nat_lt, ◌&&◌, not, ℤ, pos, negsuc, Bool, true, false, if◌then◌else◌, List, [], ◌∷◌, ◌++◌, length, slice_index, slice_index_or, take, Option, map, refl, sym, ◌∙◌, ap, subst, arith, length-append}
+use Rattle.std.specs.List.{All}
+use Rattle.std.proofs.lemmas.Bool.{cases_eq, cases_lt, and_parts, eqb-true, ltb-true}
+use Rattle.std.proofs.lemmas.List.{get_or_append_left, get_or_past}
+use Rattle.fs_layout.specs.declared.superblock.Super.{Super}
+use Rattle.fs_layout.specs.declared.inode.Dinode.{Dinode}
+use Rattle.fs_layout.specs.declared.entry.Dirent.{Dirent}
+use Rattle.fs_layout.specs.Indirect.{numbers_in}
+use Rattle.fs_layout.specs.Entry.{dirent_at}
+use Rattle.fs_layout.specs.Widths.{dirents_per_block, dirent_len}
+use Rattle.fs_layout.specs.Recovered.{recovered, sizes_of}
+use Rattle.image_tree.specs.Inodes.{inode_of, is_number, is_free, is_directory, is_live, is_node, is_live_directory, direct, numbers_of, block_number, content_block, numbers_by, front_blocks, content_of, blocks_for, slot_at, first_slots, slots_of}
+use Rattle.image_tree.specs.Checks.{IsData, HasGoodNumbers}
+use Rattle.plain_tree.specs.declared.node.Kind.TheVariants.{Directory, File, Device}
+use Rattle.image_tree.specs.Trees.{slot_of, is_file, kind_of}
+
+pub pick : (t : Bool) (P : Bool → Type 0) → (t ≡ true → P true) → (t ≡ false → P false) → P t
+pick true P yes_ no_ = yes_ refl
+pick false P yes_ no_ = no_ refl
+
+-- each number of a list is 0 or passes; so does what lies past it
+number_at : (P : ℕ → Type 0) (xs : List ℕ) → All (λ b. b ≢ 0 → P b) xs → P 0 → (k : ℕ) → P (slice_index xs k)
+number_at P xs all none k = elim (cases_lt k (length xs)) [
+  | inl lt ↦ elim (cases_eq (slice_index xs k) 0) [ inl e ↦ subst P (sym e) none | inr ne ↦ all k 0 lt ne ]
+  | inr le ↦ subst P (sym (get_or_past xs k 0 le)) none
+]
+
+All-front : {A : Type 0} (P : A → Type 0) (xs ys : List A) → All P (xs ++ ys) → All P xs
+All-front P xs ys h = λ k d l. subst P (get_or_append_left xs ys d k l) (h k d (omega (arith, length-append xs ys)))
+
+kind_used : (k : ℤ) → is_number 1 k ≡ true → is_number 0 k ≡ false
+kind_used (pos m) is = ap (λ (n : ℕ). n == 0) (eqb-true m 1 is)
+kind_used (negsuc m) is = refl
+
+pub not_free : (t : Bool) → not t ≡ true → t ≡ false
+not_free true e = absurd (cc e)
+not_free false e = refl
+
+-- inode i can be used
+pub record InRange (s : Super) (i : ℕ) : Type 0 where
+  pub low : 1 ≤ i
+  pub high : i < s.ninodes
+
+pub ranged : (s : Super) (i : ℕ) (t : Bool) → ((nat_lt 0 i && nat_lt i s.ninodes) && t) ≡ true → InRange s i × (t ≡ true)
+ranged s i t is =
+    let outer = and_parts (nat_lt 0 i && nat_lt i s.ninodes) t is in
+    let inner = and_parts (nat_lt 0 i) (nat_lt i s.ninodes) outer.0 in
+    (record { low = (let a = ltb-true 0 i inner.0 in omega (arith, a)); high = ltb-true i s.ninodes inner.1 }, outer.1)
+
+-- the numbers of an inode in use are good
+pub Good : List (List ℕ) → Dinode → Type 0
+Good d x = All (λ b. b ≢ 0 → IsData (sizes_of d) b) (numbers_of d x)
+
+module _ (d : List (List ℕ)) (good_numbers : HasGoodNumbers d) where
+  pub used_good : (i : ℕ) → InRange (sizes_of d) i → is_free (inode_of d i) ≡ false → Good d (inode_of d i)
+  unfolding Good numbers_by
+  used_good i range isnt =
+      subst (λ (t : Bool). All (λ b. b ≢ 0 → IsData (sizes_of d) b) (if t then [] else numbers_of d (inode_of d i))) isnt (good_numbers i range.low range.high)
+
+  pub node_good : (i : ℕ) → is_node d i ≡ true → Good d (inode_of d i)
+  unfolding is_node
+  node_good i is = let r = ranged (sizes_of d) i (not (is_free (inode_of d i))) is in used_good i r.0 (not_free (is_free (inode_of d i)) r.1)
+
+  pub live_good : (i : ℕ) → is_live_directory d i ≡ true → Good d (inode_of d i)
+  unfolding is_live_directory
+  live_good i is =
+      let r = ranged (sizes_of d) i (is_directory (inode_of d i) && is_live (inode_of d i)) is in
+      used_good i r.0 (kind_used (inode_of d i).kind (and_parts (is_directory (inode_of d i)) (is_live (inode_of d i)) r.1).0)
+
+-- another disk with the same data, and the same in block 0, where a hole is read
+module _ (d e : List (List ℕ)) (same : (b : ℕ) → (b ≡ 0) ⊎ IsData (sizes_of d) b → recovered e b ≡ recovered d b) (x : Dinode) (good : Good d x) where
+  place_same : (k : ℕ) → recovered e (slice_index (numbers_of d x) k) ≡ recovered d (slice_index (numbers_of d x) k)
+  unfolding Good
+  place_same k = number_at (λ b. recovered e b ≡ recovered d b) (numbers_of d x)
+      (λ k z lt ne. same (slice_index_or (numbers_of d x) k z) (inr (good k z lt ne))) (same 0 (inl refl)) k
+
+  addr_same : recovered e (slice_index x.addrs direct) ≡ recovered d (slice_index x.addrs direct)
+  unfolding Good numbers_of
+  addr_same = number_at (λ b. recovered e b ≡ recovered d b) x.addrs
+      (All-front (λ b. b ≢ 0 → recovered e b ≡ recovered d b) x.addrs _ (λ k z lt ne. same (slice_index_or (numbers_of d x) k z) (inr (good k z lt ne)))) (same 0 (inl refl)) direct
+
+  pub numbers_same : numbers_of e x ≡ numbers_of d x
+  unfolding numbers_of
+  numbers_same = ap (λ (bytes : List ℕ). x.addrs ++ (if slice_index x.addrs direct == 0 then [] else numbers_in bytes)) addr_same
+
+  content_same : (k : ℕ) → content_block e x k ≡ content_block d x k
+  unfolding content_block
+  content_same k =
+      ap (λ (l : List ℕ). recovered e (block_number l k)) numbers_same
+      ∙ place_same (if nat_lt k direct then k else k + 1)
+
+  slot_same : (n : ℕ) → slot_at e x n ≡ slot_at d x n
+  unfolding slot_at
+  slot_same n = ap (λ (bytes : List ℕ). dirent_at (n % dirents_per_block) bytes) (content_same (n / dirents_per_block))
+
+  pub slots_same : (n : ℕ) → first_slots e x n ≡ first_slots d x n
+  unfolding first_slots
+  slots_same zero = refl
+  slots_same (suc n) = ap (λ (l : List (Option Dirent)). l ++ slot_at e x n ∷ []) (slots_same n) ∙ ap (λ (o : Option Dirent). first_slots d x n ++ o ∷ []) (slot_same n)
+
+  front_same : (n : ℕ) → front_blocks e x n ≡ front_blocks d x n
+  unfolding front_blocks
+  front_same zero = refl
+  front_same (suc n) = ap (λ (l : List ℕ). l ++ content_block e x n) (front_same n) ∙ ap (λ (l : List ℕ). front_blocks d x n ++ l) (content_same n)
+
+  pub kind_same : kind_of e x ≡ kind_of d x
+  unfolding kind_of
+  kind_same =
+      ap (λ (l : List (Option Dirent)). if is_directory x then Directory (map slot_of l) else (if is_file x then File (content_of e x) else Device x.major x.minor x.size)) (slots_same (x.size / dirent_len))
+      ∙ ap (λ (l : List ℕ). if is_directory x then Directory (map slot_of (slots_of d x)) else (if is_file x then File (take x.size l) else Device x.major x.minor x.size)) (front_same (blocks_for x.size))
