@@ -1,7 +1,6 @@
 -- A new inode taken, as a program below: it is the code's.
 use Rattle.std.proofs.Common.{◌≡◌, ℕ, zero, suc, ◌+◌, List, Option, Some, None, sym, ◌∙◌}
 use Rattle.fs_layout.specs.declared.superblock.Super.{Super}
-use Rattle.fs_layout.specs.Inode.{dinode_at}
 use Rattle.plain_tree.specs.declared.answer.Reply.{Reply}
 use Rattle.atomic_programs.specs.Prog.{Do, bind, plain, unmarked}
 use Rattle.atomic_programs.specs.Joined.{Handover, lowered}
@@ -10,7 +9,7 @@ use Rattle.fs_machine.specs.Machines as code
 use Rattle.fs_machine.specs.Programs.{fetch}
 use Rattle.fs_machine.specs.Steps as steps
 use Rattle.inode_table.specs.NewInodes.{free_in, inode_blocks, look_in, make_in, new_from, new_inode, new_record}
-use Rattle.inode_table.specs.Programs.{place_of, with_dinode}
+use Rattle.inode_table.specs.Programs.{with_dinode}
 use Rattle.inode_table.specs.declared.new_inode.Made.{Made}
 use Rattle.inode_table.specs.declared.new_inode.Made.TheVariants as made
 use Rattle.inode_machine.specs.Inodes.{Sort}
@@ -22,7 +21,7 @@ use Rattle.inodes_on_tables.specs.Shown.{kind_of}
 use Rattle.inodes_on_blocks.specs.Handlers.{P}
 use Rattle.inodes_on_blocks.specs.Lowering.{Carry}
 use Rattle.inodes_on_blocks.specs.Making.{claim_at, claim_from, claim_in}
-use Rattle.calls_on_blocks.specs.Programs.{handlers}
+use Rattle.inodes_on_blocks.specs.Programs.{handlers}
 use Rattle.calls_on_blocks.specs.Layer.{layer}
 use Rattle.calls_on_blocks.proofs.Pieces.{left_below, plain_fetch}
 use Rattle.calls_on_blocks.proofs.Searches.{after_plain}
@@ -47,7 +46,7 @@ plain_claim {A} (suc n) sizes sort c m q k j same =
   where
     looked : (bytes : List ℕ) → plain (bind (claim_from n sizes sort c m (q + 1)) k) ≡ bind (new_from n (kind_of sort) sizes (q + 1)) j → (a : steps.ClaimResult)
         → plain (bind (claim_in (claim_from n sizes sort c m (q + 1)) (kind_of sort) (sizes.inodestart + q) bytes c a) k) ≡ bind (make_in (new_from n (kind_of sort) sizes (q + 1)) (kind_of sort) (sizes.inodestart + q) bytes a) j
-    looked bytes rest (steps.Claims i) = λ z. Do (steps.Put (sizes.inodestart + q) (Some (with_dinode i (new_record (kind_of sort) (dinode_at (place_of i) bytes)) bytes))) unmarked (λ _. same (above.New i) z)
+    looked bytes rest (steps.Claims i) = λ z. Do (steps.Put (sizes.inodestart + q) (Some (with_dinode i (new_record (kind_of sort)) bytes))) unmarked (λ _. same (above.New i) z)
     looked bytes rest steps.NoPlace = λ z. Do (steps.Put (sizes.inodestart + q) None) unmarked (λ _. same above.NoPlace z)
     looked bytes rest steps.NoInode = rest
 

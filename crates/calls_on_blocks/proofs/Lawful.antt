@@ -52,7 +52,7 @@ use Rattle.inodes_on_blocks.specs.Room.{HasSpent}
 use Rattle.inodes_on_blocks.specs.Shown.{Shows}
 use Rattle.inodes_on_blocks.specs.Spending.{recorded_blocks}
 use Rattle.inodes_on_blocks.proofs.Withins.{affords, none_spent}
-use Rattle.calls_on_blocks.specs.Programs.{handlers}
+use Rattle.inodes_on_blocks.specs.Programs.{handlers}
 use Rattle.calls_on_blocks.specs.Layer.{SharedState, World, layer, shared_of}
 use Rattle.calls_on_blocks.specs.Theory.{is_served, serves, served_calls, child_of, start_refusal, begun_by, if_hart, begins, block_calls, shared_part, block_code}
 use Rattle.calls_on_blocks.proofs.InheritUses.{inherit_uses}

@@ -43,7 +43,7 @@ use Rattle.call_parts.specs.Seeking.{Dead, seek_on, seek_through, seen_with}
 use Rattle.naming_calls.specs.Unlinking.{links_of, lower_child}
 use Rattle.call_parts.specs.declared.tail.Ending.{Ending}
 use Rattle.call_parts.specs.declared.seek.Dots.TheVariants as dots
-use Rattle.calls_on_blocks.specs.Programs.{handlers}
+use Rattle.inodes_on_blocks.specs.Programs.{handlers}
 use Rattle.calls_on_blocks.specs.Layer.{layer}
 use Rattle.calls_on_blocks.proofs.EndBridge.{tail_same, give_up_same}
 use Rattle.calls_on_blocks.proofs.EntryPieces.{handed, plain_enter, entered_same}

@@ -34,7 +34,7 @@ use Rattle.call_parts.specs.Counts.{with_links}
 use Rattle.call_parts.specs.Parts.{give_up, take_inode}
 use Rattle.call_parts.specs.Programs.{tail}
 use Rattle.making_calls.specs.declared.make.Sort.{Sort as MadeSort}
-use Rattle.calls_on_blocks.specs.Programs.{handlers}
+use Rattle.inodes_on_blocks.specs.Programs.{handlers}
 use Rattle.calls_on_blocks.specs.Layer.{layer}
 use Rattle.calls_on_blocks.proofs.ClaimBridge.{claim_same, made_as}
 use Rattle.calls_on_blocks.proofs.EndBridge.{tail_same, give_up_same}

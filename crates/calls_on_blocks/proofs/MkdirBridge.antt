@@ -43,7 +43,7 @@ use Rattle.call_parts.specs.Programs.{tail}
 use Rattle.call_parts.specs.Seeking.{Dead, seek_on, seek_through, seen_with}
 use Rattle.making_calls.specs.declared.make.Sort.TheVariants as sorts
 use Rattle.call_parts.specs.declared.seek.Dots.TheVariants as dots
-use Rattle.calls_on_blocks.specs.Programs.{handlers}
+use Rattle.inodes_on_blocks.specs.Programs.{handlers}
 use Rattle.calls_on_blocks.specs.Layer.{layer}
 use Rattle.calls_on_blocks.proofs.EndBridge.{tail_same, give_up_same}
 use Rattle.calls_on_blocks.proofs.EntryPieces.{plain_fill}

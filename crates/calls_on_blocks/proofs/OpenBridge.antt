@@ -34,7 +34,7 @@ use Rattle.inodes_on_blocks.specs.Storing.{record_in, put_record}
 use Rattle.making_calls.specs.Opening as syscalls
 use Rattle.call_parts.specs.Parts.{reach_on, give_up}
 use Rattle.call_parts.specs.Programs.{tail}
-use Rattle.calls_on_blocks.specs.Programs.{handlers}
+use Rattle.inodes_on_blocks.specs.Programs.{handlers}
 use Rattle.calls_on_blocks.specs.Layer.{layer}
 use Rattle.calls_on_blocks.proofs.Faces.{sort_seen, refusal_same, file_same, kind_same}
 use Rattle.calls_on_blocks.proofs.Pieces.{left_below, plain_fetch, plain_content, content_bind, emptied}

@@ -38,7 +38,7 @@ use Rattle.inodes_on_blocks.proofs.TableSteps.{give_acts, settle_acts}
 use Rattle.inodes_on_blocks.proofs.TakeSteps.{take_acts}
 use Rattle.inodes_on_blocks.proofs.Withins.{acts_within, store_within, clear_within, empty_within, free_within}
 use Rattle.inodes_on_blocks.proofs.WriteSteps.{write_within}
-use Rattle.calls_on_blocks.specs.Programs.{handlers}
+use Rattle.inodes_on_blocks.specs.Programs.{handlers}
 use Rattle.calls_on_blocks.specs.Layer.{layer}
 use Rattle.calls_on_blocks.proofs.Beside.{within_beside}
 

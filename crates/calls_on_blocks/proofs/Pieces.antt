@@ -34,7 +34,7 @@ use Rattle.inodes_on_blocks.specs.Emptying.{give_content}
 use Rattle.inodes_on_blocks.specs.Handlers.{Acts, P, had_of, is_dying, with_dying}
 use Rattle.inodes_on_blocks.specs.Lowering.{Had, Apart, Emptied, Carry, record_had}
 use Rattle.inodes_on_blocks.specs.Storing.{record_in, put_record}
-use Rattle.calls_on_blocks.specs.Programs.{handlers}
+use Rattle.inodes_on_blocks.specs.Programs.{handlers}
 use Rattle.calls_on_blocks.specs.Layer.{layer}
 
 pub plain_fetch : (b : ℕ) → plain (fetch {M = Acts} b) ≡ fetch b

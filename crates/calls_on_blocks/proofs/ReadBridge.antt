@@ -35,7 +35,7 @@ use Rattle.inodes_on_blocks.specs.Lowering.{Carry, Opened, Has, nothing, record_
 use Rattle.inodes_on_blocks.specs.Storing.{record_in}
 use Rattle.call_parts.specs.Programs.{say as say_reply}
 use Rattle.descriptor_calls.specs.Programs as syscalls
-use Rattle.calls_on_blocks.specs.Programs.{handlers}
+use Rattle.inodes_on_blocks.specs.Programs.{handlers}
 use Rattle.calls_on_blocks.specs.Layer.{layer}
 use Rattle.calls_on_blocks.proofs.Pieces.{left_below, plain_load, plain_block}
 

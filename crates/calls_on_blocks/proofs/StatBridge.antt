@@ -23,7 +23,7 @@ use Rattle.inodes_on_blocks.specs.Handlers.{P}
 use Rattle.inodes_on_blocks.specs.Lowering.{Carry, NothingMore, Has, nothing, record_had}
 use Rattle.inodes_on_blocks.specs.Reading.{stat_loaded, stat_locked}
 use Rattle.descriptor_calls.specs.Programs as syscalls
-use Rattle.calls_on_blocks.specs.Programs.{handlers}
+use Rattle.inodes_on_blocks.specs.Programs.{handlers}
 use Rattle.calls_on_blocks.specs.Layer.{layer}
 use Rattle.calls_on_blocks.proofs.Faces.{stat_same}
 use Rattle.calls_on_blocks.proofs.Pieces.{left_below, plain_load}

@@ -21,7 +21,7 @@ use Rattle.inodes_on_blocks.specs.Handlers.{P}
 use Rattle.inodes_on_blocks.specs.Lowering.{Carry, NothingMore, Has, record_had}
 use Rattle.inodes_on_blocks.specs.Storing.{record_in, put_record}
 use Rattle.call_parts.specs.Counts.{with_links}
-use Rattle.calls_on_blocks.specs.Programs.{handlers}
+use Rattle.inodes_on_blocks.specs.Programs.{handlers}
 use Rattle.calls_on_blocks.specs.Layer.{layer}
 use Rattle.calls_on_blocks.proofs.Pieces.{left_below, plain_fetch}
 use Rattle.calls_on_blocks.proofs.Searches.{after_plain}

@@ -45,7 +45,7 @@ use Rattle.call_parts.specs.Seeking.{Dotted, Dead, seek_on, seek_through, seen_w
 use Rattle.naming_calls.specs.Unlinking as syscalls
 use Rattle.naming_calls.specs.Unlinking.{links_of, search_entries}
 use Rattle.call_parts.specs.declared.seek.Dots.TheVariants as dots
-use Rattle.calls_on_blocks.specs.Programs.{handlers}
+use Rattle.inodes_on_blocks.specs.Programs.{handlers}
 use Rattle.calls_on_blocks.specs.Layer.{layer}
 use Rattle.calls_on_blocks.proofs.EndBridge.{tail_same, give_up_same}
 use Rattle.calls_on_blocks.proofs.Faces.{face_seen, directory_same, links_same, live_same, sort_same}

@@ -32,7 +32,7 @@ use Rattle.inodes_on_blocks.specs.Handlers.{Acts, P, is_listed, whom}
 use Rattle.inodes_on_blocks.specs.Lowering.{Carry, Knowledge, NothingMore, Has, Apart, record_had}
 use Rattle.inodes_on_blocks.specs.Reading.{learned, number_found, looked}
 use Rattle.call_parts.specs.Parts.{ReachedState, Finds, give_reached, reach_on}
-use Rattle.calls_on_blocks.specs.Programs.{handlers}
+use Rattle.inodes_on_blocks.specs.Programs.{handlers}
 use Rattle.calls_on_blocks.specs.Layer.{layer}
 use Rattle.calls_on_blocks.proofs.Faces.{face_seen, directory_same}
 use Rattle.calls_on_blocks.proofs.Pieces.{left_below, plain_load}

@@ -33,7 +33,7 @@ use Rattle.inodes_on_blocks.specs.Writing.{give_written, refused_in, write_unles
 use Rattle.descriptor_calls.specs.declared.write.Ended.{Ended}
 use Rattle.descriptor_calls.specs.declared.write.Ended.TheVariants as ended
 use Rattle.descriptor_calls.specs.Writing as syscalls
-use Rattle.calls_on_blocks.specs.Programs.{handlers}
+use Rattle.inodes_on_blocks.specs.Programs.{handlers}
 use Rattle.calls_on_blocks.specs.Layer.{layer}
 use Rattle.calls_on_blocks.proofs.EntryPieces.{plain_writes}
 use Rattle.calls_on_blocks.proofs.Pieces.{left_below, left_then, plain_load, plain_store}

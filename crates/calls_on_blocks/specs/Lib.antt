@@ -1,4 +1,3 @@
-pub mod Programs
 pub mod Layer
 pub mod Theory
 pub mod Laws

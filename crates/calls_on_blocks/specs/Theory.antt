@@ -16,7 +16,7 @@ use Rattle.fs_machine.specs.Premises as premises
 use Rattle.inode_machine.specs.Exec.{is_at}
 use Rattle.inode_machine.specs.Theory.{Refusal, NoSuchHart, Busy, PathTooLong, ZeroInPath, NotEmptyHart, NotCovered, calls_that, is_covered, path_limit, has_zero, are_bytes, asks_wrong}
 use Rattle.calls_on_blocks.specs.Layer.{SharedState, exec_shared, layer, shared_of}
-use Rattle.calls_on_blocks.specs.Programs.{handlers}
+use Rattle.inodes_on_blocks.specs.Programs.{handlers}
 
 -- the calls of which each operation's program is known to act at one moment: of write those of bytes, as all are that code has
 abbrev pub is_served : Call → Bool

@@ -44,7 +44,7 @@ pub(crate) fn slot_count(inode: &Dinode) -> usize
 }
 
 // How many blocks have them.
-pub(crate) fn block_count(inode: &Dinode) -> usize
+pub fn block_count(inode: &Dinode) -> usize
     ensures count { result ≡ block_count inode.now }
     ensures bound { result ≤ most_blocks }
 {
@@ -91,7 +91,7 @@ fn found_at(block: &Block, k: usize, place: usize) -> Found
 // What is found in block k of a directory.
 #[inline(always)]
 #[tactic(auto, unfolding(crate::specs::Programs::found_in))]
-pub(crate) fn found_in(block: &Block, inode: &Dinode, k: usize, sought: Sought) -> Option<Found>
+pub fn found_in(block: &Block, inode: &Dinode, k: usize, sought: Sought) -> Option<Found>
     requires block { k < most_blocks }
     requires sought { IsSought sought }
     ensures found { result ≡ found_in (aim_of sought.entry) inode.now k block.now }

@@ -59,7 +59,7 @@ impl Putting {
 }
 
 /// Writes a slot whose block is there, and then stores the inode: a name is entered so, and cleared. What the slot is to have is told
-/// with each step.
+/// with each step (xv6: the `writei` of an entry, in `dirlink` and `sys_unlink`).
 pub enum PutEntry {
     /// The slot's block is fetched.
     Fetching(Putting, FetchBlock),

@@ -51,7 +51,8 @@ pub struct Searched {
     pub found: Option<Found>,
 }
 
-/// Looks for a slot of a directory, a block at a time, and stops at the first. What is sought is told with each step.
+/// Looks for a slot of a directory, a block at a time, and stops at the first. What is sought is told with each step
+/// (xv6: `dirlookup`; for a used slot past the first two `isdirempty`).
 pub enum Search {
     /// The next block is fetched.
     Fetching(Searching, FetchBlock),

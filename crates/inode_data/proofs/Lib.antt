@@ -2,7 +2,7 @@ pub mod Beginnings
 mod NextRead
 pub mod Nested
 pub mod Following
-mod NextFree
+pub mod NextFree
 mod Freed
 mod Locations
 mod PartWritings

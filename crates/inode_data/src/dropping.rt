@@ -25,7 +25,7 @@ use sleep_lock::Guard;
 use std::mem;
 
 /// Drops a reference outside a walk. Where it is the last one to a dead inode, the inode's lock is taken in the same step, and the
-/// inode is freed.
+/// inode is freed (xv6: `iput`).
 pub enum DropReference {
     /// The reference goes, on a disk with this superblock.
     Down(Super, Reference),

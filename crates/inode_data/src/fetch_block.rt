@@ -21,7 +21,7 @@ use fs_machine::{Core, Fetch, Kind, RetiredCore};
 use sleep_lock::Guard;
 
 /// Takes the buffer of a block of a content, valid, after a touch of the indirect block where the block's number stands there.
-/// It is for the holder of the inode's lock.
+/// It is for the holder of the inode's lock (xv6: `bmap` of a block that is there, and `bread`).
 pub enum FetchBlock {
     /// The indirect block is fetched, for the number at this place.
     Table(usize, Fetch),

@@ -25,7 +25,7 @@ use sleep_lock::Guard;
 use std::mem;
 
 /// Frees an inode without links whose lock its hart has, with the last reference to it: the inode is emptied and stored so that it may be
-/// taken again, and the lock and the reference are given up.
+/// taken again, and the lock and the reference are given up (xv6: the branch of `iput` that frees).
 pub enum FreeInode {
     /// The inode is emptied, where the inode blocks begin at this block.
     Truncating(Reference, u32, Truncate),

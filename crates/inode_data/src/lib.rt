@@ -1,6 +1,8 @@
 //! Contents of inodes: read, written and given back.
 //!
 //! `specs/Programs` says what is done, operation by operation; the types with a `step` are machines that do it.
+//! A read touches each block once, and none past the size. A part is written block by block, as far as blocks are had, and the inode is
+//! stored in each case. An emptying gives each block back that the inode names, and stores the record last.
 #![tactic(auto)]
 
 mod addresses;
@@ -24,5 +26,5 @@ pub use crate::freeing::FreeInode;
 pub use crate::location::{Locate, Located, Locating};
 pub use crate::read_part::{ReadPart, Reading};
 pub use crate::records::{record, with_record};
-pub use crate::truncation::{Emptying, Truncate};
+pub use crate::truncation::{Emptying, Truncate, next_listed, next_own};
 pub use crate::write_part::{PartWritten, WritePart, Writing};

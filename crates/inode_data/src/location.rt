@@ -44,7 +44,7 @@ pub struct Locating {
 }
 
 /// Seeks a block of a content, and takes it where it is missing, an indirect block just before the block that needs it. It is for the
-/// holder of the inode's lock, within a transaction.
+/// holder of the inode's lock, within a transaction (xv6: `bmap`).
 pub enum Locate {
     /// A block is taken for this place of the inode.
     Direct(Locating, usize, Option<TakeBlock>),

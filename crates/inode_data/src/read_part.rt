@@ -57,7 +57,7 @@ impl Reading {
     }
 }
 
-/// Reads bytes of a content into memory of the call.
+/// Reads bytes of a content into memory of the call (xv6: `readi`).
 pub enum ReadPart {
     /// The block of the next bytes is fetched.
     Fetching(Reading, Option<FetchBlock>),

@@ -46,7 +46,7 @@ impl Emptying {
     }
 }
 
-/// Gives back all blocks of an inode, the bitmap touched once for each, and then stores its record without them.
+/// Gives back all blocks of an inode, the bitmap touched once for each, and then stores its record without them (xv6: `itrunc`).
 pub enum Truncate {
     /// The block is given back whose number stands at this place of the inode.
     Own(Emptying, usize, Option<FreeBlock>),
@@ -465,8 +465,8 @@ fn retire_freeing(place: Option<FreeBlock>, retired: &RetiredCore) {
     }
 }
 
-// The next of the inode's own block numbers, from a place on.
-fn next_own(inode: &Dinode, from: usize) -> Option<usize>
+/// The place of the next of the inode's own block numbers, from a place on.
+pub fn next_own(inode: &Dinode, from: usize) -> Option<usize>
     ensures next { IsNext (take direct inode.now.addrs) from result }
     ensures within { IfSome result (λ i. i < direct) }
 {
@@ -478,8 +478,8 @@ fn next_own(inode: &Dinode, from: usize) -> Option<usize>
     None
 }
 
-// The next number in an indirect block, from a place on.
-fn next_listed(table: &Block, from: usize) -> Option<usize>
+/// The place of the next number in an indirect block, from a place on.
+pub fn next_listed(table: &Block, from: usize) -> Option<usize>
     ensures next { IsNext (numbers_in table.now) from result }
     ensures within { IfSome result (λ i. i < numbers_per_block) }
 {

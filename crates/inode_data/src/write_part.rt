@@ -55,7 +55,7 @@ pub struct PartWritten {
 }
 
 /// Writes bytes into a content, block by block, and then stores the inode. A block that is missing is taken; where none is free the
-/// bytes before it alone are written. The bytes are told with each step.
+/// bytes before it alone are written (xv6: `writei`). The bytes are told with each step.
 pub enum WritePart {
     /// The next block is sought, and taken where it is missing.
     Locating(Writing, Locate),

@@ -24,3 +24,4 @@ pub mod QuietWorlds
 pub mod Taking
 pub mod Entering
 pub mod Making
+pub mod Programs

@@ -1,0 +1,3 @@
+pub mod Asking
+pub mod PartReadings
+pub mod PartWritings

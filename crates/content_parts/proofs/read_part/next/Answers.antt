@@ -1,0 +1,13 @@
+use Rattle.std.proofs.Common.{arith}
+use Rattle.hand_controls.specs.FetchingBlocks.{block_left}
+use Rattle.content_parts.specs.PartReading.{filled_in}
+use Rattle.content_parts.proofs.PartReadings.{next_read}
+use Rattle.content_parts.proofs.read_part.next.Goals as goal
+
+pub returns-clause-program : goal.returns-clause-program
+returns-clause-program c bytes h =
+    let r = c.args.reading.now in
+    next_read r.left c.args.inode.now r.from r.upto (filled_in r bytes) (block_left c.fetch_of-fetch.result h) c.if-reading-eq0.false (c.fetch_of-fetch.ensures.program h)
+
+pub returns-clause-ready : goal.returns-clause-ready
+returns-clause-ready c bytes h none room = (record { within = c.requires.within; blocks = omega arith }, room, c.fetch_of-fetch.ensures.ready h none)

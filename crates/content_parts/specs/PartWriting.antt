@@ -1,0 +1,103 @@
+-- A part of a content written.
+use Rattle.std.specs.Prelude.{◌≡◌, ℕ, ◌+◌, ◌/◌, ◌^◌, ◌<◌, ◌≤◌, List, length, drop, None, IsSome}
+use Rattle.fs_layout.specs.Widths.{bits_per_block, block_len}
+use Rattle.fs_layout.specs.declared.inode.Dinode.{Dinode}
+use Rattle.atomic_programs.specs.Prog.{Ret, bind}
+use Rattle.fs_machine.specs.Machines.{P}
+use Rattle.inode_table.specs.Programs.{inode_block}
+use Rattle.inode_data.specs.Widths.{most_blocks}
+use Rattle.inode_data.specs.Writing.{WriteResult, front_of, put_part, write_located, write_blocks, store_written}
+use Rattle.inode_data.specs.declared.location.Located.{Located}
+use Rattle.hands.specs.declared.hand.Hand.{Hand}
+use Rattle.hands.specs.declared.hand.Place.TheVariants.{First}
+use Rattle.hands.specs.declared.op.Op.{Op}
+use Rattle.hands.specs.declared.op.Op.TheVariants as ops
+use Rattle.hands.specs.Hands.{block_at, bytes_at}
+use Rattle.hand_controls.specs.Fetching.{fetch_left, fetch_asked, fetch_block, fetch_place, FetchReady}
+use Rattle.hand_controls.specs.Locating.{locate_left, locate_asked, LocateReady}
+use Rattle.hand_controls.specs.Storing.{store_left, store_asked, store_place, StoreReady}
+use Rattle.content_parts.specs.InHand.{HasBlock, NoBuffers}
+use Rattle.content_parts.specs.declared.write_part.Writing.{Writing}
+use Rattle.content_parts.specs.declared.write_part.Written.{Written}
+use Rattle.content_parts.specs.declared.write_part.WritePart.{WritePart}
+use Rattle.content_parts.specs.declared.write_part.WritePart.TheVariants.{Locating, Fetching, There, Storing}
+
+-- the bytes that are left, and how many of them go into the next block
+abbrev pub bytes_left : Writing → List ℕ → List ℕ
+bytes_left w bytes = drop w.done bytes
+
+abbrev pub next_count : Writing → List ℕ → ℕ
+next_count w bytes = length (front_of w.at (bytes_left w bytes))
+
+-- what was written so far, where the inode's record is so
+abbrev pub written_so : Dinode → Writing → WriteResult
+written_so d w = record { inode = d; upto = w.at }
+
+-- the blocks behind the next one, where the inode is so
+abbrev pub blocks_behind : Writing → List ℕ → Dinode → P WriteResult
+blocks_behind w bytes d = write_blocks w.left w.sizes (w.at + next_count w bytes) (drop (next_count w bytes) (bytes_left w bytes)) d
+
+-- the inode is stored after these
+abbrev pub stored : Writing → WriteResult → P WriteResult
+stored w written = store_written w.sizes w.number written
+
+-- all that is left, where so many blocks are, and the inode is so
+abbrev pub write_rest : Writing → Dinode → List ℕ → P WriteResult
+write_rest w d bytes = bind (write_blocks w.left w.sizes w.at (bytes_left w bytes) d) (stored w)
+
+-- the next block was sought
+abbrev pub after_location : Writing → List ℕ → Located → P WriteResult
+after_location w bytes l = bind (write_located (blocks_behind w bytes) w.at (bytes_left w bytes) l) (stored w)
+
+-- its buffer is there
+abbrev pub after_fetch : Writing → Dinode → List ℕ → ℕ → List ℕ → P WriteResult
+after_fetch w d bytes b block = bind (put_part (blocks_behind w bytes d) b w.at (bytes_left w bytes) block) (stored w)
+
+-- the record was stored
+abbrev pub written_as : Written → WriteResult
+written_as r = record { inode = r.inode; upto = r.upto }
+
+abbrev pub give_written : Written → Unit {0} → P WriteResult
+give_written r _ = Ret (written_as r)
+
+abbrev pub write_left : List ℕ → WritePart → Hand → P WriteResult
+write_left bytes (Locating w m) h = bind (locate_left m h) (after_location w bytes)
+write_left bytes (Fetching w d f) h = bind (fetch_left f h) (after_fetch w d bytes (fetch_block f))
+write_left bytes (There w d) h = after_fetch w d bytes (block_at First h) (bytes_at First h)
+write_left bytes (Storing r m) h = bind (store_left m h) (give_written r)
+
+abbrev pub write_asked : WritePart → Op
+write_asked (Locating w m) = locate_asked m
+write_asked (Fetching w d f) = fetch_asked f
+write_asked (There w d) = ops.Record First
+write_asked (Storing r m) = store_asked m
+
+-- a writing that has so many blocks before it, the next one too: each is one of a content, on a disk whose blocks have bits
+pub record IsWriting (count : ℕ) (w : Writing) : Type 0 where
+  pub within : w.at / block_len + count ≤ most_blocks
+  pub size : w.sizes.size ≤ bits_per_block
+  pub block : inode_block w.sizes.inodestart w.number < 2 ^ 32
+
+-- it is in the midst of the bytes, with the next block before it
+abbrev pub IsAmid : List ℕ → Writing → Type 0
+IsAmid bytes w = IsWriting (w.left + 1) w × (w.done ≤ length bytes)
+
+abbrev pub WriteReady : List ℕ → WritePart → Hand → Type 0
+WriteReady bytes (Locating w m) h = IsAmid bytes w × LocateReady m h
+WriteReady bytes (Fetching w d f) h = IsAmid bytes w × FetchReady f h × (fetch_place f ≡ First) × (h.second ≡ None) × IsSome h.txn
+WriteReady bytes (There w d) h = IsAmid bytes w × HasBlock h × IsSome h.txn
+WriteReady bytes (Storing r m) h = StoreReady m h × (store_place m ≡ First) × (h.second ≡ None)
+
+-- a part that begins where so many of the bytes were written
+abbrev pub BeginsAmid : ℕ → WritePart → Type 0
+BeginsAmid done m = (bytes : List ℕ) (h : Hand) → NoBuffers h → IsSome h.txn → done ≤ length bytes → WriteReady bytes m h
+
+-- the next block was written
+pub record IsPast (w : Writing) (bytes : List ℕ) (next : Writing) : Type 0 where
+  pub number : next.number ≡ w.number
+  pub sizes : next.sizes ≡ w.sizes
+  pub at : next.at ≡ w.at + next_count w bytes
+  pub done : next.done ≡ w.done + next_count w bytes
+  pub left : next.left ≡ w.left
+  pub ready : IsWriting w.left next
+  pub there : next.done ≤ length bytes

@@ -1,0 +1,165 @@
+//! A part of a content read.
+ghost use Rattle.std.specs.Prelude.{◌≡◌, ◌+◌, ◌≤◌, ℕ, List, length, Some, None, IsSome, IfSome, IfNone};
+ghost use Rattle.std.specs.Option.{MatchOption};
+ghost use Rattle.atomic_programs.specs.Prog.{asks};
+ghost use Rattle.fs_layout.specs.declared.inode.Dinode.{Dinode as DinodeState};
+ghost use Rattle.inode_data.specs.Beginnings.{begun_of, IfBegun};
+ghost use Rattle.inode_data.specs.Programs.{read_blocks, read_from};
+ghost use Rattle.hands.specs.Hands.{bytes_at};
+ghost use Rattle.hands.specs.Ops.{op_in, answer_in, CanDo, Prepared, IsAfter};
+ghost use Rattle.hands.specs.Controls.{Goes, left_after};
+ghost use Rattle.hands.specs.declared.hand.Hand.{Hand as HandState};
+ghost use Rattle.hands.specs.declared.hand.Place.TheVariants.{First};
+ghost use Rattle.hand_controls.specs.Locating.{Leaves};
+ghost use Rattle.content_parts.specs.InHand.{NoBuffers};
+ghost use Rattle.content_parts.specs.PartReading.{filled_in, filled_to, read_left, read_asked, HasRead, HasRoom, IsReading, ReadReady};
+
+use crate::place::{blocks, copy_into, fetch_of};
+use fs_layout::Dinode;
+use fs_layout::widths::{BLOCK_LEN, Block};
+use hand_controls::FetchBlock;
+use hands::{Answer, Hand, Op, Part, Place};
+use inode_data::{Begun, MOST_BLOCKS};
+
+/// What a read has to do yet.
+#[derive(Clone, Copy, Drop)]
+pub struct Reading {
+    /// So many of the bytes were read.
+    pub filled: usize,
+    /// From this offset of the content on it goes on ..
+    pub from: usize,
+    /// .. up to this one.
+    pub upto: usize,
+    /// So many blocks are to be read after the next one.
+    pub left: usize,
+}
+
+/// Reads bytes of a content, block by block. The inode's record and the memory are lent to each step.
+#[derive(Clone, Copy, Drop)]
+pub enum ReadPart {
+    /// The block of the next bytes is fetched.
+    Fetching(Reading, FetchBlock),
+    /// They were read, and it is given back.
+    Giving(Reading),
+}
+
+impl ReadPart {
+    /// At most `count` bytes from an offset on, and none past the size. How many these were is answered.
+    pub fn begin(inode: &Dinode, offset: u32, count: u32) -> Begun<ReadPart, usize>
+        ensures program { (bytes : List ℕ) (h : HandState) → begun_of (λ m. read_left inode.now bytes m h) (λ n. filled_to n bytes) result
+            ≡ read_from inode.now offset count bytes }
+        ensures ready { (bytes : List ℕ) (h : HandState) → NoBuffers h → count ≤ length bytes
+            → IfBegun (λ m. ReadReady bytes m h) (λ _. Unit {0}) result }
+    {
+        let from = offset as usize;
+        let upto = (from + count as usize).min((inode.size as usize).min(BLOCK_LEN * MOST_BLOCKS));
+        let reading = Reading {
+            filled: 0,
+            from,
+            upto,
+            left: blocks(from, upto),
+        };
+        next(inode, &reading)
+    }
+
+    /// The next operation.
+    pub fn op(&self, hand: &mut Hand) -> Op
+        requires ready { (bytes : List ℕ) × ReadReady bytes self.now hand.old }
+        ensures op { result ≡ read_asked self.now }
+        ensures asks { (d : DinodeState) (bytes : List ℕ) → asks (read_left d bytes self.now hand.old) ≡ Some (op_in hand.new result) }
+        ensures can { CanDo result hand.new }
+        ensures prepared { Prepared result hand.old hand.new }
+    {
+        match self {
+            ReadPart::Fetching(_, fetch) => fetch.op(hand),
+            ReadPart::Giving(_) => Op::Give(Place::First),
+        }
+    }
+
+    /// How it goes on.
+    #[tactic(auto, using(hands::proofs::Going::goes_bind))]
+    pub fn next(
+        &mut self,
+        inode: &Dinode,
+        memory: &mut [u8],
+        answer: Answer,
+        hand: &Hand,
+    ) -> Option<usize>
+        requires came { (before : HandState) × ReadReady memory.old self.old before × IsAfter (read_asked self.old) before answer hand.now }
+        ensures goes { (before : HandState) → ReadReady memory.old self.old before → IsAfter (read_asked self.old) before answer hand.now
+            → Goes (read_left inode.now memory.old self.old before) (answer_in (read_asked self.old) answer hand.now)
+            (left_after (read_left inode.now memory.new) (λ n _. filled_to n memory.new) result self.new hand.now) }
+        ensures ready { IfNone result (ReadReady memory.new self.new hand.now) }
+        ensures over { IfSome result (λ _. NoBuffers hand.now) }
+        ensures beside { (before : HandState) → ReadReady memory.old self.old before → IsAfter (read_asked self.old) before answer hand.now
+            → Leaves before hand.now }
+    {
+        match self {
+            ReadPart::Fetching(reading, fetch) => match fetch.next(answer, hand) {
+                None => None,
+                Some(_) => {
+                    let reading = copied(reading, memory, hand);
+                    *self = ReadPart::Giving(reading);
+                    None
+                }
+            },
+            ReadPart::Giving(reading) => match next(inode, reading) {
+                Begun::Is(count) => Some(count),
+                Begun::Runs(part) => {
+                    *self = part;
+                    None
+                }
+            },
+        }
+    }
+}
+
+// Goes on with the next block, where one is left.
+#[tactic(auto, unfolding(inode_data::specs::Programs::read_blocks))]
+fn next(inode: &Dinode, reading: &Reading) -> Begun<ReadPart, usize>
+    requires { IsReading reading.now.left reading.now }
+    ensures program { (bytes : List ℕ) (h : HandState)
+        → begun_of (λ m. read_left inode.now bytes m h) (λ n. filled_to n bytes) result
+        ≡ read_blocks reading.now.left inode.now reading.now.from reading.now.upto (filled_in reading.now bytes) }
+    ensures ready { (bytes : List ℕ) (h : HandState) → NoBuffers h → HasRoom reading.now bytes
+        → IfBegun (λ m. ReadReady bytes m h) (λ _. Unit {0}) result }
+{
+    if reading.left == 0 {
+        return Begun::Is(reading.filled);
+    }
+    let reading = Reading {
+        left: reading.left - 1,
+        ..*reading
+    };
+    let fetch = fetch_of(inode, reading.from / BLOCK_LEN);
+    Begun::Runs(ReadPart::Fetching(reading, fetch))
+}
+
+// Copies the part of the block in hand behind what was read before.
+fn copied(reading: &Reading, memory: &mut [u8], hand: &Hand) -> Reading
+    requires ready { IsReading (reading.now.left + 1) reading.now }
+    requires room { HasRoom reading.now memory.old }
+    requires valid { MatchOption hand.now.first ⊥ (λ g. IsSome g.value.content) }
+    ensures { HasRead reading.now memory.old (bytes_at First hand.now) result memory.new }
+{
+    match &hand.first {
+        Some(guard) => copied_from(reading, memory, guard.value().bytes()),
+        None => unreachable!(),
+    }
+}
+
+// Copies the block's part behind what was read before.
+fn copied_from(reading: &Reading, memory: &mut [u8], block: &Block) -> Reading
+    requires ready { IsReading (reading.now.left + 1) reading.now }
+    requires room { HasRoom reading.now memory.old }
+    ensures { HasRead reading.now memory.old block.now result memory.new }
+{
+    let start = reading.from % BLOCK_LEN;
+    let count = (reading.upto - reading.from).min(BLOCK_LEN - start);
+    copy_into(memory, reading.filled, &block[start..start + count]);
+    Reading {
+        filled: reading.filled + count,
+        from: reading.from + (BLOCK_LEN - start),
+        ..*reading
+    }
+}

@@ -1,0 +1,238 @@
+//! A part of a content written.
+ghost use Rattle.std.specs.Prelude.{◌≡◌, ◌≢◌, ◌+◌, ◌<◌, ◌≤◌, ◌^◌, ℕ, List, drop, length, Some, None, IsSome, IfSome, IfNone};
+ghost use Rattle.std.specs.Option.{MatchOption};
+ghost use Rattle.fs_layout.specs.Widths.{bits_per_block};
+ghost use Rattle.atomic_programs.specs.Prog.{asks};
+ghost use Rattle.inode_table.specs.Programs.{inode_block};
+ghost use Rattle.inode_data.specs.Widths.{most_bytes};
+ghost use Rattle.inode_data.specs.Writing.{grown, write_part};
+ghost use Rattle.hands.specs.Ops.{op_in, answer_in, CanDo, Prepared, IsAfter};
+ghost use Rattle.hands.specs.Controls.{Goes, left_after};
+ghost use Rattle.hands.specs.declared.hand.Hand.{Hand as HandState};
+ghost use Rattle.hand_controls.specs.Locating.{Leaves};
+ghost use Rattle.content_parts.specs.InHand.{NoBuffers};
+ghost use Rattle.content_parts.specs.PartWriting.{after_location, stored, write_left, write_asked, write_rest, written_as, written_so, BeginsAmid, IsPast, IsWriting, WriteReady};
+
+use crate::locating::seek;
+use crate::place::{blocks, write_at};
+use fs_layout::widths::BLOCK_LEN;
+use fs_layout::{Dinode, Super};
+use hand_controls::{Fetch, Locate, StoreInode};
+use hands::{Answer, Control, Hand, Op, Part, Place};
+use inode_data::{Begun, Located};
+
+/// What a writing has to do yet.
+#[derive(Clone, Copy, Drop)]
+pub struct Writing {
+    /// The inode's number.
+    pub number: u32,
+    /// The superblock of its disk.
+    pub sizes: Super,
+    /// At this offset of the content it goes on.
+    pub at: usize,
+    /// So many of the bytes were written.
+    pub done: usize,
+    /// So many blocks are to be written after the next one.
+    pub left: usize,
+}
+
+/// What a writing ends with: the inode as it was stored, and up to which offset of its content the bytes were written. That is their
+/// end, or where a block is missing and none was free.
+#[derive(Clone, Copy, Drop)]
+pub struct Written {
+    pub inode: Dinode,
+    pub upto: usize,
+}
+
+/// Writes bytes into a content, block by block, and then stores the inode. A block that is missing is taken; where none is free the
+/// bytes before it alone are written. The bytes are lent to each step.
+#[derive(Drop)]
+pub enum WritePart {
+    /// The next block is sought, and taken where it is missing.
+    Locating(Writing, Locate),
+    /// It is fetched. The inode's record so far is this, with the blocks that were taken.
+    Fetching(Writing, Dinode, Fetch),
+    /// It is there.
+    There(Writing, Dinode),
+    /// The inode is stored.
+    Storing(Written, StoreInode),
+}
+
+impl WritePart {
+    /// So many bytes from an offset on, into the content of inode `number`, which stands so, on a disk with this superblock.
+    pub fn begin(number: u32, inode: &Dinode, sizes: &Super, offset: u32, count: usize) -> WritePart
+        requires within { offset + count ≤ most_bytes }
+        requires size { sizes.now.size ≤ bits_per_block }
+        requires block { inode_block sizes.now.inodestart number < 2 ^ 32 }
+        ensures program { (bytes : List ℕ) (h : HandState) → length bytes ≡ count → write_left bytes result h
+            ≡ write_part sizes.now number inode.now offset bytes }
+        ensures ready { (bytes : List ℕ) (h : HandState) → NoBuffers h → IsSome h.txn → WriteReady bytes result h }
+    {
+        let at = offset as usize;
+        let writing = Writing {
+            number,
+            sizes: *sizes,
+            at,
+            done: 0,
+            left: blocks(at, at + count),
+        };
+        onward(&writing, inode)
+    }
+
+    /// The next operation. The next block's part of the bytes is written in its buffer.
+    pub fn op(&self, bytes: &[u8], hand: &mut Hand) -> Op
+        requires ready { WriteReady bytes.now self.now hand.old }
+        ensures op { result ≡ write_asked self.now }
+        ensures asks { asks (write_left bytes.now self.now hand.old) ≡ Some (op_in hand.new result) }
+        ensures can { CanDo result hand.new }
+        ensures prepared { Prepared result hand.old hand.new }
+    {
+        match self {
+            WritePart::Locating(_, locate) => locate.op(hand),
+            WritePart::Fetching(_, _, fetch) => fetch.op(hand),
+            WritePart::There(writing, _) => {
+                write_at(hand, writing.at, rest(bytes, writing.done));
+                Op::Record(Place::First)
+            }
+            WritePart::Storing(_, store) => store.op(hand),
+        }
+    }
+
+    /// How it goes on.
+    #[tactic(auto, using(hands::proofs::Going::goes_bind, hand_controls::proofs::Goings::fetched_goes))]
+    pub fn next(&mut self, bytes: &[u8], answer: Answer, hand: &mut Hand) -> Option<Written>
+        requires came { (before : HandState) × WriteReady bytes.now self.old before × IsAfter (write_asked self.old) before answer hand.old }
+        ensures goes { (before : HandState) → WriteReady bytes.now self.old before → IsAfter (write_asked self.old) before answer hand.old
+            → Goes (write_left bytes.now self.old before) (answer_in (write_asked self.old) answer hand.old)
+            (left_after (write_left bytes.now) (λ r _. written_as r) result self.new hand.new) }
+        ensures ready { IfNone result (WriteReady bytes.now self.new hand.new) }
+        ensures same { hand.new ≡ hand.old }
+        ensures over { IfSome result (λ _. NoBuffers hand.new) }
+        ensures beside { (before : HandState) → WriteReady bytes.now self.old before
+            → IsAfter (write_asked self.old) before answer hand.old → Leaves before hand.old }
+    {
+        match self {
+            WritePart::Locating(writing, locate) => match locate.next(answer, hand) {
+                None => None,
+                Some(located) => {
+                    *self = found(writing, &located);
+                    None
+                }
+            },
+            WritePart::Fetching(writing, so_far, fetch) => match fetch.next(answer, hand) {
+                None => None,
+                Some(_) => {
+                    *self = WritePart::There(*writing, *so_far);
+                    None
+                }
+            },
+            WritePart::There(writing, so_far) => {
+                let next = passed(writing, bytes.len());
+                *self = onward(&next, so_far);
+                None
+            }
+            WritePart::Storing(written, store) => {
+                let written = *written;
+                match store.next(answer, hand) {
+                    None => None,
+                    Some(()) => Some(written),
+                }
+            }
+        }
+    }
+}
+
+// Goes on with the next block, or with the store.
+fn onward(writing: &Writing, so_far: &Dinode) -> WritePart
+    requires { IsWriting writing.now.left writing.now }
+    ensures program { (bytes : List ℕ) (h : HandState) → write_left bytes result h ≡ write_rest writing.now so_far.now bytes }
+    ensures ready { BeginsAmid writing.now.done result }
+{
+    if writing.left == 0 {
+        return store(writing, so_far);
+    }
+    next_of(writing, so_far)
+}
+
+// Goes on with the next block, which is sought.
+fn next_of(writing: &Writing, so_far: &Dinode) -> WritePart
+    requires ready { IsWriting writing.now.left writing.now }
+    requires some { writing.now.left ≢ 0 }
+    ensures program { (bytes : List ℕ) (h : HandState) → write_left bytes result h ≡ write_rest writing.now so_far.now bytes }
+    ensures ready { BeginsAmid writing.now.done result }
+{
+    let writing = Writing {
+        left: writing.left - 1,
+        ..*writing
+    };
+    match seek(so_far, &writing.sizes, writing.at / BLOCK_LEN) {
+        Begun::Runs(locate) => WritePart::Locating(writing, locate),
+        Begun::Is(located) => found(&writing, &located),
+    }
+}
+
+// Goes on where the next block was sought.
+fn found(writing: &Writing, located: &Located) -> WritePart
+    requires { IsWriting (writing.now.left + 1) writing.now }
+    ensures program { (bytes : List ℕ) (h : HandState) → write_left bytes result h ≡ after_location writing.now bytes located.now }
+    ensures ready { BeginsAmid writing.now.done result }
+{
+    match located.number {
+        None => store(writing, &located.inode),
+        Some(b) => WritePart::Fetching(*writing, located.inode, Fetch::Get(Place::First, b)),
+    }
+}
+
+// The inode is stored.
+fn store(writing: &Writing, so_far: &Dinode) -> WritePart
+    requires { IsWriting 0 writing.now }
+    ensures program { (bytes : List ℕ) (h : HandState)
+        → write_left bytes result h ≡ stored writing.now (written_so so_far.now writing.now) }
+    ensures ready { BeginsAmid writing.now.done result }
+{
+    let inode = grown(writing, so_far);
+    let store = StoreInode::new(
+        writing.sizes.inodestart,
+        writing.number,
+        inode,
+        Place::First,
+    );
+    let written = Written {
+        inode,
+        upto: writing.at,
+    };
+    WritePart::Storing(written, store)
+}
+
+// The record as it is to be stored.
+fn grown(writing: &Writing, so_far: &Dinode) -> Dinode
+    requires { IsWriting 0 writing.now }
+    ensures { result ≡ grown (written_so so_far.now writing.now) }
+{
+    Dinode {
+        size: so_far.size.max(writing.at as u32),
+        ..*so_far
+    }
+}
+
+// The writing past the next block, which was written, of so many bytes in all.
+fn passed(writing: &Writing, count: usize) -> Writing
+    requires ready { IsWriting (writing.now.left + 1) writing.now }
+    requires there { writing.now.done ≤ count }
+    ensures { (bytes : List ℕ) → length bytes ≡ count → IsPast writing.now bytes result }
+{
+    let part = (BLOCK_LEN - writing.at % BLOCK_LEN).min(count - writing.done);
+    Writing {
+        at: writing.at + part,
+        done: writing.done + part,
+        ..*writing
+    }
+}
+
+// The bytes behind so many.
+fn rest(bytes: &[u8], done: usize) -> &[u8]
+    requires { done ≤ length bytes.now }
+    ensures { result.now ≡ drop done bytes.now }
+{
+    &bytes[done..]
+}

@@ -1,0 +1,3 @@
+pub mod Ends
+pub mod Goings
+pub mod Lookings

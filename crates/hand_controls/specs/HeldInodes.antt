@@ -1,0 +1,36 @@
+-- Inodes whose locks are in hand.
+use Rattle.std.specs.Prelude.{◌<◌, ◌^◌, ℕ, pos, None, IsSome}
+use Rattle.std.specs.Option.{MatchOption, option_map}
+use Rattle.fs_layout.specs.declared.inode.Dinode.{Dinode}
+use Rattle.sleep_lock.specs.SleepLock.{GuardState}
+use Rattle.fs_tables.specs.declared.inodes.Inode.{Inode}
+use Rattle.inode_table.specs.Programs.{record_of, inode_block}
+use Rattle.hands.specs.declared.hand.Hand.{Hand}
+use Rattle.hands.specs.declared.hand.Seat.{Seat}
+use Rattle.hands.specs.Hands.{inode_at, inode_in, with_inode}
+
+-- the number and the record of the inode at a seat
+abbrev pub number_in : Seat → Hand → ℕ
+number_in k h = (inode_in k h).number
+
+abbrev pub record_in : Seat → Hand → Dinode
+record_in k h = record_of (inode_in k h)
+
+-- it is loaded
+abbrev pub IsLoadedAt : Seat → Hand → Type 0
+IsLoadedAt k h = MatchOption (inode_at k h) ⊥ (λ g. IsSome g.value.content)
+
+-- its block has a number
+abbrev pub HasBlock : ℕ → Seat → Hand → Type 0
+HasBlock inodestart k h = inode_block inodestart (number_in k h) < 2 ^ 32
+
+-- a record with this count of links
+abbrev pub counted : ℕ → Dinode → Dinode
+counted n d = record d { nlink = pos n }
+
+-- nothing is loaded of it
+abbrev pub without_content : GuardState Inode → GuardState Inode
+without_content g = record g { value = record g.value { content = None } }
+
+abbrev pub unloaded : Seat → Hand → Hand
+unloaded k h = with_inode k (option_map without_content (inode_at k h)) h

@@ -1,0 +1,95 @@
+//! A block of a content taken.
+ghost use Rattle.std.specs.Option.{MatchOption};
+ghost use Rattle.std.specs.Prelude.{IsSome, ◌≡◌, ◌<◌, ℕ, Some, None, IfSome, IfNone, slice_index};
+ghost use Rattle.fs_layout.specs.Indirect.{numbers_in};
+ghost use Rattle.fs_layout.specs.Widths.{numbers_per_block};
+ghost use Rattle.inode_data.specs.Widths.{most_blocks};
+ghost use Rattle.inode_data.specs.Programs.{FetchedBlock, fetch_block};
+ghost use Rattle.hands.specs.Hands.{buffer_at, bytes_at};
+ghost use Rattle.hands.specs.Ops.{IsAfter, answer_in};
+ghost use Rattle.hands.specs.Controls.{Goes, left_after, bare};
+ghost use Rattle.hands.specs.declared.hand.Hand.{Hand as HandState};
+ghost use Rattle.hand_controls.specs.Fetching.{FetchEnds};
+ghost use Rattle.hand_controls.specs.FetchingBlocks.{block_left, block_asked, block_place, BlockReady, fetched_block};
+
+use crate::fetch::{Fetch, Fetched};
+use crate::place::number_at;
+use fs_layout::Dinode;
+use hands::{Answer, Hand, Op, Part, Place};
+use inode_data::{Address, DIRECT, address_of};
+
+/// Takes the buffer of a block of a content, valid, after a touch of the indirect block where the block's number stands there.
+#[derive(Clone, Copy, Drop)]
+pub enum FetchBlock {
+    /// The indirect block is fetched, for the number at this place.
+    Table(usize, Fetch),
+    /// It is given back; this is the number.
+    Number(u32, Place),
+    /// The block is fetched.
+    Block(Fetch),
+}
+
+impl FetchBlock {
+    /// Block `k` of the content of this inode.
+    pub fn new(inode: &Dinode, k: usize, place: Place) -> FetchBlock
+        requires { k < most_blocks }
+        ensures program { (h : HandState) → block_left result h ≡ fetch_block inode.now k }
+        ensures ready { (h : HandState) → buffer_at place h ≡ None → BlockReady result h }
+    {
+        match address_of(k) {
+            Address::Direct(i) => FetchBlock::Block(Fetch::Get(place, inode.addrs[i])),
+            Address::InTable(i) => FetchBlock::Table(i, Fetch::Get(place, inode.addrs[DIRECT])),
+        }
+    }
+}
+
+impl Part for FetchBlock {
+    type Out = Fetched;
+
+    ghost Value = { FetchedBlock };
+
+    ghost value = { fetched_block };
+
+    ghost left = { block_left };
+
+    ghost asked = { block_asked };
+
+    ghost Ready = { BlockReady };
+
+    ghost place = { block_place };
+
+    ghost About = { Unit {0} };
+
+    ghost about = { λ _. tt };
+
+    ghost Ends = { λ m out h. MatchOption (buffer_at out.place h) ⊥ (λ g. IsSome g.value.content) × (out.place ≡ block_place m) };
+
+    fn op(&self, hand: &mut Hand) -> Op {
+        match self {
+            FetchBlock::Table(_, fetch) => fetch.op(hand),
+            FetchBlock::Number(_, place) => Op::Give(*place),
+            FetchBlock::Block(fetch) => fetch.op(hand),
+        }
+    }
+
+    fn next(&mut self, answer: Answer, hand: &Hand) -> Option<Fetched> {
+        match self {
+            FetchBlock::Table(i, fetch) => {
+                let i = *i;
+                match fetch.next(answer, hand) {
+                    None => None,
+                    Some(fetched) => {
+                        let number = number_at(hand, fetched.place, i);
+                        *self = FetchBlock::Number(number, fetched.place);
+                        None
+                    }
+                }
+            }
+            FetchBlock::Number(number, place) => {
+                *self = FetchBlock::Block(Fetch::Get(*place, *number));
+                None
+            }
+            FetchBlock::Block(fetch) => fetch.next(answer, hand),
+        }
+    }
+}

@@ -1,0 +1,110 @@
+//! A block given back.
+ghost use Rattle.std.specs.Prelude.{◌≡◌, ℕ, None, IsSome, IfSome, IfNone};
+ghost use Rattle.std.specs.Option.{MatchOption};
+ghost use Rattle.fs_machine.specs.Tied.{bytes_of};
+ghost use Rattle.bitmap_alloc.specs.Bytes.{without_bit};
+ghost use Rattle.bitmap_alloc.specs.Programs.{free_block};
+ghost use Rattle.hands.specs.Hands.{buffer_at, bytes_at, with_buffer, with_bytes, with_content};
+ghost use Rattle.hands.specs.Ops.{IsAfter, answer_in};
+ghost use Rattle.hands.specs.Controls.{Goes, left_after, bare};
+ghost use Rattle.hands.specs.declared.hand.Hand.{Hand as HandState};
+ghost use Rattle.hand_controls.specs.FreeingBlocks.{free_left, free_asked, free_place, FreeReady};
+
+use crate::fetch::Fetch;
+use bitmap_alloc::clear;
+use buffer_cache::Buffer;
+use hands::{Answer, Hand, Op, Part, Place};
+use sleep_lock::Guard;
+
+/// Clears a block's bit, so that it may be taken.
+#[derive(Clone, Copy, Drop)]
+pub enum FreeBlock {
+    /// The bitmap is fetched, for this block.
+    Bitmap(u32, Fetch),
+    /// It is there, and goes back with this block's bit clear.
+    Unmark(u32, Place),
+}
+
+impl FreeBlock {
+    /// Block `b` of a disk whose bitmap is block `bmapstart`. A number past the bitmap has no bit, and changes none.
+    pub fn new(bmapstart: u32, b: u32, place: Place) -> FreeBlock
+        ensures program { (h : HandState) → free_left result h ≡ free_block bmapstart b }
+        ensures ready { (h : HandState) → buffer_at place h ≡ None → IsSome h.txn → FreeReady result h }
+        ensures place { free_place result ≡ place }
+    {
+        FreeBlock::Bitmap(b, Fetch::Get(place, bmapstart))
+    }
+}
+
+impl Part for FreeBlock {
+    type Out = ();
+
+    ghost Value = { Unit {0} };
+
+    ghost value = { λ _ _. tt };
+
+    ghost left = { free_left };
+
+    ghost asked = { free_asked };
+
+    ghost Ready = { FreeReady };
+
+    ghost place = { free_place };
+
+    ghost About = { Unit {0} };
+
+    ghost about = { λ _. tt };
+
+    ghost Ends = { λ m _ h. buffer_at (free_place m) h ≡ None };
+
+    fn op(&self, hand: &mut Hand) -> Op {
+        match self {
+            FreeBlock::Bitmap(_, fetch) => fetch.op(hand),
+            FreeBlock::Unmark(b, place) => {
+                clear_at(hand, *place, *b as usize);
+                Op::Record(*place)
+            }
+        }
+    }
+
+    #[tactic(auto, using(hands::proofs::Going::goes_bind, crate::proofs::Goings::fetched_goes))]
+    fn next(&mut self, answer: Answer, hand: &Hand) -> Option<()> {
+        match self {
+            FreeBlock::Bitmap(b, fetch) => {
+                let b = *b;
+                match fetch.next(answer, hand) {
+                    None => None,
+                    Some(fetched) => {
+                        *self = FreeBlock::Unmark(b, fetched.place);
+                        None
+                    }
+                }
+            }
+            FreeBlock::Unmark(_, _) => Some(()),
+        }
+    }
+}
+
+// Clears a bit of the bitmap.
+fn clear_in(guard: &mut Guard<Buffer>, b: usize)
+    requires { IsSome guard.old.value.content }
+    ensures { guard.new ≡ with_content (without_bit b (bytes_of guard.old)) guard.old }
+{
+    clear(guard.value_mut().bytes_mut(), b);
+}
+
+fn clear_at(hand: &mut Hand, place: Place, b: usize)
+    requires { MatchOption (buffer_at place hand.old) ⊥ (λ g. IsSome g.value.content) }
+    ensures { hand.new ≡ with_bytes place (without_bit b (bytes_at place hand.old)) hand.old }
+{
+    match place {
+        Place::First => match &mut hand.first {
+            Some(guard) => clear_in(guard, b),
+            None => unreachable!(),
+        },
+        Place::Second => match &mut hand.second {
+            Some(guard) => clear_in(guard, b),
+            None => unreachable!(),
+        },
+    }
+}

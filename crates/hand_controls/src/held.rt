@@ -1,0 +1,54 @@
+// Inodes whose locks are in hand.
+ghost use Rattle.std.specs.Prelude.{◌≡◌, Some, None, IsSome};
+ghost use Rattle.std.specs.Option.{option_map, option_map_or, MatchOption};
+ghost use Rattle.inode_table.specs.Programs.{record_of};
+ghost use Rattle.hands.specs.Hands.{inode_at, no_inode};
+ghost use Rattle.hand_controls.specs.HeldInodes.{record_in, without_content, unloaded, IsLoadedAt};
+
+use fs_layout::Dinode;
+use fs_tables::Inode;
+use hands::{Hand, Seat};
+use inode_data::record;
+use sleep_lock::Guard;
+
+fn record_of(place: &Option<Guard<Inode>>) -> Dinode
+    requires { MatchOption place.now ⊥ (λ g. IsSome g.value.content) }
+    ensures { result ≡ record_of (option_map_or (λ g. g.value) place.now no_inode) }
+{
+    match place {
+        Some(guard) => record(guard),
+        None => unreachable!(),
+    }
+}
+
+// The record of the inode at a seat.
+pub(crate) fn record_at(hand: &Hand, seat: Seat) -> Dinode
+    requires { IsLoadedAt seat hand.now }
+    ensures { result ≡ record_in seat hand.now }
+{
+    match seat {
+        Seat::One => record_of(&hand.one),
+        Seat::Two => record_of(&hand.two),
+    }
+}
+
+fn unload(place: &mut Option<Guard<Inode>>)
+    requires { IsSome place.old }
+    ensures { place.new ≡ option_map without_content place.old }
+{
+    match place {
+        Some(guard) => guard.value_mut().content = None,
+        None => unreachable!(),
+    }
+}
+
+// Nothing is loaded of the inode at a seat from now on.
+pub(crate) fn unload_at(hand: &mut Hand, seat: Seat)
+    requires { IsSome (inode_at seat hand.old) }
+    ensures { hand.new ≡ unloaded seat hand.old }
+{
+    match seat {
+        Seat::One => unload(&mut hand.one),
+        Seat::Two => unload(&mut hand.two),
+    }
+}

@@ -1,0 +1,90 @@
+//! An inode locked, and loaded.
+ghost use Rattle.std.specs.Prelude.{◌≡◌, ◌<◌, ◌^◌, None, IsSome, IfSome, IfNone};
+ghost use Rattle.fs_layout.specs.declared.inode.Dinode.{Dinode as DinodeState};
+ghost use Rattle.inode_table.specs.Programs.{inode_block};
+ghost use Rattle.hands.specs.Hands.{inode_at, number_at, reference_at};
+ghost use Rattle.hands.specs.Ops.{IsAfter, answer_in};
+ghost use Rattle.hands.specs.Controls.{Goes, left_after, bare};
+ghost use Rattle.hands.specs.declared.hand.Hand.{Hand as HandState};
+ghost use Rattle.hands.specs.declared.hand.Seat.{Seat as SeatState};
+ghost use Rattle.hand_controls.specs.HeldInodes.{record_in};
+ghost use Rattle.hand_controls.specs.LoadingHeld.{beside_lock};
+ghost use Rattle.hand_controls.specs.LockingInodes.{lock_loaded, lock_left, lock_asked, lock_seat, HasLocked, LockReady};
+
+use crate::load_held::load_held;
+use crate::load_inode::LoadInode;
+use hands::{Answer, Hand, Op, Part, Routine, Seat};
+
+/// Takes the lock of the inode to which the reference at a seat is, and loads the inode where it isn't.
+#[derive(Clone, Copy, Drop)]
+pub enum LockInode {
+    /// The lock is taken, on a disk whose inode blocks begin there.
+    Lock(Seat, u32),
+    /// The inode is loaded.
+    Loading(Seat, LoadInode),
+}
+
+impl LockInode {
+    /// On a disk whose inode blocks begin at block `inodestart`.
+    pub fn new(inodestart: u32, seat: Seat) -> LockInode
+        ensures program { (h : HandState) → lock_left result h ≡ lock_loaded inodestart (number_at seat h) }
+        ensures ready { (h : HandState) → IsSome (reference_at seat h) → inode_at seat h ≡ None → h.first ≡ None → inode_block inodestart (number_at seat h) < 2 ^ 32 → LockReady result h }
+        ensures seat { lock_seat result ≡ seat }
+    {
+        LockInode::Lock(seat, inodestart)
+    }
+}
+
+impl Routine for LockInode {
+    type Out = Seat;
+
+    ghost Value = { DinodeState };
+
+    ghost value = { record_in };
+
+    ghost left = { lock_left };
+
+    ghost asked = { lock_asked };
+
+    ghost Ready = { LockReady };
+
+    ghost About = { SeatState };
+
+    ghost about = { lock_seat };
+
+    ghost beside = { beside_lock };
+
+    ghost Ends = { λ m k h. (k ≡ lock_seat m) × HasLocked k h };
+
+    fn op(&self, hand: &mut Hand) -> Op {
+        match self {
+            LockInode::Lock(seat, _) => Op::Lock(*seat),
+            LockInode::Loading(_, load) => load.op(hand),
+        }
+    }
+
+    fn next(&mut self, answer: Answer, hand: &mut Hand) -> Option<Seat> {
+        match self {
+            LockInode::Lock(seat, inodestart) => {
+                let seat = *seat;
+                match load_held(*inodestart, hand, seat) {
+                    None => Some(seat),
+                    Some(load) => {
+                        *self = LockInode::Loading(seat, load);
+                        None
+                    }
+                }
+            }
+            LockInode::Loading(seat, load) => {
+                let seat = *seat;
+                match load.next(answer, hand) {
+                    None => None,
+                    Some(inode) => {
+                        hand.set_record(seat, inode);
+                        Some(seat)
+                    }
+                }
+            }
+        }
+    }
+}

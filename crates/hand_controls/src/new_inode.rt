@@ -1,0 +1,195 @@
+//! A new inode.
+ghost use Rattle.std.specs.Prelude.{◌≡◌, ◌<◌, ◌≤◌, ◌+◌, ◌-◌, ◌^◌, take, None, IsSome, IfSome, IfNone};
+ghost use Rattle.std.specs.Option.{MatchOption};
+ghost use Rattle.fs_layout.specs.Widths.{inodes_per_block};
+ghost use Rattle.atomic_programs.specs.Prog.{Ret};
+ghost use Rattle.fs_machine.specs.Tied.{bytes_of};
+ghost use Rattle.inode_table.specs.NewInodes.{free_in, inode_blocks, new_from, new_inode};
+ghost use Rattle.inode_table.specs.NewMachines.{rest_of, IsLooking};
+ghost use Rattle.inode_table.specs.declared.new_inode.Made.{Made as MadeState};
+ghost use Rattle.hands.specs.Hands.{bytes_at, reference_at};
+ghost use Rattle.hands.specs.Ops.{IsAfter, answer_in};
+ghost use Rattle.hands.specs.Controls.{Goes, left_after, bare};
+ghost use Rattle.hands.specs.declared.hand.Hand.{Hand as HandState};
+ghost use Rattle.hands.specs.declared.hand.Place.TheVariants.{First};
+ghost use Rattle.hands.specs.declared.hand.Seat.{Seat as SeatState};
+ghost use Rattle.hand_controls.specs.Making.{new_left, new_value, new_asked, new_seat, beside_new, claimed_of, HasFree, HasInodes, NewEnds, NewReady};
+
+use crate::fetch::Fetch;
+use crate::place::write_dinode_at;
+use fs_layout::Super;
+use fs_layout::widths::INODES_PER_BLOCK;
+use hands::{Answer, Hand, Op, Part, Place, Routine, Seat};
+use inode_table::{Looking, as_new, free_numbers};
+
+/// What a search for a new inode came to.
+#[derive(Clone, Copy, Drop)]
+pub enum Claimed {
+    /// The inode of this number was taken, and the reference to it is in hand.
+    Inode(u32),
+    /// Each of the fifty places for inodes in memory is referred to.
+    NoPlace,
+    /// Each inode was in use, or referred to, when its block was looked at.
+    NoInode,
+}
+
+/// Takes the first inode whose type is 0 and to which no reference stands, by rising number, and records it with its type. The
+/// reference to it is at a seat then.
+#[derive(Clone, Copy, Drop)]
+pub enum NewInode {
+    /// An inode block is fetched.
+    Fetching(Seat, Looking, Fetch),
+    /// It is there, and the numbers of its free inodes are in hand.
+    Look(Seat, Looking),
+    /// One of them was claimed, of this number.
+    Record(Seat, Looking, u32),
+    /// None could be claimed, since each place in memory is referred to.
+    GiveBack(Seat, Looking),
+}
+
+impl NewInode {
+    /// An inode of this type, not 0, on a disk with this superblock, whose inodes are at least one.
+    #[tactic(auto, unfolding(inode_table::specs::NewInodes::new_from))]
+    pub fn new(kind: i16, sizes: &Super, seat: Seat) -> NewInode
+        requires some { 0 < sizes.now.ninodes }
+        requires blocks { sizes.now.inodestart + inode_blocks sizes.now.ninodes < 2 ^ 32 }
+        ensures program { (h : HandState) → new_left result h ≡ new_inode kind sizes.now }
+        ensures ready { (h : HandState) → h.first ≡ None → h.second ≡ None → reference_at seat h ≡ None → IsSome h.txn → NewReady result h }
+        ensures seat { new_seat result ≡ seat }
+    {
+        let blocks = (sizes.ninodes - 1) / INODES_PER_BLOCK as u32 + 1;
+        let looking = Looking {
+            kind,
+            sizes: *sizes,
+            before: 0,
+            left: blocks - 1,
+        };
+        look_at(seat, looking)
+    }
+}
+
+impl Routine for NewInode {
+    type Out = Claimed;
+
+    ghost Value = { MadeState };
+
+    ghost value = { new_value };
+
+    ghost left = { new_left };
+
+    ghost asked = { new_asked };
+
+    ghost Ready = { NewReady };
+
+    ghost About = { SeatState };
+
+    ghost about = { new_seat };
+
+    ghost beside = { beside_new };
+
+    ghost Ends = { NewEnds };
+
+    fn op(&self, hand: &mut Hand) -> Op {
+        match self {
+            NewInode::Fetching(_, _, fetch) => fetch.op(hand),
+            NewInode::Look(seat, _) => Op::Claim(Place::First, *seat),
+            NewInode::Record(_, looking, number) => {
+                write_dinode_at(hand, Place::First, *number, &as_new(looking.kind));
+                Op::Record(Place::First)
+            }
+            NewInode::GiveBack(_, _) => Op::Give(Place::First),
+        }
+    }
+
+    #[tactic(auto, using(hands::proofs::Going::goes_bind, crate::proofs::Goings::fetched_goes))]
+    fn next(&mut self, answer: Answer, hand: &mut Hand) -> Option<Claimed> {
+        match self {
+            NewInode::Fetching(seat, looking, fetch) => {
+                let seat = *seat;
+                let looking = *looking;
+                match fetch.next(answer, hand) {
+                    None => None,
+                    Some(_) => {
+                        hold_free(looking, hand);
+                        *self = NewInode::Look(seat, looking);
+                        None
+                    }
+                }
+            }
+            NewInode::Look(seat, looking) => {
+                let seat = *seat;
+                let looking = *looking;
+                match answer {
+                    Answer::Number(number) => {
+                        *self = NewInode::Record(seat, looking, number);
+                        None
+                    }
+                    Answer::Is(_) => {
+                        *self = NewInode::GiveBack(seat, looking);
+                        None
+                    }
+                    Answer::Nothing => {
+                        if looking.left == 0 {
+                            return Some(none_left(looking));
+                        }
+                        *self = look_at(seat, after(looking));
+                        None
+                    }
+                    _ => unreachable!(),
+                }
+            }
+            NewInode::Record(_, _, number) => Some(Claimed::Inode(*number)),
+            NewInode::GiveBack(_, _) => Some(Claimed::NoPlace),
+        }
+    }
+}
+
+// The next block is fetched.
+#[tactic(auto, unfolding(inode_table::specs::NewInodes::new_from))]
+fn look_at(seat: Seat, looking: Looking) -> NewInode
+    requires { IsLooking looking }
+    ensures program { (h : HandState) → new_left result h ≡ new_from (looking.left + 1) looking.kind looking.sizes looking.before }
+    ensures ready { (h : HandState) → h.first ≡ None → h.second ≡ None → reference_at seat h ≡ None → IsSome h.txn → NewReady result h }
+    ensures seat { new_seat result ≡ seat }
+{
+    let block = looking.sizes.inodestart + looking.before;
+    NewInode::Fetching(seat, looking, Fetch::Get(Place::First, block))
+}
+
+// The same for the next block.
+fn after(looking: Looking) -> Looking
+    requires some { 0 < looking.left }
+    requires fits { IsLooking looking }
+    ensures { result ≡ record looking { before = looking.before + 1; left = looking.left - 1 } }
+{
+    Looking {
+        kind: looking.kind,
+        sizes: looking.sizes,
+        before: looking.before + 1,
+        left: looking.left - 1,
+    }
+}
+
+// What a search came to that has no block left.
+#[tactic(auto, unfolding(inode_table::specs::NewInodes::new_from))]
+fn none_left(looking: Looking) -> Claimed
+    requires { looking.left ≡ 0 }
+    ensures program { (h : HandState) → rest_of looking ≡ Ret (new_value result h) }
+    ensures none { claimed_of result ≡ None }
+{
+    Claimed::NoInode
+}
+
+// The numbers of the free inodes of the block at the first place are in hand from now on.
+fn hold_free(looking: Looking, hand: &mut Hand)
+    requires { HasInodes hand.old }
+    ensures free { HasFree looking hand.new }
+    ensures hand { hand.new ≡ record hand.old { numbers = hand.new.numbers; count = hand.new.count } }
+{
+    let (numbers, count) = match &hand.first {
+        Some(guard) => free_numbers(guard.value().bytes(), looking.sizes.ninodes, looking.before),
+        None => unreachable!(),
+    };
+    hand.numbers = numbers;
+    hand.count = count as u8;
+}

@@ -1,0 +1,116 @@
+//! A block taken.
+ghost use Rattle.std.specs.Prelude.{◌≡◌, ◌≤◌, ℕ, Option, None, IsSome, IfSome, IfNone};
+ghost use Rattle.fs_layout.specs.Widths.{bits_per_block};
+ghost use Rattle.bitmap_alloc.specs.Programs.{take_block};
+ghost use Rattle.hands.specs.Hands.{buffer_at, with_buffer};
+ghost use Rattle.hands.specs.Ops.{IsAfter, answer_in};
+ghost use Rattle.hands.specs.Controls.{Goes, left_after, bare};
+ghost use Rattle.hands.specs.declared.hand.Hand.{Hand as HandState};
+ghost use Rattle.hand_controls.specs.Taking.{take_left, take_asked, take_place, TakeReady};
+
+use crate::fetch::Fetch;
+use crate::place::{clear_at, set_at, zero_at};
+use hands::{Answer, Hand, Op, Part, Place};
+
+/// Takes a free block and fills it with zeros. None where no block is free.
+#[derive(Clone, Copy, Drop)]
+pub enum TakeBlock {
+    /// The bitmap is fetched, of a disk of this size.
+    Bitmap(u32, Fetch),
+    /// It goes back with this bit set, or as it was.
+    Mark(Option<u32>, Place),
+    /// The block of this number is fetched.
+    Block(u32, Fetch),
+    /// It goes back with zeros.
+    Zero(u32, Place),
+}
+
+impl TakeBlock {
+    /// By the bitmap at this block, of a disk of this size.
+    pub fn new(at: u32, size: u32, place: Place) -> TakeBlock
+        requires { size ≤ bits_per_block }
+        ensures program { (h : HandState) → take_left result h ≡ take_block at size }
+        ensures ready { (h : HandState) → buffer_at place h ≡ None → IsSome h.txn → TakeReady result h }
+        ensures place { take_place result ≡ place }
+    {
+        TakeBlock::Bitmap(size, Fetch::Get(place, at))
+    }
+}
+
+impl Part for TakeBlock {
+    type Out = Option<u32>;
+
+    ghost Value = { Option ℕ };
+
+    ghost value = { λ number _. number };
+
+    ghost left = { take_left };
+
+    ghost asked = { take_asked };
+
+    ghost Ready = { TakeReady };
+
+    ghost place = { take_place };
+
+    ghost About = { Unit {0} };
+
+    ghost about = { λ _. tt };
+
+    ghost Ends = { λ m _ h. buffer_at (take_place m) h ≡ None };
+
+    fn op(&self, hand: &mut Hand) -> Op {
+        match self {
+            TakeBlock::Bitmap(_, fetch) => fetch.op(hand),
+            TakeBlock::Mark(found, place) => match found {
+                None => Op::Give(*place),
+                Some(b) => {
+                    set_at(hand, *place, *b as usize);
+                    Op::Record(*place)
+                }
+            },
+            TakeBlock::Block(_, fetch) => fetch.op(hand),
+            TakeBlock::Zero(_, place) => {
+                zero_at(hand, *place);
+                Op::Record(*place)
+            }
+        }
+    }
+
+    #[tactic(auto, using(hands::proofs::Going::goes_bind, crate::proofs::Goings::fetched_goes))]
+    fn next(&mut self, answer: Answer, hand: &Hand) -> Option<Option<u32>> {
+        match self {
+            TakeBlock::Bitmap(size, fetch) => {
+                let size = *size;
+                match fetch.next(answer, hand) {
+                    None => None,
+                    Some(fetched) => {
+                        let found = match clear_at(hand, fetched.place, size as usize) {
+                            None => None,
+                            Some(b) => Some(b as u32),
+                        };
+                        *self = TakeBlock::Mark(found, fetched.place);
+                        None
+                    }
+                }
+            }
+            TakeBlock::Mark(found, place) => match *found {
+                None => Some(None),
+                Some(b) => {
+                    *self = TakeBlock::Block(b, Fetch::Get(*place, b));
+                    None
+                }
+            },
+            TakeBlock::Block(b, fetch) => {
+                let b = *b;
+                match fetch.next(answer, hand) {
+                    None => None,
+                    Some(fetched) => {
+                        *self = TakeBlock::Zero(b, fetched.place);
+                        None
+                    }
+                }
+            }
+            TakeBlock::Zero(b, _) => Some(Some(*b)),
+        }
+    }
+}

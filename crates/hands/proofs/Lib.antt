@@ -1,0 +1,4 @@
+pub mod Fits
+pub mod Performing
+pub mod Stepping
+pub mod Going

@@ -1,0 +1,4 @@
+pub mod Hands
+pub mod Ops
+pub mod Performs
+pub mod Controls

@@ -1,0 +1,244 @@
+// What a hart has in hand between two operations.
+ghost use Rattle.std.specs.Prelude.{◌≡◌, Some, None, IsSome, is_some};
+ghost use Rattle.std.specs.Option.{option_map, option_map_or};
+ghost use Rattle.hands.specs.Ops.{content_at};
+ghost use Rattle.hands.specs.Hands.{buffer_at, with_buffer, inode_at, with_inode, reference_at, with_reference, with_txn, inode_in, no_inode, recorded, with_record};
+
+use atomic_programs::machines::put;
+use buffer_cache::Buffer;
+use fs_layout::Dinode;
+use fs_machine::RetiredCore;
+use fs_tables::{Inode, Reference};
+use group_log::Txn;
+use sleep_lock::Guard;
+use std::mem;
+
+/// A place for a buffer.
+#[derive(Clone, Copy)]
+pub enum Place {
+    First,
+    Second,
+}
+
+/// A place for an inode: a reference to it, and its lock.
+#[derive(Clone, Copy)]
+pub enum Seat {
+    One,
+    Two,
+}
+
+/// All that a hart has in hand between two operations.
+pub struct Hand {
+    pub txn: Option<Txn>,
+    pub first: Option<Guard<Buffer>>,
+    pub second: Option<Guard<Buffer>>,
+    pub one: Option<Guard<Inode>>,
+    pub two: Option<Guard<Inode>>,
+    pub to_one: Option<Reference>,
+    pub to_two: Option<Reference>,
+    /// The numbers of inodes of which one is to be claimed, and how many these are.
+    pub numbers: [u32; 16],
+    pub count: u8,
+}
+
+impl Hand {
+    /// A transaction, where there is none.
+    pub(crate) fn hold_txn(&mut self, txn: Txn)
+        requires { self.old.txn ≡ None }
+        ensures { self.new ≡ with_txn (Some txn) self.old }
+    {
+        put(&mut self.txn, txn);
+    }
+
+    /// The buffer at a place, which is empty then.
+    pub(crate) fn take_buffer(&mut self, place: Place) -> Option<Guard<Buffer>>
+        ensures is { result ≡ buffer_at place self.old }
+        ensures left { self.new ≡ with_buffer place None self.old }
+    {
+        match place {
+            Place::First => mem::replace(&mut self.first, None),
+            Place::Second => mem::replace(&mut self.second, None),
+        }
+    }
+
+    /// A buffer for a place that is empty.
+    pub(crate) fn hold_buffer(&mut self, place: Place, guard: Guard<Buffer>)
+        requires { buffer_at place self.old ≡ None }
+        ensures { self.new ≡ with_buffer place (Some guard) self.old }
+    {
+        match place {
+            Place::First => put(&mut self.first, guard),
+            Place::Second => put(&mut self.second, guard),
+        }
+    }
+
+    /// Whether the buffer at a place is valid.
+    pub fn is_valid(&self, place: Place) -> bool
+        ensures { result ≡ is_some (content_at place self.now) }
+    {
+        match place {
+            Place::First => is_valid(&self.first),
+            Place::Second => is_valid(&self.second),
+        }
+    }
+
+    /// The lock at a seat, which is empty then.
+    pub(crate) fn take_inode(&mut self, seat: Seat) -> Option<Guard<Inode>>
+        ensures is { result ≡ inode_at seat self.old }
+        ensures left { self.new ≡ with_inode seat None self.old }
+    {
+        match seat {
+            Seat::One => mem::replace(&mut self.one, None),
+            Seat::Two => mem::replace(&mut self.two, None),
+        }
+    }
+
+    /// A lock for a seat that is empty.
+    pub(crate) fn hold_inode(&mut self, seat: Seat, guard: Guard<Inode>)
+        requires { inode_at seat self.old ≡ None }
+        ensures { self.new ≡ with_inode seat (Some guard) self.old }
+    {
+        match seat {
+            Seat::One => put(&mut self.one, guard),
+            Seat::Two => put(&mut self.two, guard),
+        }
+    }
+
+    /// The reference at a seat, which is empty then.
+    pub(crate) fn take_reference(&mut self, seat: Seat) -> Option<Reference>
+        ensures is { result ≡ reference_at seat self.old }
+        ensures left { self.new ≡ with_reference seat None self.old }
+    {
+        match seat {
+            Seat::One => mem::replace(&mut self.to_one, None),
+            Seat::Two => mem::replace(&mut self.to_two, None),
+        }
+    }
+
+    /// A reference, or none, for a seat that is empty.
+    pub(crate) fn hold_reference(&mut self, seat: Seat, reference: Reference)
+        requires { reference_at seat self.old ≡ None }
+        ensures { self.new ≡ with_reference seat (Some reference) self.old }
+    {
+        match seat {
+            Seat::One => put(&mut self.to_one, reference),
+            Seat::Two => put(&mut self.to_two, reference),
+        }
+    }
+
+    /// Whether the inode at a seat is loaded.
+    pub fn is_loaded(&self, seat: Seat) -> bool
+        ensures { result ≡ is_some (inode_in seat self.now).content }
+    {
+        match seat {
+            Seat::One => is_loaded(&self.one),
+            Seat::Two => is_loaded(&self.two),
+        }
+    }
+
+    /// The number of the inode at a seat.
+    pub fn number(&self, seat: Seat) -> u32
+        requires { IsSome (inode_at seat self.now) }
+        ensures { result ≡ (inode_in seat self.now).number }
+    {
+        match seat {
+            Seat::One => number_of(&self.one),
+            Seat::Two => number_of(&self.two),
+        }
+    }
+
+    /// The inode at a seat stands so.
+    pub fn set_record(&mut self, seat: Seat, inode: Dinode)
+        requires { IsSome (inode_at seat self.old) }
+        ensures { self.new ≡ with_record seat inode self.old }
+    {
+        match seat {
+            Seat::One => set_record(&mut self.one, inode),
+            Seat::Two => set_record(&mut self.two, inode),
+        }
+    }
+
+    /// Ends it in mid-call, after all that harts share has ended.
+    pub fn retire(self, retired: &RetiredCore) {
+        let Hand {
+            txn,
+            first,
+            second,
+            one,
+            two,
+            to_one,
+            to_two,
+            numbers: _,
+            count: _,
+        } = self;
+        match txn {
+            Some(txn) => txn.retire(&retired.log),
+            None => {}
+        }
+        retire_buffer(first, retired);
+        retire_buffer(second, retired);
+        retire_inode(one, retired);
+        retire_inode(two, retired);
+        retire_reference(to_one, retired);
+        retire_reference(to_two, retired);
+    }
+}
+
+fn is_valid(place: &Option<Guard<Buffer>>) -> bool
+    ensures { result ≡ is_some (option_map_or (λ g. g.value.content) place.now None) }
+{
+    match place {
+        Some(guard) => guard.value().is_valid(),
+        None => false,
+    }
+}
+
+fn is_loaded(place: &Option<Guard<Inode>>) -> bool
+    ensures { result ≡ is_some (option_map_or (λ g. g.value) place.now no_inode).content }
+{
+    match place {
+        Some(guard) => guard.value().content.is_some(),
+        None => false,
+    }
+}
+
+fn number_of(place: &Option<Guard<Inode>>) -> u32
+    requires { IsSome place.now }
+    ensures { result ≡ (option_map_or (λ g. g.value) place.now no_inode).number }
+{
+    match place {
+        Some(guard) => guard.value().number,
+        None => unreachable!(),
+    }
+}
+
+fn set_record(place: &mut Option<Guard<Inode>>, inode: Dinode)
+    requires { IsSome place.old }
+    ensures { place.new ≡ option_map (recorded inode) place.old }
+{
+    match place {
+        Some(guard) => guard.value_mut().content = Some(inode),
+        None => unreachable!(),
+    }
+}
+
+fn retire_buffer(place: Option<Guard<Buffer>>, retired: &RetiredCore) {
+    match place {
+        Some(guard) => guard.retire_in_row(&retired.buffers),
+        None => {}
+    }
+}
+
+fn retire_inode(place: Option<Guard<Inode>>, retired: &RetiredCore) {
+    match place {
+        Some(guard) => guard.retire_in_row(&retired.inodes),
+        None => {}
+    }
+}
+
+fn retire_reference(place: Option<Reference>, retired: &RetiredCore) {
+    match place {
+        Some(reference) => reference.retire(&retired.inodes),
+        None => {}
+    }
+}

@@ -1,0 +1,14 @@
+//! What a hart has in hand between two operations, and controls that say which operation is next.
+//!
+//! `Hand` has all that a hart holds; `Hand::perform` makes one operation. A `Control` has none of it: it says which operation is next,
+//! and how it goes on after the answer. `step` is proved once for every control.
+#![tactic(auto)]
+
+mod control;
+mod hand;
+mod op;
+mod perform;
+
+pub use control::{Control, Machine, Part, Routine};
+pub use hand::{Hand, Place, Seat};
+pub use op::{Answer, Did, Op};

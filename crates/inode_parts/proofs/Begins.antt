@@ -1,0 +1,174 @@
+-- What an operation on whole inodes is below, where it is one operation.
+use Rattle.std.proofs.Common.{◌≡◌, ℕ, zero, suc, List, Bool, true, false, Option, Some, None, refl, sym, ap, ◌∙◌, subst}
+use Rattle.std.specs.Prelude.{if◌then◌else◌, is_some, IsSome}
+use Rattle.std.specs.Option.{MatchOption, option_map_or, unwrap_or}
+use Rattle.plain_tree.specs.Tree.{put}
+use Rattle.tree_laws.proofs.Maps.{eq_is}
+use Rattle.atomic_programs.specs.Prog.{Prog, Ret, Do, bind, plain, unmarked}
+use Rattle.sleep_lock.specs.SleepLock.{GuardState}
+use Rattle.fs_layout.specs.declared.inode.Dinode.{Dinode}
+use Rattle.fs_layout.specs.declared.superblock.Super.{Super}
+use Rattle.fs_tables.specs.declared.inodes.Inode.{Inode}
+use Rattle.fs_tables.specs.declared.slots.Given.{Given}
+use Rattle.fs_tables.specs.declared.slots.Given.TheVariants as given
+use Rattle.group_log.specs.declared.log.Left.{Left}
+use Rattle.group_log.specs.declared.log.Left.TheVariants.{Free, Commits}
+use Rattle.atomic_programs.specs.Joined.{holding}
+use Rattle.fs_machine.specs.Steps as steps
+use Rattle.fs_machine.specs.Machines.{P}
+use Rattle.fs_machine.specs.Programs.{after_leave, commit_unless, commits, most_writes}
+use Rattle.hands.specs.declared.hand.Hand.{Hand}
+use Rattle.hands.specs.declared.hand.Seat.{Seat}
+use Rattle.hands.specs.declared.hand.Seat.TheVariants.{One, Two}
+use Rattle.hands.specs.Hands.{inode_at, inode_in, no_inode, number_at, reference_at}
+use Rattle.inode_machine.specs.World as above
+use Rattle.inodes_on_tables.specs.Shown.{new_file}
+use Rattle.inodes_on_blocks.specs.Handlers.{Acts, joining_to, lent_to, with_dying, is_listed, is_dying}
+use Rattle.inodes_on_blocks.specs.Lowering.{Carry, Had, Apart, record_had}
+use Rattle.whole_calls.specs.Asks.{joined_in, loan_in}
+use Rattle.whole_calls.specs.declared.asks.Heard.TheVariants as heard
+use Rattle.inode_parts.specs.Carries.{carry_in, had_at, had_of}
+use Rattle.inode_parts.specs.Parts.{IsPart, one}
+use Rattle.inode_parts.specs.OneSteps.{Begins, HasReference, IsAlone, joining_heard, loan_heard, locks, seat_of_lock, seat_of_reference, still}
+use Rattle.inode_parts.specs.InodeParts.{ends_with, part_for, part_left, PartReady}
+use Rattle.inode_parts.specs.declared.note.Note.{Note}
+use Rattle.inode_parts.specs.declared.note.Note.TheVariants as note
+use Rattle.inode_parts.specs.declared.note.Notes.{Notes}
+
+joins_so : (a : steps.JoinResult) → joining_to a ≡ joined_in (joining_heard a)
+joins_so (steps.RefusesJoin why) = refl
+joins_so (steps.Joins n) = refl
+
+lends_so : (a : Given) → lent_to a ≡ loan_in (loan_heard a)
+lends_so (given.Descriptor fd more) = refl
+lends_so (given.Directory n) = refl
+
+-- ---- the record that a lock goes back with
+
+record_of_had : (path : List ℕ) (l : Note) (o : Option Dinode) → record_had (had_of path l o) ≡ o
+record_of_had path note.Nothing None = refl
+record_of_had path note.Nothing (Some d) = refl
+record_of_had path (note.Finds e s) None = refl
+record_of_had path (note.Finds e s) (Some d) = refl
+record_of_had path (note.Opened fd offset) None = refl
+record_of_had path (note.Opened fd offset) (Some d) = refl
+record_of_had path note.Freed None = refl
+record_of_had path note.Freed (Some d) = refl
+
+-- this seat has the lock
+here : (path : List ℕ) (l : Note) (n : ℕ) (o : Option (GuardState Inode)) (x : Had) → locks n o ≡ true
+    → let v : Inode = record { number = n; content = record_had (had_at path l o n x) } in v ≡ option_map_or (λ (g : GuardState Inode). g.value) o no_inode
+here path l n None x e = absurd (cc e)
+here path l n (Some g) x e =
+    λ i. record { number = eq_is n g.value.number e i; content = (ap (λ (b : Bool). record_had (if b then had_of path l g.value.content else x)) e ∙ record_of_had path l g.value.content) i }
+
+-- it has another one, or none
+elsewhere : (path : List ℕ) (l : Note) (n : ℕ) (o : Option (GuardState Inode)) (x : Had) → locks n o ≡ false → had_at path l o n x ≡ x
+elsewhere path l n None x e = refl
+elsewhere path l n (Some g) x e = ap (λ (b : Bool). if b then had_of path l g.value.content else x) e
+
+lock_is : (path : List ℕ) (m : Notes) (n : ℕ) (h : Hand) → locks n (inode_at (seat_of_lock n h) h) ≡ true
+    → let v : Inode = record { number = n; content = record_had (carry_in path m h n) } in v ≡ inode_in (seat_of_lock n h) h
+lock_is path m n h e = at (locks n h.one) refl e
+  where
+    at : (b : Bool) → locks n h.one ≡ b → let k : Seat = if b then One else Two in locks n (inode_at k h) ≡ true
+        → let v : Inode = record { number = n; content = record_had (carry_in path m h n) } in v ≡ inode_in k h
+    at true is e = here path m.one n h.one (had_at path m.two h.two n Apart) e
+    at false is e = ap (λ (x : Had). let v : Inode = record { number = n; content = record_had x } in v) (elsewhere path m.one n h.one (had_at path m.two h.two n Apart) is) ∙ here path m.two n h.two Apart e
+
+reference_is : (n : ℕ) (h : Hand) → HasReference n h → number_at (seat_of_reference n h) h ≡ n
+reference_is n h has = ap (λ (o : Option ℕ). unwrap_or o 0) has
+
+-- a transaction is left
+module _ (path : List ℕ) (m : Notes) (h : Hand) where
+  abbrev Same : {M : Type 0} → Prog steps.Op steps.Answer M (Unit {0}) → P (Unit {0}) → Type 0
+  Same p q = plain (holding (carry_in path m h) p) ≡ bind (bind q (ends_with path m h)) (λ r. Ret (record { answer = tt; carry = r.carry }))
+
+  commits_unless : (n : ℕ) → Same {M = Acts} (commits n) (commits n) → (done : Bool) → Same {M = Acts} (commit_unless (commits n) done) (commit_unless (commits n) done)
+  commits_unless n e true = refl
+  commits_unless n e false = e
+
+  commits_so : (n : ℕ) → Same {M = Acts} (commits n) (commits n)
+  commits_so zero = refl
+  commits_so (suc n) = λ i. Do steps.Commit unmarked (λ done. commits_unless n (commits_so n) done i)
+
+  leaves_so : (left : Left) → Same {M = Acts} (after_leave left) (after_leave left)
+  leaves_so Free = refl
+  leaves_so Commits = commits_so most_writes
+
+module _ (sizes : Super) (path : List ℕ) (m : Notes) (h : Hand) where
+  pub is_part : (op : above.Op) → Begins op h → IsPart sizes (carry_in path m h) op (part_left path m (part_for op h) h)
+  is_part (above.Give n) has =
+      let c : Carry = carry_in path m h in
+      subst (λ (v : Inode). IsPart sizes c (above.Give n) (one (steps.Unlock v None) (λ a. heard.Did) (λ a. put c v.number Apart))) (lock_is path m n h has.0) (λ mark. refl)
+  is_part (above.Settle n) has =
+      let c : Carry = carry_in path m h in
+      subst (λ (v : Inode). IsPart sizes c (above.Settle n) (one (steps.Settle v) heard.Old (λ a. put c v.number Apart))) (lock_is path m n h has.0.0) (λ mark. refl)
+  is_part (above.UpStart true) has = λ mark. refl
+  is_part (above.UpStart false) has = λ mark. refl
+  is_part (above.Up n) has = λ mark. refl
+  is_part (above.WalkDown n) has =
+      let c : Carry = carry_in path m h in
+      subst (λ (k : ℕ). IsPart sizes c (above.WalkDown n) (one (steps.Down (steps.Walked k)) (λ a. heard.Is (is_listed a)) (λ a. c))) (sym (reference_is n h has)) (λ mark. refl)
+  is_part (above.Down n) has =
+      let c : Carry = carry_in path m h in
+      subst (λ (k : ℕ). IsPart sizes c (above.Down n) (one (steps.Down (steps.Held k)) (λ a. heard.Is (is_dying a)) (with_dying k c))) (sym (reference_is n h has.0)) (λ mark. refl)
+  is_part (above.Forget n) has =
+      let c : Carry = carry_in path m h in
+      subst (λ (k : ℕ). IsPart sizes c (above.Forget n) (one (steps.Down (steps.Freed k)) (λ a. heard.Did) (λ a. c))) (sym (reference_is n h has)) (λ mark. refl)
+  is_part (above.Slot) has = λ mark. refl
+  is_part (above.Install f sort) has =
+      let c : Carry = carry_in path m h in
+      subst (λ (k : ℕ). IsPart sizes c (above.Install f sort) (still (steps.TakeDescriptor k (new_file f sort)) heard.Start c)) (sym (reference_is f.number h has)) (λ mark. refl)
+  is_part (above.CheckFile fd) has = λ mark. refl
+  is_part (above.JoinFile fd) has = λ mark i. Do (steps.JoinToWrite fd) unmarked (λ a. Ret (record { answer = joins_so a i; carry = carry_in path m h }))
+  is_part (above.Double fd) has = λ mark. refl
+  is_part (above.Shut fd) has = λ mark. refl
+  is_part (above.Lend child from) has = λ mark i. Do (steps.Give child from) unmarked (λ a. Ret (record { answer = lends_so a i; carry = carry_in path m h }))
+  is_part (above.LendDirectory child) has = λ mark. refl
+  is_part (above.Release child) has = λ mark. refl
+  is_part above.Join has = λ mark. refl
+  is_part above.Say has = λ mark. refl
+  is_part above.Leave has = λ mark i. Do steps.Leave unmarked (λ left. leaves_so path m h left i)
+  is_part op has = absurd has
+
+-- ---- it is ready
+
+locked_there : (n : ℕ) (o : Option (GuardState Inode)) → locks n o ≡ true → IsSome o × (n ≡ (option_map_or (λ (g : GuardState Inode). g.value) o no_inode).number)
+locked_there n None e = absurd (cc e)
+locked_there n (Some g) e = (refl, eq_is n g.value.number e)
+
+gives_ready : (n : ℕ) (k : Seat) (h : Hand) → locks n (inode_at k h) ≡ true → IsAlone n k h → IsSome (inode_at k h) × IsAlone (inode_in k h).number k h
+gives_ready n k h e alone = ((locked_there n (inode_at k h) e).0, subst (λ (n : ℕ). IsAlone n k h) (locked_there n (inode_at k h) e).1 alone)
+
+some_reference : (n : ℕ) (k : Seat) (h : Hand) → reference_at k h ≡ Some n → IsSome (reference_at k h)
+some_reference n k h e = ap (λ (o : Option ℕ). is_some o) e
+
+settles_there : (n : ℕ) (o : Option (GuardState Inode)) (r : Option ℕ) → locks n o ≡ true → r ≡ Some n → MatchOption o ⊥ (λ g. r ≡ Some g.value.number)
+settles_there n None r e is = absurd (cc e)
+settles_there n (Some g) r e is = is ∙ ap (λ (n : ℕ). Some n) (eq_is n g.value.number e)
+
+pub is_ready : (op : above.Op) (h : Hand) → Begins op h → PartReady (part_for op h) h
+is_ready (above.Give n) h has = gives_ready n (seat_of_lock n h) h has.0 has.1
+is_ready (above.Settle n) h has =
+    (settles_there n (inode_at (seat_of_lock n h) h) (reference_at (seat_of_lock n h) h) has.0.0 has.1, (gives_ready n (seat_of_lock n h) h has.0.0 has.0.1).1)
+is_ready (above.UpStart true) h has = has
+is_ready (above.UpStart false) h has = has
+is_ready (above.Up n) h has = has
+is_ready (above.WalkDown n) h has = some_reference n (seat_of_reference n h) h has
+is_ready (above.Down n) h has =
+    (some_reference n (seat_of_reference n h) h has.0, has.1, subst (λ (k : ℕ). IsAlone k (seat_of_reference n h) h) (sym (reference_is n h has.0)) has.2)
+is_ready (above.Forget n) h has = some_reference n (seat_of_reference n h) h has
+is_ready above.Slot h has = tt
+is_ready (above.Install f sort) h has = some_reference f.number (seat_of_reference f.number h) h has
+is_ready (above.CheckFile fd) h has = tt
+is_ready (above.JoinFile fd) h has = has
+is_ready (above.Double fd) h has = tt
+is_ready (above.Shut fd) h has = has
+is_ready (above.Lend child from) h has = has
+is_ready (above.LendDirectory child) h has = has
+is_ready (above.Release child) h has = tt
+is_ready above.Join h has = has
+is_ready above.Leave h has = has
+is_ready above.Say h has = tt
+is_ready op h has = absurd has

@@ -1,0 +1,40 @@
+-- What a hart has in hand between two operations, as the theory of whole inodes knows it.
+use Rattle.std.specs.Prelude.{ℕ, List, Option, Some, None, ◌==◌, if◌then◌else◌}
+use Rattle.sleep_lock.specs.SleepLock.{GuardState}
+use Rattle.fs_layout.specs.declared.inode.Dinode.{Dinode}
+use Rattle.fs_tables.specs.declared.inodes.Inode.{Inode}
+use Rattle.hands.specs.declared.hand.Hand.{Hand}
+use Rattle.inodes_on_blocks.specs.Lowering.{NothingMore, Finds, Opened, Had, Apart, Has, Emptied, Carry}
+use Rattle.whole_calls.specs.Elements.{name_in}
+use Rattle.whole_calls.specs.declared.asks.Heard.{Heard}
+use Rattle.atomic_programs.specs.Joined.{Handover}
+use Rattle.hands.specs.declared.hand.Seat.{Seat}
+use Rattle.hands.specs.declared.hand.Seat.TheVariants.{One, Two}
+use Rattle.inode_parts.specs.declared.note.Note.{Note}
+use Rattle.inode_parts.specs.declared.note.Note.TheVariants as note
+use Rattle.inode_parts.specs.declared.note.Notes.{Notes}
+
+-- what it has of a locked inode: names stand in the call's path
+abbrev pub had_of : List ℕ → Note → Option Dinode → Had
+had_of path note.Nothing (Some d) = Has d NothingMore
+had_of path (note.Finds e s) (Some d) = Has d (Finds (name_in path e) s)
+had_of path (note.Opened fd offset) (Some d) = Has d (Opened fd offset)
+had_of path note.Freed (Some d) = Has d NothingMore
+had_of path note.Freed None = Emptied
+had_of path m None = Apart
+
+-- of inode i: what is at this seat, or else what is elsewhere
+abbrev pub had_at : List ℕ → Note → Option (GuardState Inode) → ℕ → Had → Had
+had_at path m None i other = other
+had_at path m (Some g) i other = if i == g.value.number then had_of path m g.value.content else other
+
+abbrev pub carry_in : List ℕ → Notes → Hand → Carry
+carry_in path m h i = had_at path m.one h.one i (had_at path m.two h.two i Apart)
+
+abbrev pub with_note : Seat → Note → Notes → Notes
+with_note One n m = record m { one = n }
+with_note Two n m = record m { two = n }
+
+-- how a part ends: what is heard, and what is in hand
+abbrev pub handed : List ℕ → Notes → Heard → Hand → Handover Heard Carry
+handed path m x h = record { answer = x; carry = carry_in path m h }

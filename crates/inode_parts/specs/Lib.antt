@@ -1,0 +1,5 @@
+pub mod Carries
+pub mod Parts
+pub mod OneSteps
+pub mod InodeParts
+pub mod Calls

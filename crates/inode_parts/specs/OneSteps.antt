@@ -1,0 +1,190 @@
+-- Operations on whole inodes that are one operation below.
+use Rattle.std.specs.Prelude.{◌≡◌, ℕ, List, Bool, false, Option, Some, None, IsSome, is_some, ◌==◌, if◌then◌else◌, true}
+use Rattle.std.specs.Option.{MatchOption, option_map_or}
+use Rattle.plain_tree.specs.Tree.{put}
+use Rattle.plain_tree.specs.Widths.{root, descriptor_count}
+use Rattle.sleep_lock.specs.SleepLock.{GuardState}
+use Rattle.fs_tables.specs.declared.inodes.Inode.{Inode}
+use Rattle.fs_tables.specs.declared.files.Want.TheVariants as want
+use Rattle.fs_tables.specs.declared.slots.Given.{Given}
+use Rattle.fs_tables.specs.declared.slots.Given.TheVariants as given
+use Rattle.fs_machine.specs.Steps as steps
+use Rattle.hands.specs.declared.hand.Hand.{Hand}
+use Rattle.hands.specs.declared.hand.Seat.{Seat}
+use Rattle.hands.specs.declared.hand.Seat.TheVariants.{One, Two}
+use Rattle.hands.specs.declared.op.Op.{Op}
+use Rattle.hands.specs.declared.op.Op.TheVariants as ops
+use Rattle.hands.specs.Hands.{inode_at, inode_in, number_at, reference_at}
+use Rattle.inode_machine.specs.World as above
+use Rattle.inodes_on_tables.specs.Shown.{new_file}
+use Rattle.inodes_on_blocks.specs.Handlers.{cause_of, cause_if, doubled_to, shut_to, is_listed, is_dying, old_directory, with_dying}
+use Rattle.inodes_on_blocks.specs.Lowering.{Apart, Carry}
+use Rattle.whole_calls.specs.declared.asks.Heard.{Heard}
+use Rattle.whole_calls.specs.declared.asks.Heard.TheVariants as heard
+use Rattle.whole_calls.specs.declared.asks.Joined.TheVariants as joined
+use Rattle.whole_calls.specs.declared.asks.Loan.TheVariants as loan
+use Rattle.inode_parts.specs.Carries.{carry_in}
+use Rattle.inode_parts.specs.Parts.{Part, one}
+use Rattle.inode_parts.specs.declared.note.Notes.{Notes}
+use Rattle.inode_parts.specs.declared.one_step.OneStep.{OneStep}
+use Rattle.inode_parts.specs.declared.one_step.OneStep.TheVariants as step
+
+-- what is heard
+abbrev pub joining_heard : steps.JoinResult → Heard
+joining_heard (steps.RefusesJoin why) = heard.Joined (joined.Refused (cause_of why))
+joining_heard (steps.Joins n) = heard.Joined (joined.For n)
+
+abbrev pub loan_heard : Given → Heard
+loan_heard (given.Descriptor fd more) = heard.Loan (loan.Lent fd more)
+loan_heard (given.Directory n) = heard.Loan (loan.Moved n)
+
+-- it leaves the locks as they are
+abbrev pub still : (lop : steps.Op) → (steps.Answer lop → Heard) → Carry → Part
+still lop heard c = one lop heard (λ a. c)
+
+abbrev pub step_left : List ℕ → Notes → OneStep → Hand → Part
+step_left path m (step.Give k) h = one (steps.Unlock (inode_in k h) None) (λ a. heard.Did) (λ a. put (carry_in path m h) (inode_in k h).number Apart)
+step_left path m (step.Settle k) h = one (steps.Settle (inode_in k h)) heard.Old (λ a. put (carry_in path m h) (inode_in k h).number Apart)
+step_left path m (step.UpRoot k) h = still (steps.Up (steps.Number root)) heard.Start (carry_in path m h)
+step_left path m (step.UpDirectory k) h = still (steps.Up steps.Directory) heard.Start (carry_in path m h)
+step_left path m (step.Up k n) h = still (steps.Up (steps.Number n)) (λ a. heard.Is (is_some a)) (carry_in path m h)
+step_left path m (step.WalkDown k) h = still (steps.Down (steps.Walked (number_at k h))) (λ a. heard.Is (is_listed a)) (carry_in path m h)
+step_left path m (step.Down k) h = one (steps.Down (steps.Held (number_at k h))) (λ a. heard.Is (is_dying a)) (with_dying (number_at k h) (carry_in path m h))
+step_left path m (step.Forget k) h = still (steps.Down (steps.Freed (number_at k h))) (λ a. heard.Did) (carry_in path m h)
+step_left path m step.Slot h = still steps.TakePlace heard.Is (carry_in path m h)
+step_left path m (step.Install k file) h = still (steps.TakeDescriptor (number_at k h) file) heard.Start (carry_in path m h)
+step_left path m (step.CheckFile fd) h = still (steps.CheckFile want.Write fd) (λ a. heard.Checked (cause_if a)) (carry_in path m h)
+step_left path m (step.JoinFile fd) h = still (steps.JoinToWrite fd) joining_heard (carry_in path m h)
+step_left path m (step.Double fd) h = still (steps.Double fd) (λ a. heard.Doubled (doubled_to a)) (carry_in path m h)
+step_left path m (step.Shut k fd) h = still (steps.Close fd) (λ a. heard.Shut (shut_to a)) (carry_in path m h)
+step_left path m (step.Lend k child from) h = still (steps.Give child from) loan_heard (carry_in path m h)
+step_left path m (step.LendDirectory k child) h = still (steps.Give child descriptor_count) (λ a. heard.Old (old_directory a)) (carry_in path m h)
+step_left path m step.Release h = still steps.Reply (λ a. heard.Did) (carry_in path m h)
+step_left path m step.Join h = still steps.Join (λ a. heard.Did) (carry_in path m h)
+step_left path m step.Say h = still steps.Reply (λ a. heard.Did) (carry_in path m h)
+
+abbrev pub step_asked : OneStep → Op
+step_asked (step.Give k) = ops.Unlock k
+step_asked (step.Settle k) = ops.Settle k
+step_asked (step.UpRoot k) = ops.Up k root
+step_asked (step.UpDirectory k) = ops.UpDirectory k
+step_asked (step.Up k n) = ops.Up k n
+step_asked (step.WalkDown k) = ops.DownWalked k
+step_asked (step.Down k) = ops.Down k
+step_asked (step.Forget k) = ops.DownFreed k
+step_asked step.Slot = ops.TakePlace
+step_asked (step.Install k file) = ops.TakeDescriptor k file
+step_asked (step.CheckFile fd) = ops.CheckFile want.Write fd
+step_asked (step.JoinFile fd) = ops.JoinToWrite fd
+step_asked (step.Double fd) = ops.Double fd
+step_asked (step.Shut k fd) = ops.Close k fd
+step_asked (step.Lend k child from) = ops.GiveTo k child from
+step_asked (step.LendDirectory k child) = ops.GiveTo k child descriptor_count
+step_asked step.Release = ops.Reply
+step_asked step.Join = ops.Join
+step_asked step.Say = ops.Reply
+
+-- a lock of inode n
+abbrev pub locks : ℕ → Option (GuardState Inode) → Bool
+locks n o = option_map_or (λ (g : GuardState Inode). n == g.value.number) o false
+
+abbrev pub other : Seat → Seat
+other One = Two
+other Two = One
+
+-- the lock of this inode is not at the other seat too
+abbrev pub IsAlone : ℕ → Seat → Hand → Type 0
+IsAlone n k h = locks n (inode_at (other k) h) ≡ false
+
+abbrev pub StepReady : OneStep → Hand → Type 0
+StepReady (step.Give k) h = IsSome (inode_at k h) × IsAlone (inode_in k h).number k h
+StepReady (step.Settle k) h = MatchOption (inode_at k h) ⊥ (λ g. reference_at k h ≡ Some g.value.number) × IsAlone (inode_in k h).number k h
+StepReady (step.UpRoot k) h = reference_at k h ≡ None
+StepReady (step.UpDirectory k) h = reference_at k h ≡ None
+StepReady (step.Up k n) h = reference_at k h ≡ None
+StepReady (step.WalkDown k) h = IsSome (reference_at k h)
+StepReady (step.Down k) h = IsSome (reference_at k h) × (inode_at k h ≡ None) × IsAlone (number_at k h) k h
+StepReady (step.Forget k) h = IsSome (reference_at k h)
+StepReady step.Slot h = Unit {0}
+StepReady (step.Install k file) h = IsSome (reference_at k h)
+StepReady (step.CheckFile fd) h = Unit {0}
+StepReady (step.JoinFile fd) h = h.txn ≡ None
+StepReady (step.Double fd) h = Unit {0}
+StepReady (step.Shut k fd) h = reference_at k h ≡ None
+StepReady (step.Lend k child from) h = reference_at k h ≡ None
+StepReady (step.LendDirectory k child) h = reference_at k h ≡ None
+StepReady step.Release h = Unit {0}
+StepReady step.Join h = h.txn ≡ None
+StepReady step.Say h = Unit {0}
+
+-- ---- which one an operation on whole inodes is
+
+-- where the lock of inode n is, where a reference to it, and where no reference
+abbrev pub seat_of_lock : ℕ → Hand → Seat
+seat_of_lock n h = if locks n h.one then One else Two
+
+abbrev pub refers : ℕ → Option ℕ → Bool
+refers n o = option_map_or (λ (k : ℕ). n == k) o false
+
+abbrev pub seat_of_reference : ℕ → Hand → Seat
+seat_of_reference n h = if refers n h.to_one then One else Two
+
+abbrev pub free_seat : Hand → Seat
+free_seat h = if is_some h.to_one then Two else One
+
+abbrev pub start_for : Bool → Hand → OneStep
+start_for true h = step.UpRoot (free_seat h)
+start_for false h = step.UpDirectory (free_seat h)
+
+abbrev pub step_for : above.Op → Hand → Option OneStep
+step_for (above.Give n) h = Some (step.Give (seat_of_lock n h))
+step_for (above.Settle n) h = Some (step.Settle (seat_of_lock n h))
+step_for (above.UpStart absolute) h = Some (start_for absolute h)
+step_for (above.Up n) h = Some (step.Up (free_seat h) n)
+step_for (above.WalkDown n) h = Some (step.WalkDown (seat_of_reference n h))
+step_for (above.Down n) h = Some (step.Down (seat_of_reference n h))
+step_for (above.Forget n) h = Some (step.Forget (seat_of_reference n h))
+step_for above.Slot h = Some step.Slot
+step_for (above.Install f sort) h = Some (step.Install (seat_of_reference f.number h) (new_file f sort))
+step_for (above.CheckFile fd) h = Some (step.CheckFile fd)
+step_for (above.JoinFile fd) h = Some (step.JoinFile fd)
+step_for (above.Double fd) h = Some (step.Double fd)
+step_for (above.Shut fd) h = Some (step.Shut (free_seat h) fd)
+step_for (above.Lend child from) h = Some (step.Lend (free_seat h) child from)
+step_for (above.LendDirectory child) h = Some (step.LendDirectory (free_seat h) child)
+step_for (above.Release child) h = Some step.Release
+step_for above.Join h = Some step.Join
+step_for above.Say h = Some step.Say
+step_for op h = None
+
+-- what it asks of the hand
+abbrev pub HasReference : ℕ → Hand → Type 0
+HasReference n h = reference_at (seat_of_reference n h) h ≡ Some n
+
+abbrev pub HasLock : ℕ → Hand → Type 0
+HasLock n h = (locks n (inode_at (seat_of_lock n h) h) ≡ true) × IsAlone n (seat_of_lock n h) h
+
+abbrev pub HasFreeSeat : Hand → Type 0
+HasFreeSeat h = reference_at (free_seat h) h ≡ None
+
+abbrev pub Begins : above.Op → Hand → Type 0
+Begins (above.Give n) h = HasLock n h
+Begins (above.Settle n) h = HasLock n h × (reference_at (seat_of_lock n h) h ≡ Some n)
+Begins (above.UpStart absolute) h = HasFreeSeat h
+Begins (above.Up n) h = HasFreeSeat h
+Begins (above.WalkDown n) h = HasReference n h
+Begins (above.Down n) h = HasReference n h × (inode_at (seat_of_reference n h) h ≡ None) × IsAlone n (seat_of_reference n h) h
+Begins (above.Forget n) h = HasReference n h
+Begins above.Slot h = Unit {0}
+Begins (above.Install f sort) h = HasReference f.number h
+Begins (above.CheckFile fd) h = Unit {0}
+Begins (above.JoinFile fd) h = h.txn ≡ None
+Begins (above.Double fd) h = Unit {0}
+Begins (above.Shut fd) h = HasFreeSeat h
+Begins (above.Lend child from) h = HasFreeSeat h
+Begins (above.LendDirectory child) h = HasFreeSeat h
+Begins (above.Release child) h = Unit {0}
+Begins above.Join h = h.txn ≡ None
+Begins above.Leave h = IsSome h.txn
+Begins above.Say h = Unit {0}
+Begins op h = ⊥

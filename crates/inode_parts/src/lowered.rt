@@ -1,0 +1,94 @@
+//! A call over whole inodes, run below.
+ghost use Rattle.std.specs.Prelude.{◌≡◌, [], Some, None, IfSome, IfNone};
+ghost use Rattle.plain_tree.specs.declared.answer.Reply.{Reply as ReplyState};
+ghost use Rattle.inode_machine.specs.Programs.{program};
+ghost use Rattle.whole_calls.specs.Wholes.{IsCall};
+ghost use Rattle.inodes_on_blocks.specs.Lowering.{nothing};
+ghost use Rattle.hand_controls.specs.Calling.{IsEmpty};
+ghost use Rattle.hands.specs.declared.hand.Hand.{Hand as HandState};
+ghost use Rattle.inode_parts.specs.Parts.{lowered};
+ghost use Rattle.inode_parts.specs.Calls.{lowered_left, lowered_asked, IsServed, LoweredReady};
+
+use crate::note::Notes;
+use crate::part::InodePart;
+use fs_layout::Super;
+use hands::{Answer, Control, Hand, Op};
+use plain_tree::{Call, Reply};
+use std::mem;
+use whole_calls::{Dup, Numbers, Whole};
+
+/// A call with the part of its present operation.
+#[derive(Drop)]
+pub struct Lowered {
+    sizes: Super,
+    call: Whole,
+    list: Numbers,
+    notes: Notes,
+    part: InodePart,
+}
+
+impl Lowered {
+    /// On a disk of these sizes, of a hart with nothing in hand.
+    pub fn new(sizes: Super, call: Call, hand: &Hand) -> Lowered
+        requires call { IsCall call }
+        requires served { IsServed call }
+        requires empty { IsEmpty hand.now }
+        ensures program { lowered_left result hand.now ≡ lowered sizes nothing (program call) }
+        ensures ready { LoweredReady result hand.now }
+    {
+        let call = Whole::new(call);
+        let part = InodePart::begin(call.ask(), hand);
+        Lowered {
+            sizes,
+            call,
+            list: Numbers::new(),
+            notes: Notes::new(),
+            part,
+        }
+    }
+}
+
+// The call, with which the control ends.
+fn take_call(call: &mut Whole) -> Whole
+    ensures { result ≡ call.old }
+{
+    let ended = Whole::Dup {
+        fd: 0,
+        at: Dup::Double,
+    };
+    mem::replace(call, ended)
+}
+
+impl Control for Lowered {
+    type Out = Reply;
+
+    ghost Value = { ReplyState };
+
+    ghost value = { λ reply _. reply };
+
+    ghost left = { lowered_left };
+
+    ghost asked = { lowered_asked };
+
+    ghost Ready = { LoweredReady };
+
+    ghost Ends = { λ _ h. IsEmpty h };
+
+    fn op(&self, hand: &mut Hand) -> Op {
+        self.part.op(hand)
+    }
+
+    #[tactic(auto, using(hands::proofs::Going::goes_bind))]
+    fn next(&mut self, answer: Answer, hand: &mut Hand) -> Option<Reply> {
+        match self.part.next(&mut self.notes, answer, hand) {
+            None => None,
+            Some(heard) => match self.call.next(&heard, &mut self.list) {
+                None => {
+                    self.part = InodePart::begin(self.call.ask(), hand);
+                    None
+                }
+                Some(answer) => Some(take_call(&mut self.call).reply(answer)),
+            },
+        }
+    }
+}

@@ -1,0 +1,44 @@
+//! What a call has learned of the inodes whose locks it has.
+ghost use Rattle.std.specs.Prelude.{◌≡◌};
+ghost use Rattle.inode_parts.specs.Carries.{with_note};
+
+use hands::Seat;
+use whole_calls::Element;
+
+/// What was learned of the inode at a seat since its lock was taken.
+#[derive(Clone, Copy, Drop)]
+pub enum Note {
+    Nothing,
+    /// Under this name a directory has this slot.
+    Finds(Element, u32),
+    /// By this descriptor it was locked, whose open file has this offset.
+    Opened(u32, u32),
+    /// It was freed.
+    Freed,
+}
+
+/// That of both seats. It counts where a lock is: it stands beside the hand and not in it, since the core knows nothing of it, and parts
+/// that search nothing leave it as it is.
+#[derive(Clone, Copy, Drop)]
+pub struct Notes {
+    pub one: Note,
+    pub two: Note,
+}
+
+impl Notes {
+    pub fn new() -> Notes {
+        Notes {
+            one: Note::Nothing,
+            two: Note::Nothing,
+        }
+    }
+
+    pub fn set(&mut self, seat: Seat, note: Note)
+        ensures { self.new ≡ with_note seat note self.old }
+    {
+        match seat {
+            Seat::One => self.one = note,
+            Seat::Two => self.two = note,
+        }
+    }
+}

@@ -1,0 +1,157 @@
+//! Operations on whole inodes that are one operation below.
+ghost use Rattle.std.specs.Prelude.{◌≡◌, ℕ, List, Some};
+ghost use Rattle.atomic_programs.specs.Prog.{Ret, asks};
+ghost use Rattle.hands.specs.Ops.{op_in, answer_in, CanDo, Prepared, IsAfter};
+ghost use Rattle.hands.specs.Controls.{Goes};
+ghost use Rattle.hands.specs.declared.hand.Hand.{Hand as HandState};
+ghost use Rattle.inode_parts.specs.Carries.{handed};
+ghost use Rattle.inode_parts.specs.OneSteps.{step_for, step_left, step_asked, StepReady};
+ghost use Rattle.whole_calls.specs.Asks.{op_in as above_op};
+ghost use Rattle.inode_parts.specs.declared.note.Notes.{Notes as NotesState};
+ghost use Rattle.std.specs.Prelude.{if◌then◌else◌};
+ghost use Rattle.hands.specs.Ops.{yes_in};
+ghost use Rattle.inode_parts.specs.Carries.{with_note};
+ghost use Rattle.inode_parts.specs.declared.note.Note.TheVariants as note;
+
+use crate::answers::{checked_in, doubled_in, joined_in, loan_in, number_in, old_in, shut_in};
+use crate::note::{Note, Notes};
+use crate::opening::new_file;
+use crate::places::{free_seat, known_number, lock_seat, number_to, reference_seat};
+use fs_tables::{DESCRIPTORS, NewFile, ROOT, Want};
+use hands::{Answer, Hand, Op, Seat};
+use whole_calls::{Ask, Heard};
+
+/// Such an operation, with the place of what it is about.
+#[derive(Clone, Copy, Drop)]
+pub enum OneStep {
+    /// An inode's lock is given up; so too where it is the hart's current directory from then on.
+    Give(Seat),
+    Settle(Seat),
+    /// A reference more: to the root, to the current directory, to this inode.
+    UpRoot(Seat),
+    UpDirectory(Seat),
+    Up(Seat, u32),
+    /// A reference less: in a walk, elsewhere, and to an inode that was freed.
+    WalkDown(Seat),
+    Down(Seat),
+    Forget(Seat),
+    /// A place for an open file, and the lowest descriptor for it.
+    Slot,
+    Install(Seat, NewFile),
+    /// A descriptor to write to; one more, and one less.
+    CheckFile(u32),
+    JoinFile(u32),
+    Double(u32),
+    Shut(Seat, u32),
+    /// A descriptor from this one on, or the directory, goes to this child.
+    Lend(Seat, u8, u32),
+    LendDirectory(Seat, u8),
+    Release,
+    Join,
+    Say,
+}
+
+impl OneStep {
+    /// The one that this ask is.
+    pub fn begin(ask: Ask, hand: &Hand) -> Option<OneStep>
+        ensures is { (path : List ℕ) → result ≡ step_for (above_op path ask) hand.now }
+    {
+        let step = match ask {
+            Ask::Give(number) => OneStep::Give(lock_seat(hand, number)),
+            Ask::Settle(number) => OneStep::Settle(lock_seat(hand, number)),
+            Ask::UpStart(true) => OneStep::UpRoot(free_seat(hand)),
+            Ask::UpStart(false) => OneStep::UpDirectory(free_seat(hand)),
+            Ask::Up(number) => OneStep::Up(free_seat(hand), number),
+            Ask::WalkDown(number) => OneStep::WalkDown(reference_seat(hand, number)),
+            Ask::Down(number) => OneStep::Down(reference_seat(hand, number)),
+            Ask::Forget(number) => OneStep::Forget(reference_seat(hand, number)),
+            Ask::Slot => OneStep::Slot,
+            Ask::Install(number, flags, sort) => {
+                OneStep::Install(reference_seat(hand, number), new_file(flags, sort))
+            }
+            Ask::CheckFile(fd) => OneStep::CheckFile(fd),
+            Ask::JoinFile(fd) => OneStep::JoinFile(fd),
+            Ask::Double(fd) => OneStep::Double(fd),
+            Ask::Shut(fd) => OneStep::Shut(free_seat(hand), fd),
+            Ask::Lend(child, from) => OneStep::Lend(free_seat(hand), child, from),
+            Ask::LendDirectory(child) => OneStep::LendDirectory(free_seat(hand), child),
+            Ask::Release(_) => OneStep::Release,
+            Ask::Join => OneStep::Join,
+            Ask::Say => OneStep::Say,
+            _ => return None,
+        };
+        Some(step)
+    }
+
+    /// The operation.
+    pub fn op(&self) -> Op
+        ensures op { result ≡ step_asked self.now }
+        ensures asks { (path : List ℕ) (notes : NotesState) (h : HandState) → asks (step_left path notes self.now h) ≡ Some (op_in h result) }
+        ensures can { (h : HandState) → StepReady self.now h → CanDo result h }
+        ensures prepared { (h : HandState) → Prepared result h h }
+    {
+        match *self {
+            OneStep::Give(seat) => Op::Unlock(seat),
+            OneStep::Settle(seat) => Op::Settle(seat),
+            OneStep::UpRoot(seat) => Op::Up(seat, ROOT),
+            OneStep::UpDirectory(seat) => Op::UpDirectory(seat),
+            OneStep::Up(seat, number) => Op::Up(seat, number),
+            OneStep::WalkDown(seat) => Op::DownWalked(seat),
+            OneStep::Down(seat) => Op::Down(seat),
+            OneStep::Forget(seat) => Op::DownFreed(seat),
+            OneStep::Slot => Op::TakePlace,
+            OneStep::Install(seat, file) => Op::TakeDescriptor(seat, file),
+            OneStep::CheckFile(fd) => Op::CheckFile(Want::Write, fd),
+            OneStep::JoinFile(fd) => Op::JoinToWrite(fd),
+            OneStep::Double(fd) => Op::Double(fd),
+            OneStep::Shut(seat, fd) => Op::Close(seat, fd),
+            OneStep::Lend(seat, child, from) => Op::GiveTo(seat, child, from),
+            OneStep::LendDirectory(seat, child) => Op::GiveTo(seat, child, DESCRIPTORS as u32),
+            OneStep::Release => Op::Reply,
+            OneStep::Join => Op::Join,
+            OneStep::Say => Op::Reply,
+        }
+    }
+
+    /// What is heard after it. Of an inode whose lock came into hand nothing is learned yet.
+    pub fn next(&self, notes: &mut Notes, answer: Answer, hand: &Hand) -> Heard
+        requires came { (before : HandState) × StepReady self.now before × IsAfter (step_asked self.now) before answer hand.now }
+        ensures goes { (path : List ℕ) (before : HandState) → StepReady self.now before → IsAfter (step_asked self.now) before answer hand.now
+            → Goes (step_left path notes.old self.now before) (answer_in (step_asked self.now) answer hand.now) (Ret (handed path notes.new result hand.now)) }
+    {
+        match *self {
+            OneStep::Give(_) => Heard::Did,
+            OneStep::Settle(seat) => Heard::Old(known_number(hand, seat)),
+            OneStep::UpRoot(seat) => Heard::Start(number_to(hand, seat)),
+            OneStep::UpDirectory(seat) => Heard::Start(number_to(hand, seat)),
+            OneStep::Up(seat, _) => Heard::Is(number_to(hand, seat).is_some()),
+            OneStep::WalkDown(_) => Heard::Is(answer.yes()),
+            OneStep::Down(seat) => Heard::Is(dies(notes, seat, answer)),
+            OneStep::Forget(_) => Heard::Did,
+            OneStep::Slot => Heard::Is(answer.yes()),
+            OneStep::Install(_, _) => Heard::Start(number_in(answer)),
+            OneStep::CheckFile(_) => Heard::Checked(checked_in(answer)),
+            OneStep::JoinFile(_) => Heard::Joined(joined_in(answer)),
+            OneStep::Double(_) => Heard::Doubled(doubled_in(answer)),
+            OneStep::Shut(seat, _) => Heard::Shut(shut_in(answer, known_number(hand, seat))),
+            OneStep::Lend(seat, _, _) => Heard::Loan(loan_in(answer, known_number(hand, seat))),
+            OneStep::LendDirectory(seat, _) => Heard::Old(old_in(answer, known_number(hand, seat))),
+            OneStep::Release => Heard::Did,
+            OneStep::Join => Heard::Did,
+            OneStep::Say => Heard::Did,
+        }
+    }
+}
+
+// Whether the inode to which a reference was dropped is to be freed: then its lock came into hand.
+fn dies(notes: &mut Notes, seat: Seat, answer: Answer) -> bool
+    ensures is { result ≡ yes_in answer }
+    ensures notes { notes.new ≡ (if yes_in answer then with_note seat note.Nothing notes.old else notes.old) }
+{
+    if answer.yes() {
+        notes.set(seat, Note::Nothing);
+        true
+    } else {
+        false
+    }
+}

@@ -1,0 +1,48 @@
+//! What is told of a file that is opened.
+ghost use Rattle.std.specs.Prelude.{◌≡◌, ℕ};
+ghost use Rattle.plain_tree.specs.Steps.{has};
+ghost use Rattle.inode_machine.specs.Opening.{file_for};
+ghost use Rattle.inodes_on_tables.specs.Shown.{kind_of, new_file as told_of};
+ghost use Rattle.whole_calls.specs.Asks.{sort_of};
+
+use fs_tables::NewFile;
+use whole_calls::Sort;
+
+/// The numbers of an inode's type.
+const DIRECTORY: i16 = 1;
+
+const FILE: i16 = 2;
+
+const DEVICE: i16 = 3;
+
+/// Flags of open.
+const WRITE_ONLY: u32 = 1;
+
+const READ_WRITE: u32 = 2;
+
+fn has_flag(flags: u32, bit: u32) -> bool
+    ensures { result ≡ has flags bit }
+{
+    flags & bit != 0
+}
+
+fn kind(sort: Sort) -> i16
+    ensures { result ≡ kind_of (sort_of sort) }
+{
+    match sort {
+        Sort::Directory => DIRECTORY,
+        Sort::File => FILE,
+        Sort::Device(_) => DEVICE,
+    }
+}
+
+/// An inode of this type, opened with these flags.
+pub(crate) fn new_file(flags: u32, sort: Sort) -> NewFile
+    ensures { (number : ℕ) → result ≡ told_of (file_for number flags) (sort_of sort) }
+{
+    NewFile {
+        kind: kind(sort),
+        readable: !has_flag(flags, WRITE_ONLY),
+        writable: has_flag(flags, WRITE_ONLY) || has_flag(flags, READ_WRITE),
+    }
+}

@@ -1,0 +1,84 @@
+//! Where in hand an inode's lock is, or a reference to it.
+ghost use Rattle.std.specs.Prelude.{◌≡◌};
+ghost use Rattle.hands.specs.Hands.{number_at, reference_at};
+ghost use Rattle.inode_parts.specs.OneSteps.{free_seat, locks, refers, seat_of_lock, seat_of_reference};
+
+use fs_tables::{Inode, Reference};
+use hands::{Hand, Seat};
+use sleep_lock::Guard;
+
+fn number_of(reference: &Option<Reference>) -> Option<u32>
+    ensures { result ≡ reference.now }
+{
+    match reference {
+        Some(reference) => Some(reference.number()),
+        None => None,
+    }
+}
+
+/// The number of the inode to which the reference at a seat is.
+pub(crate) fn number_to(hand: &Hand, seat: Seat) -> Option<u32>
+    ensures { result ≡ reference_at seat hand.now }
+{
+    match seat {
+        Seat::One => number_of(&hand.to_one),
+        Seat::Two => number_of(&hand.to_two),
+    }
+}
+
+/// That number, where there is a reference.
+pub(crate) fn known_number(hand: &Hand, seat: Seat) -> u32
+    ensures { result ≡ number_at seat hand.now }
+{
+    number_to(hand, seat).unwrap_or(0)
+}
+
+fn has_number(place: &Option<Guard<Inode>>, number: u32) -> bool
+    ensures { result ≡ locks number place.now }
+{
+    match place {
+        Some(guard) => number == guard.value().number,
+        None => false,
+    }
+}
+
+/// Where the lock of the inode of this number is.
+pub(crate) fn lock_seat(hand: &Hand, number: u32) -> Seat
+    ensures { result ≡ seat_of_lock number hand.now }
+{
+    if has_number(&hand.one, number) {
+        Seat::One
+    } else {
+        Seat::Two
+    }
+}
+
+fn refers_to(place: &Option<Reference>, number: u32) -> bool
+    ensures { result ≡ refers number place.now }
+{
+    match place {
+        Some(reference) => number == reference.number(),
+        None => false,
+    }
+}
+
+/// Where the reference to the inode of this number is.
+pub(crate) fn reference_seat(hand: &Hand, number: u32) -> Seat
+    ensures { result ≡ seat_of_reference number hand.now }
+{
+    if refers_to(&hand.to_one, number) {
+        Seat::One
+    } else {
+        Seat::Two
+    }
+}
+
+/// Where there is no reference.
+pub(crate) fn free_seat(hand: &Hand) -> Seat
+    ensures { result ≡ free_seat hand.now }
+{
+    match &hand.to_one {
+        Some(_) => Seat::Two,
+        None => Seat::One,
+    }
+}

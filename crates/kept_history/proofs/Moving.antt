@@ -1,0 +1,15 @@
+-- The calls over whole inodes make moves.
+use Rattle.inode_machine.specs.Theory.{is_covered}
+use Rattle.inode_machine.specs.Histories.{covered}
+use Rattle.inode_machine.specs.MoveCalls.{IsMoving}
+use Rattle.inode_machine.proofs.Covered.{lawful}
+use Rattle.inode_machine.proofs.Histories.{places_one}
+use Rattle.inode_machine.proofs.Starts.{start_is}
+
+pub moving : IsMoving covered
+moving = record {
+  lawful = lawful;
+  one = places_one;
+  begins = λ h call busy w u e. let s = start_is is_covered h call busy w u e in (s.hart, s.stage);
+  rests = λ h w i. i.walk;
+}

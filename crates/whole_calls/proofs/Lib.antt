@@ -1,0 +1,4 @@
+pub mod ElementLemmas
+pub mod Dots
+pub mod Onward
+pub mod Writes

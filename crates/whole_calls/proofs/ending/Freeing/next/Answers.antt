@@ -1,0 +1,5 @@
+use Rattle.std.proofs.Common.{refl}
+use Rattle.whole_calls.proofs.ending.Freeing.next.Goals as goal
+
+pub returns-in-Join : goal.returns-in-Join
+returns-in-Join c text k = rw c.in-Join.is refl

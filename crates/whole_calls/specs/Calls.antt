@@ -1,0 +1,118 @@
+-- What is left of each call.
+use Rattle.std.specs.Prelude.{◌≡◌, ◌≤◌, ℕ, ◌+◌, ◌-◌, ◌||◌, Bool, List, [], length, Option, Some, None}
+use Rattle.plain_tree.specs.Tree.{Name, elements, same_name, dot, dotdot}
+use Rattle.plain_tree.specs.declared.answer.Answer.{Answer as CallAnswer}
+use Rattle.plain_tree.specs.declared.answer.Cause.TheVariants.{NoEntry}
+use Rattle.plain_tree.specs.declared.answer.Reply.{Reply}
+use Rattle.plain_tree.specs.declared.call.Call.TheVariants as calls
+use Rattle.plain_tree.specs.declared.step.Action.TheVariants as steps
+use Rattle.atomic_programs.specs.Prog.{Do, unmarked}
+use Rattle.whole_calls.specs.Elements.{name_in}
+use Rattle.inode_machine.specs.Inodes.{Face}
+use Rattle.inode_machine.specs.World.Op.{Give, Store, Settle, Join}
+use Rattle.inode_machine.specs.Parts.{P, failed, done, drop, give_up, tail, say, stopped}
+use Rattle.inode_machine.specs.Descriptors.{dup_program, stat_program}
+use Rattle.inode_machine.specs.Moving.{chdir_at}
+use Rattle.inode_machine.specs.Naming as naming
+use Rattle.whole_calls.specs.Asks.{face_of, reply_to}
+use Rattle.whole_calls.specs.Ends.{dropping_of, ending_of}
+use Rattle.whole_calls.specs.Walks.{After, Stands, most_left, walk_of}
+use Rattle.whole_calls.specs.declared.asks.Turn.{Turn}
+use Rattle.whole_calls.specs.declared.asks.Turn.TheVariants as turn
+use Rattle.whole_calls.specs.declared.chdir.Chdir.{Chdir}
+use Rattle.whole_calls.specs.declared.chdir.Chdir.TheVariants as chdir
+use Rattle.whole_calls.specs.declared.descriptors.Dup.{Dup}
+use Rattle.whole_calls.specs.declared.descriptors.Dup.TheVariants as dup
+use Rattle.whole_calls.specs.declared.descriptors.Fstat.{Fstat}
+use Rattle.whole_calls.specs.declared.descriptors.Fstat.TheVariants as fstat
+use Rattle.whole_calls.specs.declared.unlink.Unlink.{Unlink}
+use Rattle.whole_calls.specs.declared.unlink.Unlink.TheVariants as unlink
+use Rattle.whole_calls.specs.declared.walk.Goal.TheVariants as goal
+use Rattle.whole_calls.specs.declared.walk.Walk.{Walk}
+use Rattle.whole_calls.specs.declared.walk.Walk.TheVariants as walking
+
+-- the longest list
+abbrev pub most_listed : ℕ
+most_listed = 128
+
+-- where a call with a path is: it begins, it walks, or its walks are behind it
+pub data Stage : Type 0 where
+  Fresh : Stage
+  Walks : Walk → Stage
+  Past : Stage
+
+-- its list has room, and the places of its walk are in the path
+abbrev pub Fits : List ℕ → List ℕ → Stage → Type 0
+Fits path ns Fresh = (ns ≡ []) × (length (elements path) ≤ most_listed)
+Fits path ns (Walks w) = Stands path w × (length ns + most_left path w ≤ most_listed)
+Fits path ns Past = Unit {0}
+
+abbrev pub FitsOn : {C : Type 0} → (C → Stage) → List ℕ → List ℕ → Turn C CallAnswer → Type 0
+FitsOn stage path ns (turn.Asks c) = Fits path ns (stage c)
+FitsOn stage path ns (turn.Ends a) = Unit {0}
+
+-- ---- dup, fstat
+
+abbrev pub dup_of : ℕ → Dup → P Reply
+dup_of fd dup.Double = dup_program fd
+dup_of fd (dup.Says a) = say (reply_to (calls.Dup fd) a)
+
+abbrev pub stat_of : ℕ → Fstat → P Reply
+stat_of fd fstat.Look = stat_program fd
+stat_of fd (fstat.Give n a) = Do (Give n) unmarked (λ _. say (reply_to (calls.Fstat fd) a))
+stat_of fd (fstat.Says a) = say (reply_to (calls.Fstat fd) a)
+
+-- ---- chdir
+
+abbrev pub chdir_after : List ℕ → After
+chdir_after path = record { found = λ n e ns. chdir_at path n ns; lost = λ why ns. tail ns (stopped (calls.Chdir path) why) }
+
+abbrev pub chdir_of : List ℕ → List ℕ → Chdir → P Reply
+chdir_of path ns chdir.Join = Do Join unmarked (λ _. walk_of (steps.Chdir path) path (chdir_after path) goal.Inside ns walking.Start)
+chdir_of path ns (chdir.Walks w) = walk_of (steps.Chdir path) path (chdir_after path) goal.Inside ns w
+chdir_of path ns (chdir.Look n) = chdir_at path n ns
+chdir_of path ns (chdir.Settle n) = Do (Settle n) unmarked (λ old. drop old (tail ns (done (calls.Chdir path))))
+chdir_of path ns (chdir.Ends e) = ending_of (calls.Chdir path) ns e
+
+abbrev pub chdir_stage : Chdir → Stage
+chdir_stage chdir.Join = Fresh
+chdir_stage (chdir.Walks w) = Walks w
+chdir_stage c = Past
+
+-- ---- unlink
+
+abbrev pub is_dots : Name → Bool
+is_dots e = same_name e dot || same_name e dotdot
+
+abbrev pub unlink_in : List ℕ → ℕ → Option Name → List ℕ → P Reply
+unlink_in path d None ns = tail ns (failed (calls.Unlink path) NoEntry)
+unlink_in path d (Some e) ns = naming.unlink_in path d e ns
+
+abbrev pub unlink_after : List ℕ → After
+unlink_after path = record { found = unlink_in path; lost = λ why ns. tail ns (stopped (calls.Unlink path) why) }
+
+-- the directory was given up: the other count goes down
+abbrev pub gave_parent : List ℕ → List ℕ → ℕ → Face → P Reply
+gave_parent path ns n g = Do (Store n (g.count - 1)) unmarked (λ _. give_up n (tail ns (done (calls.Unlink path))))
+
+-- the name is gone
+abbrev pub cleared : List ℕ → ℕ → List ℕ → Face → ℕ → Face → P Reply
+cleared path d ns f n g = naming.lower_parent d f g (give_up d (gave_parent path ns n g))
+
+abbrev pub unlink_of : List ℕ → List ℕ → Unlink → P Reply
+unlink_of path ns unlink.Join = naming.unlink_program path
+unlink_of path ns (unlink.Walks w) = walk_of (steps.Unlink path) path (unlink_after path) goal.Parent ns w
+unlink_of path ns (unlink.Dots d) = naming.unlink_dots path d ns
+unlink_of path ns (unlink.Look d e) = naming.unlink_named path d (name_in path e) ns
+unlink_of path ns (unlink.Up x n) = naming.unlink_other path x.directory (name_in path x.element) ns (face_of x.face) n
+unlink_of path ns (unlink.Take x n) = naming.unlink_child path x.directory (name_in path x.element) ns (face_of x.face) n
+unlink_of path ns (unlink.Clear x n g) = naming.clear_name path x.directory (name_in path x.element) ns (face_of x.face) n (face_of g)
+unlink_of path ns (unlink.LowerParent x n g) = Do (Store x.directory (x.face.count - 1)) unmarked (λ _. give_up x.directory (gave_parent path ns n (face_of g)))
+unlink_of path ns (unlink.GiveParent d n g) = dropping_of (gave_parent path ns n (face_of g)) d
+unlink_of path ns (unlink.Lower n g) = gave_parent path ns n (face_of g)
+unlink_of path ns (unlink.Ends e) = ending_of (calls.Unlink path) ns e
+
+abbrev pub unlink_stage : Unlink → Stage
+unlink_stage unlink.Join = Fresh
+unlink_stage (unlink.Walks w) = Walks w
+unlink_stage c = Past

@@ -1,0 +1,27 @@
+-- The elements of a path, where they stand in it.
+use Rattle.std.specs.Prelude.{ℕ, ◌≤◌, List, [], ◌∷◌, length, slice_range, Option, Some, None}
+use Rattle.whole_calls.specs.Names.{IsName}
+use Rattle.plain_tree.specs.Tree.{Name}
+use Rattle.whole_calls.specs.declared.elements.Element.{Element}
+
+-- bytes of the longest path, and the elements that it has at most
+abbrev pub longest_path : ℕ
+longest_path = 127
+
+abbrev pub most_elements : ℕ
+most_elements = 64
+
+-- the name of an element
+abbrev pub name_in : List ℕ → Element → Name
+name_in path e = slice_range path e.start e.end
+
+pub record IsElement (path : List ℕ) (e : Element) : Type 0 where
+  pub ordered : e.start ≤ e.end
+  pub within : e.end ≤ length path
+  pub rest : e.rest ≤ length path
+  pub name : IsName (name_in path e)
+
+-- the last element, if one is left
+abbrev pub names_of : List ℕ → Option Element → List Name
+names_of path None = []
+names_of path (Some e) = name_in path e ∷ []

@@ -1,0 +1,13 @@
+pub mod Names
+pub mod Elements
+pub mod Asks
+pub mod Ends
+pub mod Walks
+pub mod Calls
+pub mod Opens
+pub mod Makes
+pub mod Links
+pub mod Closes
+pub mod Reads
+pub mod Writes
+pub mod Wholes

@@ -1,0 +1,57 @@
+-- What is left of a mkdir.
+use Rattle.std.specs.Prelude.{ℕ, ◌+◌, List, Option, Some, None, if◌then◌else◌}
+use Rattle.plain_tree.specs.Tree.{Name}
+use Rattle.plain_tree.specs.declared.answer.Cause.TheVariants.{NoEntry}
+use Rattle.plain_tree.specs.declared.answer.Full.TheVariants.{MemInodes, Blocks}
+use Rattle.plain_tree.specs.declared.answer.Reply.{Reply}
+use Rattle.plain_tree.specs.declared.call.Call.TheVariants as calls
+use Rattle.plain_tree.specs.declared.step.Action.TheVariants as steps
+use Rattle.atomic_programs.specs.Prog.{Do, unmarked}
+use Rattle.whole_calls.specs.Elements.{name_in}
+use Rattle.inode_machine.specs.Inodes.{OfDirectory, Face}
+use Rattle.inode_machine.specs.World.{Orphans}
+use Rattle.inode_machine.specs.World.Op.{Claim, Forget, Store, Fill, Enter}
+use Rattle.inode_machine.specs.Parts.{P, mends_if_full, failed, full, done, give_up, tail, stopped}
+use Rattle.inode_machine.specs.Opening.{entered_file, mends_unless_new, unmake}
+use Rattle.inode_machine.specs.Naming.{mkdir_in, mkdir_other, mkdir_program, mkdir_with, name_directory}
+use Rattle.whole_calls.specs.Asks.{face_of, reply_to}
+use Rattle.whole_calls.specs.Calls.{Stage, Fresh, Walks, Past}
+use Rattle.whole_calls.specs.Ends.{ending_of}
+use Rattle.whole_calls.specs.Walks.{After, walk_of}
+use Rattle.whole_calls.specs.declared.opens.NewName.{NewName}
+use Rattle.whole_calls.specs.declared.mkdir.Mkdir.{Mkdir}
+use Rattle.whole_calls.specs.declared.mkdir.Mkdir.TheVariants as making
+use Rattle.whole_calls.specs.declared.walk.Goal.TheVariants as goal
+
+abbrev pub mkdir_found : List ℕ → ℕ → Option Name → List ℕ → P Reply
+mkdir_found path d None ns = tail ns (failed (calls.Mkdir path) NoEntry)
+mkdir_found path d (Some e) ns = mkdir_in path d e ns
+
+abbrev pub mkdir_after : List ℕ → After
+mkdir_after path = record { found = mkdir_found path; lost = λ why ns. tail ns (stopped (calls.Mkdir path) why) }
+
+-- the new directory is to be entered
+abbrev pub enters : List ℕ → List ℕ → NewName → Face → P Reply
+enters path ns x f = Do (Enter x.directory (name_in path x.element) x.number) (entered_file x.number) (name_directory path x.directory f x.number ns)
+
+abbrev pub fills : List ℕ → List ℕ → NewName → Face → P Reply
+fills path ns x f = Do (Fill x.number x.directory) mends_if_full (λ there. if there then enters path ns x f else unmake x.number x.directory ns (full (calls.Mkdir path) Blocks))
+
+abbrev pub mkdir_of : List ℕ → List ℕ → Mkdir → P Reply
+mkdir_of path ns making.Join = mkdir_program path
+mkdir_of path ns (making.Walks w) = walk_of (steps.Mkdir path) path (mkdir_after path) goal.Parent ns w
+mkdir_of path ns (making.Look d e) = mkdir_in path d (name_in path e) ns
+mkdir_of path ns (making.Claim d e f) = Do (Claim OfDirectory) mends_unless_new (mkdir_with path d (name_in path e) ns (face_of f))
+mkdir_of path ns (making.ForgetSame d) = Do (Forget d) unmarked (λ _. give_up d (tail ns (full (calls.Mkdir path) MemInodes)))
+mkdir_of path ns (making.TakeNew x f) = mkdir_other path x.directory (name_in path x.element) ns (face_of f) x.number
+mkdir_of path ns (making.StoreNew x f) = Do (Store x.number 1) unmarked (λ _. fills path ns x (face_of f))
+mkdir_of path ns (making.Fill x f) = fills path ns x (face_of f)
+mkdir_of path ns (making.Enter x f) = enters path ns x (face_of f)
+mkdir_of path ns (making.Raise x f) = Do (Store x.directory (f.count + 1)) unmarked (λ _. give_up x.directory (give_up x.number (tail ns (done (calls.Mkdir path)))))
+mkdir_of path ns (making.Unmake x a) = Do (Store x.number 0) (λ _. Some (Orphans x.number)) (λ _. give_up x.number (give_up x.directory (tail ns (reply_to (calls.Mkdir path) a))))
+mkdir_of path ns (making.Ends e) = ending_of (calls.Mkdir path) ns e
+
+abbrev pub mkdir_stage : Mkdir → Stage
+mkdir_stage making.Join = Fresh
+mkdir_stage (making.Walks w) = Walks w
+mkdir_stage c = Past

@@ -1,0 +1,35 @@
+-- What is left of a read.
+use Rattle.std.specs.Prelude.{◌≡◌, ◌≤◌, ℕ, ◌++◌, List, take, drop, length}
+use Rattle.plain_tree.specs.declared.answer.Answer.{Answer as CallAnswer}
+use Rattle.plain_tree.specs.declared.answer.Answer.TheVariants as answers
+use Rattle.plain_tree.specs.declared.answer.Reply.{Reply}
+use Rattle.plain_tree.specs.declared.call.Call.TheVariants as calls
+use Rattle.inode_machine.specs.World.{LocksIt}
+use Rattle.inode_machine.specs.Parts.{P, say}
+use Rattle.inode_machine.specs.Descriptors.{read_on, read_program}
+use Rattle.whole_calls.specs.Asks.{count_in, reply_to}
+use Rattle.whole_calls.specs.declared.asks.Heard.{Heard}
+use Rattle.whole_calls.specs.declared.asks.Turn.{Turn}
+use Rattle.whole_calls.specs.declared.asks.Turn.TheVariants as turn
+use Rattle.whole_calls.specs.declared.reading.Read.{Read}
+use Rattle.whole_calls.specs.declared.reading.Read.TheVariants as reading
+
+abbrev pub read_of : ℕ → List ℕ → Read → P Reply
+read_of fd buffer reading.Lock = read_program fd buffer
+read_of fd buffer (reading.Part n offset) = read_on fd buffer (LocksIt n offset)
+read_of fd buffer (reading.Says count) = say (reply_to (calls.Read fd buffer) (answers.Count count))
+
+-- a part that is read stands at the buffer's front; nothing else changes it
+abbrev pub FilledFrom : List ℕ → List ℕ → Read → Heard → Type 0
+FilledFrom old new reading.Lock x = new ≡ old
+FilledFrom old new (reading.Part n offset) x = new ≡ take (count_in x) new ++ drop (count_in x) old
+FilledFrom old new (reading.Says count) x = new ≡ old
+
+abbrev pub ReadFits : List ℕ → Read → Type 0
+ReadFits buffer reading.Lock = Unit {0}
+ReadFits buffer (reading.Part n offset) = Unit {0}
+ReadFits buffer (reading.Says count) = count ≤ length buffer
+
+abbrev pub ReadFitsOn : List ℕ → Turn Read CallAnswer → Type 0
+ReadFitsOn buffer (turn.Asks c) = ReadFits buffer c
+ReadFitsOn buffer (turn.Ends a) = Unit {0}

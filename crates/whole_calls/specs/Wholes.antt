@@ -1,0 +1,126 @@
+-- What is left of a call, whichever it is.
+use Rattle.std.specs.Prelude.{◌≢◌, ◌≤◌, ◌<◌, ◌^◌, ◌+◌, ℕ, List, [], length, All, Option, Some, None}
+use Rattle.plain_tree.specs.Tree.{elements}
+use Rattle.plain_tree.specs.declared.answer.Answer.{Answer as CallAnswer}
+use Rattle.plain_tree.specs.declared.answer.Reply.{Reply}
+use Rattle.plain_tree.specs.declared.call.Call.{Call}
+use Rattle.plain_tree.specs.declared.call.Call.TheVariants as calls
+use Rattle.plain_tree.specs.declared.step.Action.{Action}
+use Rattle.plain_tree.specs.declared.step.Action.TheVariants as steps
+use Rattle.atomic_programs.specs.Prog.{Ret}
+use Rattle.inode_machine.specs.Parts.{P}
+use Rattle.whole_calls.specs.Asks.{count_in, reply_to}
+use Rattle.whole_calls.specs.Calls.{Fits, chdir_of, chdir_stage, dup_of, most_listed, stat_of, unlink_of, unlink_stage}
+use Rattle.whole_calls.specs.Closes.{close_of, inherit_of}
+use Rattle.whole_calls.specs.Links.{LinkFits, link_action, link_of, link_stage, link_text}
+use Rattle.whole_calls.specs.Makes.{mkdir_of, mkdir_stage}
+use Rattle.whole_calls.specs.Opens.{open_of, open_stage}
+use Rattle.whole_calls.specs.Reads.{ReadFits, read_of}
+use Rattle.whole_calls.specs.Writes.{WriteFits, write_of}
+use Rattle.whole_calls.specs.declared.asks.Heard.{Heard}
+use Rattle.whole_calls.specs.declared.whole.Whole.{Whole}
+use Rattle.whole_calls.specs.declared.whole.Whole.TheVariants as whole
+
+-- what is left of it, where its list is this
+abbrev pub whole_of : List ℕ → Whole → P Reply
+whole_of ns (whole.Open path flags c) = open_of path flags ns c
+whole_of ns (whole.Read fd buf c) = read_of fd buf c
+whole_of ns (whole.Write fd bytes c) = write_of fd bytes c
+whole_of ns (whole.Link old new c) = link_of old new ns c
+whole_of ns (whole.Unlink path c) = unlink_of path ns c
+whole_of ns (whole.Mkdir path c) = mkdir_of path ns c
+whole_of ns (whole.Chdir path c) = chdir_of path ns c
+whole_of ns (whole.Dup fd c) = dup_of fd c
+whole_of ns (whole.Fstat fd c) = stat_of fd c
+whole_of ns (whole.Close fd c) = close_of fd c
+whole_of ns (whole.Inherit child c) = inherit_of child c
+
+abbrev pub call_in : Whole → Call
+call_in (whole.Open path flags c) = calls.Open path flags
+call_in (whole.Read fd buf c) = calls.Read fd buf
+call_in (whole.Write fd bytes c) = calls.Write fd bytes
+call_in (whole.Link old new c) = calls.Link old new
+call_in (whole.Unlink path c) = calls.Unlink path
+call_in (whole.Mkdir path c) = calls.Mkdir path
+call_in (whole.Chdir path c) = calls.Chdir path
+call_in (whole.Dup fd c) = calls.Dup fd
+call_in (whole.Fstat fd c) = calls.Fstat fd
+call_in (whole.Close fd c) = calls.Close fd
+call_in (whole.Inherit child c) = calls.Inherit child
+
+-- the path in which its names stand, or its bytes
+abbrev pub text_in : Whole → List ℕ
+text_in (whole.Open path flags c) = path
+text_in (whole.Read fd buf c) = buf
+text_in (whole.Write fd bytes c) = bytes
+text_in (whole.Link old new c) = link_text old new c
+text_in (whole.Unlink path c) = path
+text_in (whole.Mkdir path c) = path
+text_in (whole.Chdir path c) = path
+text_in (whole.Dup fd c) = []
+text_in (whole.Fstat fd c) = []
+text_in (whole.Close fd c) = []
+text_in (whole.Inherit child c) = []
+
+-- the tree step of which its next mark is
+abbrev pub action_in : Whole → Action
+action_in (whole.Open path flags c) = steps.Open path flags
+action_in (whole.Read fd buf c) = steps.Read fd (length buf)
+action_in (whole.Write fd bytes c) = steps.WritePart fd bytes
+action_in (whole.Link old new c) = link_action old new c
+action_in (whole.Unlink path c) = steps.Unlink path
+action_in (whole.Mkdir path c) = steps.Mkdir path
+action_in (whole.Chdir path c) = steps.Chdir path
+action_in (whole.Dup fd c) = steps.Dup fd
+action_in (whole.Fstat fd c) = steps.Fstat fd
+action_in (whole.Close fd c) = steps.Close fd
+action_in (whole.Inherit child c) = steps.Inherit child
+
+abbrev pub went_to : List ℕ → Whole → Option CallAnswer → P Reply
+went_to ns w None = whole_of ns w
+went_to ns w (Some a) = Ret (reply_to (call_in w) a)
+
+-- no byte of it is 0
+abbrev pub IsPath : List ℕ → Type 0
+IsPath path = All (λ b. b ≢ 0) path
+
+abbrev pub WholeFits : List ℕ → Whole → Type 0
+WholeFits ns (whole.Open path flags c) = IsPath path × Fits path ns (open_stage c)
+WholeFits ns (whole.Read fd buf c) = (length buf < 2 ^ 31) × ReadFits buf c
+WholeFits ns (whole.Write fd bytes c) = (length bytes < 2 ^ 31) × WriteFits bytes c
+WholeFits ns (whole.Link old new c) = IsPath old × IsPath new × LinkFits old new ns (link_stage c)
+WholeFits ns (whole.Unlink path c) = IsPath path × Fits path ns (unlink_stage c)
+WholeFits ns (whole.Mkdir path c) = IsPath path × Fits path ns (mkdir_stage c)
+WholeFits ns (whole.Chdir path c) = IsPath path × Fits path ns (chdir_stage c)
+WholeFits ns (whole.Dup fd c) = Unit {0}
+WholeFits ns (whole.Fstat fd c) = Unit {0}
+WholeFits ns (whole.Close fd c) = Unit {0}
+WholeFits ns (whole.Inherit child c) = Unit {0}
+
+-- no more is read than the buffer has
+abbrev pub HasRoomFor : Heard → Whole → Type 0
+HasRoomFor x (whole.Open path flags c) = Unit {0}
+HasRoomFor x (whole.Read fd buf c) = count_in x ≤ length buf
+HasRoomFor x (whole.Write fd bytes c) = Unit {0}
+HasRoomFor x (whole.Link old new c) = Unit {0}
+HasRoomFor x (whole.Unlink path c) = Unit {0}
+HasRoomFor x (whole.Mkdir path c) = Unit {0}
+HasRoomFor x (whole.Chdir path c) = Unit {0}
+HasRoomFor x (whole.Dup fd c) = Unit {0}
+HasRoomFor x (whole.Fstat fd c) = Unit {0}
+HasRoomFor x (whole.Close fd c) = Unit {0}
+HasRoomFor x (whole.Inherit child c) = Unit {0}
+
+-- what a start asks of a call
+abbrev pub IsCall : Call → Type 0
+IsCall (calls.Open path flags) = IsPath path × (length (elements path) ≤ most_listed)
+IsCall (calls.Read fd buf) = length buf < 2 ^ 31
+IsCall (calls.Write fd bytes) = length bytes < 2 ^ 31
+IsCall (calls.Link old new) = IsPath old × IsPath new × (length (elements old) + length (elements new) ≤ most_listed)
+IsCall (calls.Unlink path) = IsPath path × (length (elements path) ≤ most_listed)
+IsCall (calls.Mkdir path) = IsPath path × (length (elements path) ≤ most_listed)
+IsCall (calls.Chdir path) = IsPath path × (length (elements path) ≤ most_listed)
+IsCall (calls.Dup fd) = Unit {0}
+IsCall (calls.Fstat fd) = Unit {0}
+IsCall (calls.Close fd) = Unit {0}
+IsCall (calls.Inherit child) = Unit {0}

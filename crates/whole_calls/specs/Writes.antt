@@ -1,0 +1,51 @@
+-- What is left of a write.
+use Rattle.std.specs.Prelude.{◌≡◌, ◌<◌, ◌^◌, ℕ, zero, suc, ◌+◌, List, []}
+use Rattle.plain_tree.specs.Calls.{piece}
+use Rattle.plain_tree.specs.declared.answer.Answer.{Answer as CallAnswer}
+use Rattle.plain_tree.specs.declared.answer.Reply.{Reply}
+use Rattle.plain_tree.specs.declared.call.Call.TheVariants as calls
+use Rattle.atomic_programs.specs.Prog.{Do, unmarked}
+use Rattle.inode_machine.specs.World.Op.{JoinFile, WriteFile, Join, Leave}
+use Rattle.inode_machine.specs.Parts.{P, say}
+use Rattle.inode_machine.specs.Descriptors.{joined_on, refused_to, write_from, write_piece, write_program, write_reply, writes, wrote_on}
+use Rattle.whole_calls.specs.Asks.{reply_to, wrote_of}
+use Rattle.whole_calls.specs.declared.asks.Turn.{Turn}
+use Rattle.whole_calls.specs.declared.asks.Turn.TheVariants as turn
+use Rattle.whole_calls.specs.declared.writing.Piece.{Piece}
+use Rattle.whole_calls.specs.declared.writing.Write.{Write}
+use Rattle.whole_calls.specs.declared.writing.Write.TheVariants as writing
+
+module _ (fd : ℕ) (bytes : List ℕ) where
+  -- what comes after a piece that was written, before so many more
+  abbrev pub more_of : (n more i : ℕ) → P Reply
+  more_of n zero i = say (write_reply fd bytes)
+  more_of n (suc left) i = Do Join unmarked (λ _. write_from fd n bytes left (i + 1))
+
+  abbrev pub more_after : Piece → P Reply
+  more_after p = more_of p.number p.more p.index
+
+  abbrev pub write_of : Write → P Reply
+  write_of writing.Check = write_program fd []
+  write_of writing.Join = Do (JoinFile fd) (refused_to fd (piece bytes 0)) (joined_on fd bytes)
+  write_of (writing.Lock p) = write_piece fd p.number bytes p.index (more_after p)
+  write_of (writing.Part p n offset) = Do (WriteFile fd n offset (piece bytes p.index)) (writes fd (piece bytes p.index)) (λ a. Do Leave unmarked (λ _. wrote_on fd bytes (more_after p) a))
+  write_of (writing.Leave p w) = Do Leave unmarked (λ _. wrote_on fd bytes (more_after p) (wrote_of w))
+  write_of (writing.JoinNext p) = Do Join unmarked (λ _. write_from fd p.number bytes p.more p.index)
+  write_of (writing.Says a) = say (reply_to (calls.Write fd bytes) a)
+
+-- its pieces are numbered
+abbrev pub few : Piece → Type 0
+few p = p.index + p.more < 2 ^ 32
+
+abbrev pub WriteFits : List ℕ → Write → Type 0
+WriteFits bytes writing.Check = bytes ≡ []
+WriteFits bytes writing.Join = Unit {0}
+WriteFits bytes (writing.Lock p) = few p
+WriteFits bytes (writing.Part p n offset) = few p
+WriteFits bytes (writing.Leave p w) = few p
+WriteFits bytes (writing.JoinNext p) = few p
+WriteFits bytes (writing.Says a) = Unit {0}
+
+abbrev pub WriteFitsOn : List ℕ → Turn Write CallAnswer → Type 0
+WriteFitsOn bytes (turn.Asks c) = WriteFits bytes c
+WriteFitsOn bytes (turn.Ends a) = Unit {0}

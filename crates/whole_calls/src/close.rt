@@ -1,0 +1,154 @@
+//! close and inherit.
+ghost use Rattle.std.specs.Prelude.{◌≡◌, ◌≤◌, ℕ, [], List, Option, Some};
+ghost use Rattle.plain_tree.specs.declared.call.Call.TheVariants as calls;
+ghost use Rattle.plain_tree.specs.declared.step.Action.TheVariants as steps;
+ghost use Rattle.whole_calls.specs.Asks.{asks, hears, loan_of, mark_at, marked_as, op_in, turned};
+ghost use Rattle.whole_calls.specs.Closes.{close_of, inherit_of};
+ghost use Rattle.inode_machine.specs.Descriptors.{close_program};
+ghost use Rattle.inode_machine.specs.Moving.{inherit_program, lend_from, lend_on};
+
+use crate::asks::{Ask, Heard, Loan, Mark, Turn};
+use crate::dropping::Dropping;
+use plain_tree::{Answer, Cause};
+
+/// close: with the last descriptor the open file's reference is dropped.
+#[derive(Clone, Copy)]
+pub enum Close {
+    Shut,
+    Join(u32),
+    Drops(Dropping),
+    Leave,
+    Say,
+}
+
+impl Close {
+    pub fn new() -> Close
+        ensures { (fd : ℕ) → close_of fd result ≡ close_program fd }
+    {
+        Close::Shut
+    }
+
+    pub fn ask(&self, fd: u32) -> Ask
+        ensures { asks (close_of fd self.now) ≡ Some (op_in [] result) }
+    {
+        match self {
+            Close::Shut => Ask::Shut(fd),
+            Close::Join(_) => Ask::Join,
+            Close::Drops(dropping) => dropping.ask(),
+            Close::Leave => Ask::Leave,
+            Close::Say => Ask::Say,
+        }
+    }
+
+    pub fn next(self, heard: &Heard) -> Turn<Close, Answer>
+        ensures { (text : List ℕ) (fd : ℕ) → hears text (close_of fd self) heard.now ≡ turned (close_of fd) (calls.Close fd) result }
+    {
+        match self {
+            Close::Shut => match heard.shut() {
+                None => Turn::Ends(Answer::Failed(Cause::BadDescriptor)),
+                Some(None) => Turn::Asks(Close::Say),
+                Some(Some(number)) => Turn::Asks(Close::Join(number)),
+            },
+            Close::Join(number) => Turn::Asks(Close::Drops(Dropping::Down(number))),
+            Close::Drops(dropping) => match dropping.next(heard) {
+                Some(dropping) => Turn::Asks(Close::Drops(dropping)),
+                None => Turn::Asks(Close::Leave),
+            },
+            Close::Leave => Turn::Asks(Close::Say),
+            Close::Say => Turn::Ends(Answer::Done),
+        }
+    }
+
+    pub fn mark(&self) -> Option<Mark>
+        ensures { (fd : ℕ) (heard : Heard) → mark_at (close_of fd self.now) heard ≡ marked_as (steps.Close fd) result }
+    {
+        match self {
+            Close::Shut => Some(Mark::Own),
+            Close::Drops(dropping) => dropping.mark(),
+            _ => None,
+        }
+    }
+}
+
+/// inherit: each descriptor in turn, then the directory; the child's old one is dropped.
+#[derive(Clone, Copy)]
+pub enum Inherit {
+    /// At most so many descriptors more, from this one on.
+    Lend(u8, u32),
+    Directory,
+    Join(u32),
+    Drops(Dropping),
+    Leave,
+    Release,
+}
+
+/// At most so many descriptors more, from this one on.
+fn lend(left: u8, from: u32) -> Inherit
+    ensures { (child : ℕ) → inherit_of child result ≡ lend_from child left from }
+{
+    if left == 0 {
+        Inherit::Directory
+    } else {
+        Inherit::Lend(left - 1, from)
+    }
+}
+
+fn lent(left: u8, loan: Loan) -> Inherit
+    ensures { (child : ℕ) → inherit_of child result ≡ lend_on child (lend_from child left) (loan_of loan) }
+{
+    match loan {
+        Loan::Lent(fd, true) => lend(left, u32::from(fd) + 1),
+        Loan::Lent(_, false) => Inherit::Directory,
+        Loan::Moved(old) => Inherit::Join(old),
+    }
+}
+
+impl Inherit {
+    pub fn new() -> Inherit
+        ensures { (child : ℕ) → inherit_of child result ≡ inherit_program child }
+    {
+        Inherit::Lend(15, 0)
+    }
+
+    pub fn ask(&self, child: u8) -> Ask
+        ensures { asks (inherit_of child self.now) ≡ Some (op_in [] result) }
+    {
+        match self {
+            Inherit::Lend(_, from) => Ask::Lend(child, *from),
+            Inherit::Directory => Ask::LendDirectory(child),
+            Inherit::Join(_) => Ask::Join,
+            Inherit::Drops(dropping) => dropping.ask(),
+            Inherit::Leave => Ask::Leave,
+            Inherit::Release => Ask::Release(child),
+        }
+    }
+
+    pub fn next(self, heard: &Heard) -> Turn<Inherit, Answer>
+        ensures { (text : List ℕ) (child : ℕ) → hears text (inherit_of child self) heard.now ≡ turned (inherit_of child) (calls.Inherit child) result }
+    {
+        match self {
+            Inherit::Lend(left, _) => Turn::Asks(lent(left, heard.loan())),
+            Inherit::Directory => Turn::Asks(Inherit::Join(heard.old())),
+            Inherit::Join(old) => Turn::Asks(Inherit::Drops(Dropping::Down(old))),
+            Inherit::Drops(dropping) => match dropping.next(heard) {
+                Some(dropping) => Turn::Asks(Inherit::Drops(dropping)),
+                None => Turn::Asks(Inherit::Leave),
+            },
+            Inherit::Leave => Turn::Asks(Inherit::Release),
+            Inherit::Release => Turn::Ends(Answer::Done),
+        }
+    }
+
+    pub fn mark(&self, heard: &Heard) -> Option<Mark>
+        ensures { (child : ℕ) → mark_at (inherit_of child self.now) heard.now ≡ marked_as (steps.Inherit child) result }
+    {
+        match self {
+            Inherit::Lend(_, _) => match heard.loan() {
+                Loan::Lent(_, true) => None,
+                _ => Some(Mark::Own),
+            },
+            Inherit::Drops(dropping) => dropping.mark(),
+            _ => None,
+        }
+    }
+}

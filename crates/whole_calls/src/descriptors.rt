@@ -1,0 +1,127 @@
+//! dup and fstat.
+ghost use Rattle.std.specs.Prelude.{◌≡◌, ℕ, [], List, Option, Some};
+ghost use Rattle.plain_tree.specs.declared.call.Call.TheVariants as calls;
+ghost use Rattle.plain_tree.specs.declared.step.Action.TheVariants as steps;
+ghost use Rattle.whole_calls.specs.Asks.{asks, hears, mark_at, marked_as, op_in, turned, face_of};
+ghost use Rattle.whole_calls.specs.Calls.{dup_of, stat_of};
+ghost use Rattle.inode_machine.specs.Descriptors.{dup_program, stat_program};
+ghost use Rattle.plain_tree.specs.declared.answer.Answer.TheVariants as answers;
+ghost use Rattle.inode_machine.specs.Inodes.{stat_of_face};
+
+use crate::asks::{Ask, Face, Heard, Mark, Sort, Turn};
+use plain_tree::{Answer, Cause, Full, NodeType, Stat};
+
+/// dup: one step for descriptor and count; without an open file the reply alone.
+#[derive(Clone, Copy)]
+pub enum Dup {
+    Double,
+    Says(Answer),
+}
+
+impl Dup {
+    pub fn new() -> Dup
+        ensures { (fd : ℕ) → dup_of fd result ≡ dup_program fd }
+    {
+        Dup::Double
+    }
+
+    pub fn ask(&self, fd: u32) -> Ask
+        ensures { asks (dup_of fd self.now) ≡ Some (op_in [] result) }
+    {
+        match self {
+            Dup::Double => Ask::Double(fd),
+            Dup::Says(_) => Ask::Say,
+        }
+    }
+
+    pub fn next(self, heard: &Heard) -> Turn<Dup, Answer>
+        ensures { (text : List ℕ) (fd : ℕ) → hears text (dup_of fd self) heard.now ≡ turned (dup_of fd) (calls.Dup fd) result }
+    {
+        match self {
+            Dup::Double => match heard.doubled() {
+                None => Turn::Ends(Answer::Failed(Cause::BadDescriptor)),
+                Some(None) => Turn::Asks(Dup::Says(Answer::Full(Full::Descriptors))),
+                Some(Some(fd)) => Turn::Asks(Dup::Says(Answer::Fd(fd))),
+            },
+            Dup::Says(answer) => Turn::Ends(answer),
+        }
+    }
+
+    pub fn mark(&self, heard: &Heard) -> Option<Mark>
+        ensures { (fd : ℕ) → mark_at (dup_of fd self.now) heard.now ≡ marked_as (steps.Dup fd) result }
+    {
+        match self {
+            Dup::Double => match heard.doubled() {
+                Some(None) => Some(Mark::Fills),
+                _ => Some(Mark::Own),
+            },
+            Dup::Says(_) => None,
+        }
+    }
+}
+
+/// fstat.
+#[derive(Clone, Copy)]
+pub enum Fstat {
+    Look,
+    Give(u32, Answer),
+    Says(Answer),
+}
+
+fn stat_answer(number: u16, face: &Face) -> Answer
+    ensures { result ≡ answers.Stat (stat_of_face number (face_of face.now)) }
+{
+    Answer::Stat(Stat {
+        device: 1,
+        inode: number,
+        kind: match face.sort {
+            Sort::Directory => NodeType::Directory,
+            Sort::File => NodeType::File,
+            Sort::Device(_) => NodeType::Device,
+        },
+        nlink: face.count,
+        size: face.size,
+    })
+}
+
+impl Fstat {
+    pub fn new() -> Fstat
+        ensures { (fd : ℕ) → stat_of fd result ≡ stat_program fd }
+    {
+        Fstat::Look
+    }
+
+    pub fn ask(&self, fd: u32) -> Ask
+        ensures { asks (stat_of fd self.now) ≡ Some (op_in [] result) }
+    {
+        match self {
+            Fstat::Look => Ask::StatFile(fd),
+            Fstat::Give(number, _) => Ask::Give(*number),
+            Fstat::Says(_) => Ask::Say,
+        }
+    }
+
+    pub fn next(self, heard: &Heard) -> Turn<Fstat, Answer>
+        ensures { (text : List ℕ) (fd : ℕ) → hears text (stat_of fd self) heard.now ≡ turned (stat_of fd) (calls.Fstat fd) result }
+    {
+        match self {
+            Fstat::Look => match heard.stat() {
+                None => Turn::Ends(Answer::Failed(Cause::BadDescriptor)),
+                Some((number, face)) => {
+                    Turn::Asks(Fstat::Give(u32::from(number), stat_answer(number, &face)))
+                }
+            },
+            Fstat::Give(_, answer) => Turn::Asks(Fstat::Says(answer)),
+            Fstat::Says(answer) => Turn::Ends(answer),
+        }
+    }
+
+    pub fn mark(&self) -> Option<Mark>
+        ensures { (fd : ℕ) (heard : Heard) → mark_at (stat_of fd self.now) heard ≡ marked_as (steps.Fstat fd) result }
+    {
+        match self {
+            Fstat::Look => Some(Mark::Own),
+            _ => None,
+        }
+    }
+}

@@ -1,0 +1,60 @@
+//! A reference dropped.
+ghost use Rattle.std.specs.Prelude.{◌≡◌, ℕ, List, Option, Some};
+ghost use Rattle.plain_tree.specs.declared.answer.Reply.{Reply};
+ghost use Rattle.plain_tree.specs.declared.step.Action.{Action};
+ghost use Rattle.whole_calls.specs.Asks.{asks, hears, mark_at, marked_as, op_in};
+ghost use Rattle.whole_calls.specs.Ends.{after_drop, dropping_of};
+ghost use Rattle.inode_machine.specs.Parts.{P};
+
+use crate::asks::{Ask, Heard, Mark};
+
+/// An inode is given up, and the reference to it dropped. The last one to an inode without links frees it.
+#[derive(Clone, Copy)]
+pub enum Dropping {
+    Give(u32),
+    Down(u32),
+    Free(u32),
+    GiveFreed(u32),
+    Forget(u32),
+}
+
+impl Dropping {
+    pub fn ask(&self) -> Ask
+        ensures { (path : List ℕ) (k : P Reply) → asks (dropping_of k self.now) ≡ Some (op_in path result) }
+    {
+        match self {
+            Dropping::Give(n) | Dropping::GiveFreed(n) => Ask::Give(*n),
+            Dropping::Down(n) => Ask::Down(*n),
+            Dropping::Free(n) => Ask::Free(*n),
+            Dropping::Forget(n) => Ask::Forget(*n),
+        }
+    }
+
+    /// What comes next; nothing where the reference is gone.
+    pub fn next(self, heard: &Heard) -> Option<Dropping>
+        ensures { (text : List ℕ) (k : P Reply) → hears text (dropping_of k self) heard.now ≡ after_drop k result }
+    {
+        match self {
+            Dropping::Give(n) => Some(Dropping::Down(n)),
+            Dropping::Down(n) => {
+                if heard.is() {
+                    Some(Dropping::Free(n))
+                } else {
+                    None
+                }
+            }
+            Dropping::Free(n) => Some(Dropping::GiveFreed(n)),
+            Dropping::GiveFreed(n) => Some(Dropping::Forget(n)),
+            Dropping::Forget(_) => None,
+        }
+    }
+
+    pub fn mark(&self) -> Option<Mark>
+        ensures { (s : Action) (k : P Reply) (heard : Heard) → mark_at (dropping_of k self.now) heard ≡ marked_as s result }
+    {
+        match self {
+            Dropping::Free(n) => Some(Mark::Frees(*n)),
+            _ => None,
+        }
+    }
+}

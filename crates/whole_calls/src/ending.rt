@@ -1,0 +1,123 @@
+//! The end of a call with a transaction.
+ghost use Rattle.std.specs.Prelude.{◌≡◌, ℕ, List, Option, Some};
+ghost use Rattle.plain_tree.specs.declared.answer.Reply.{Reply};
+ghost use Rattle.plain_tree.specs.declared.call.Call.{Call};
+ghost use Rattle.plain_tree.specs.declared.step.Action.{Action};
+ghost use Rattle.whole_calls.specs.Asks.{asks, hears, mark_at, marked_as, op_in, reply_to, turned};
+ghost use Rattle.whole_calls.specs.Ends.{after_free, ending_of, freeing_of};
+ghost use Rattle.inode_machine.specs.Parts.{P, free_all, say, tail};
+
+use crate::asks::{Ask, Heard, Mark, Query, Turn};
+use crate::dropping::Dropping;
+use crate::numbers::Numbers;
+use plain_tree::Answer;
+
+/// An inode of the call's list is freed in a transaction of its own.
+#[derive(Clone, Copy)]
+pub enum Freeing {
+    Join(u32),
+    Take(u32),
+    Frees(Dropping),
+    Leave,
+}
+
+impl Freeing {
+    pub fn ask(&self) -> Ask
+        ensures { (path : List ℕ) (k : P Reply) → asks (freeing_of k self.now) ≡ Some (op_in path result) }
+    {
+        match self {
+            Freeing::Join(_) => Ask::Join,
+            Freeing::Take(n) => Ask::Take(*n, Query::Nothing),
+            Freeing::Frees(dropping) => dropping.ask(),
+            Freeing::Leave => Ask::Leave,
+        }
+    }
+
+    pub fn next(self, heard: &Heard) -> Option<Freeing>
+        ensures { (text : List ℕ) (k : P Reply) → hears text (freeing_of k self) heard.now ≡ after_free k result }
+    {
+        match self {
+            Freeing::Join(n) => Some(Freeing::Take(n)),
+            Freeing::Take(n) => Some(Freeing::Frees(Dropping::Free(n))),
+            Freeing::Frees(dropping) => match dropping.next(heard) {
+                Some(dropping) => Some(Freeing::Frees(dropping)),
+                None => Some(Freeing::Leave),
+            },
+            Freeing::Leave => None,
+        }
+    }
+
+    pub fn mark(&self) -> Option<Mark>
+        ensures { (s : Action) (k : P Reply) (heard : Heard) → mark_at (freeing_of k self.now) heard ≡ marked_as s result }
+    {
+        match self {
+            Freeing::Frees(dropping) => dropping.mark(),
+            _ => None,
+        }
+    }
+}
+
+/// What the call has in hand is given up; its transaction is left; the inodes of its list are freed; and it replies this.
+#[derive(Clone, Copy)]
+pub enum Ending {
+    GivesTwo(Dropping, u32, Answer),
+    Gives(Dropping, Answer),
+    Leaves(Answer),
+    Frees(Freeing, Answer),
+    Says(Answer),
+}
+
+/// The next inode of the list is freed, or the reply is given.
+fn free_next(list: &mut Numbers, answer: Answer) -> Ending
+    ensures { (call : Call) → ending_of call list.new result ≡ free_all list.old (say (reply_to call answer)) }
+{
+    match list.take_first() {
+        Some(n) => Ending::Frees(Freeing::Join(n), answer),
+        None => Ending::Says(answer),
+    }
+}
+
+impl Ending {
+    pub fn ask(&self) -> Ask
+        ensures { (path : List ℕ) (call : Call) (list : List ℕ) → asks (ending_of call list self.now) ≡ Some (op_in path result) }
+    {
+        match self {
+            Ending::GivesTwo(dropping, _, _) | Ending::Gives(dropping, _) => dropping.ask(),
+            Ending::Leaves(_) => Ask::Leave,
+            Ending::Frees(freeing, _) => freeing.ask(),
+            Ending::Says(_) => Ask::Say,
+        }
+    }
+
+    pub fn next(self, heard: &Heard, list: &mut Numbers) -> Turn<Ending, Answer>
+        ensures { (text : List ℕ) (call : Call) → hears text (ending_of call list.old self) heard.now ≡ turned (ending_of call list.new) call result }
+    {
+        match self {
+            Ending::GivesTwo(dropping, n, answer) => match dropping.next(heard) {
+                Some(dropping) => Turn::Asks(Ending::GivesTwo(dropping, n, answer)),
+                None => Turn::Asks(Ending::Gives(Dropping::Give(n), answer)),
+            },
+            Ending::Gives(dropping, answer) => match dropping.next(heard) {
+                Some(dropping) => Turn::Asks(Ending::Gives(dropping, answer)),
+                None => Turn::Asks(Ending::Leaves(answer)),
+            },
+            Ending::Leaves(answer) => Turn::Asks(free_next(list, answer)),
+            Ending::Frees(freeing, answer) => match freeing.next(heard) {
+                Some(freeing) => Turn::Asks(Ending::Frees(freeing, answer)),
+                None => Turn::Asks(free_next(list, answer)),
+            },
+            Ending::Says(answer) => Turn::Ends(answer),
+        }
+    }
+
+    pub fn mark(&self) -> Option<Mark>
+        ensures { (s : Action) (call : Call) (list : List ℕ) (heard : Heard) → mark_at (ending_of call list self.now) heard ≡ marked_as s result }
+    {
+        match self {
+            Ending::GivesTwo(dropping, _, _) => dropping.mark(),
+            Ending::Gives(dropping, _) => dropping.mark(),
+            Ending::Frees(freeing, _) => freeing.mark(),
+            _ => None,
+        }
+    }
+}

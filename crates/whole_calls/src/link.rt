@@ -1,0 +1,281 @@
+//! link: the count goes up first, and down again where the name can't be entered.
+ghost use Rattle.std.specs.Prelude.{◌≡◌, ◌≢◌, ◌≤◌, ◌+◌, ℕ, All, [], List, Option, Some, length, if◌then◌else◌};
+ghost use Rattle.plain_tree.specs.Tree.{elements};
+ghost use Rattle.plain_tree.specs.declared.call.Call.TheVariants as calls;
+ghost use Rattle.plain_tree.specs.declared.step.Action.TheVariants as steps;
+ghost use Rattle.whole_calls.specs.Asks.{asks, entered_of, face_of, hears, mark_at, marked_as, op_in, reply_to, sight_of, turned};
+ghost use Rattle.whole_calls.specs.Elements.{name_in};
+ghost use Rattle.inode_machine.specs.Inodes.{face_or};
+ghost use Rattle.whole_calls.specs.Links.{link_action, link_of, link_text, new_after, old_after, link_stage, LinkFits, LinkFitsOn, Fresh, Past, took};
+ghost use Rattle.inode_machine.specs.Naming.{bump_refused, link_at, link_found, link_program, lower, named_on};
+ghost use Rattle.inode_machine.specs.Parts.{give_up, tail};
+ghost use Rattle.whole_calls.specs.Walks.{StandsAt, most_walked, walked_to};
+ghost use Rattle.whole_calls.specs.declared.asks.Heard.{Heard};
+ghost use Rattle.whole_calls.specs.declared.link.Link.TheVariants as linking;
+ghost use Rattle.whole_calls.specs.declared.walk.Goal.TheVariants as goals;
+
+use crate::asks::{Ask, Entered, Face, Heard, Mark, Query, Sight, Turn};
+use crate::dropping::Dropping;
+use crate::elements::{Element, next_element};
+use crate::ending::Ending;
+use crate::numbers::{MOST_LISTED, Numbers};
+use crate::walk::{Goal, Walk, Walked, face_or, is_directory, is_live, stopped};
+use plain_tree::{Answer, Cause, Full};
+
+const COUNT_LIMIT: u16 = 32767;
+
+/// The number is that of what gets the name.
+#[derive(Clone, Copy)]
+pub enum Link {
+    Join,
+    WalksOld(Walk),
+    Take(u32),
+    Raise(u32, Face),
+    Give(u32),
+    WalksNew(Walk, u32),
+    Look(u32, Element, u32),
+    Enter(u32, Element, u32),
+    GiveNamed(Dropping, u32),
+    GiveFailed(Dropping, u32, Answer),
+    /// The count goes down again.
+    TakeRaised(u32, Answer),
+    Lower(u32, Face, Answer),
+    Ends(Ending),
+}
+
+fn refuse(number: u32, answer: Answer) -> Link
+    ensures program { (old new list : List ℕ) → link_of old new list result ≡ give_up number (tail list (reply_to (calls.Link old new) answer)) }
+    ensures past { link_stage result ≡ Past }
+{
+    Link::Ends(Ending::Gives(Dropping::Give(number), answer))
+}
+
+fn walked_old(walked: Walked) -> Link
+    ensures program { (old new list : List ℕ) → link_of old new list result ≡ walked_to (steps.Find old) old (old_after old new) goals.Inside list walked }
+    ensures fits { (old new list : List ℕ) → StandsAt old walked → length list + most_walked old walked + length (elements new) ≤ MOST_LISTED → LinkFits old new list (link_stage result) }
+{
+    match walked {
+        Walked::Walks(walk) => Link::WalksOld(walk),
+        Walked::Reached(number, _) => Link::Take(number),
+        Walked::Lost(why) => Link::Ends(Ending::Leaves(stopped(why))),
+    }
+}
+
+fn walked_new(walked: Walked, number: u32) -> Link
+    ensures program { (old new list : List ℕ) → link_of old new list result ≡ walked_to (steps.Enter new) new (new_after old new number) goals.Parent list walked }
+    ensures fits { (old new list : List ℕ) → StandsAt new walked → length list + most_walked new walked ≤ MOST_LISTED → LinkFits old new list (link_stage result) }
+{
+    match walked {
+        Walked::Walks(walk) => Link::WalksNew(walk, number),
+        Walked::Reached(directory, Some(element)) => Link::Look(directory, element, number),
+        Walked::Reached(_, None) => Link::TakeRaised(number, Answer::Failed(Cause::NoEntry)),
+        Walked::Lost(why) => Link::TakeRaised(number, stopped(why)),
+    }
+}
+
+/// Why a link isn't raised: there are too many.
+fn refusal(face: &Face) -> Option<Cause>
+    ensures { result ≡ bump_refused (face_of face.now) }
+{
+    if face.count < COUNT_LIMIT {
+        None
+    } else {
+        Some(Cause::TooManyLinks)
+    }
+}
+
+/// What is to get the name was taken.
+fn took(number: u32, sight: &Sight) -> Link
+    ensures program { (old new list : List ℕ) → link_of old new list result ≡ took old new number list (face_or (sight_of sight.now).face) }
+    ensures fits { (old new list : List ℕ) → length list + length (elements new) ≤ MOST_LISTED → LinkFits old new list (link_stage result) }
+{
+    let face = face_or(sight);
+    if is_directory(sight) {
+        return refuse(number, Answer::Failed(Cause::IsDirectory));
+    }
+    match refusal(&face) {
+        Some(cause) => refuse(number, Answer::Failed(cause)),
+        None => Link::Raise(number, face),
+    }
+}
+
+/// It was given up with its count raised.
+fn gave(number: u32, new: &[u8]) -> Link
+    requires { All (λ b. b ≢ 0) new.now }
+    ensures program { (text : List ℕ) (old list : List ℕ) (heard : Heard) → hears text (link_of old new.now list (linking.Give number)) heard ≡ link_of old new.now list result }
+    ensures fits { (old list : List ℕ) → length list + length (elements new.now) ≤ MOST_LISTED → LinkFits old new.now list (link_stage result) }
+{
+    match next_element(new, 0) {
+        None => Link::TakeRaised(number, Answer::Failed(Cause::NoEntry)),
+        Some(_) => Link::WalksNew(Walk::Start, number),
+    }
+}
+
+/// The directory is given up, and the count goes down again.
+fn fail(directory: u32, number: u32, answer: Answer) -> Link
+    ensures program { (old new list : List ℕ) → link_of old new list result ≡ give_up directory (lower old new number (reply_to (calls.Link old new) answer) list) }
+    ensures past { link_stage result ≡ Past }
+{
+    Link::GiveFailed(Dropping::Give(directory), number, answer)
+}
+
+/// What the directory has under the name.
+fn looked(directory: u32, element: Element, number: u32, found: Option<u32>) -> Link
+    ensures program { (old new list : List ℕ) → link_of old new list result ≡ link_found old new number directory (name_in new element) list found }
+    ensures past { link_stage result ≡ Past }
+{
+    match found {
+        Some(_) => fail(directory, number, Answer::Failed(Cause::Exists)),
+        None => Link::Enter(directory, element, number),
+    }
+}
+
+fn entered(directory: u32, number: u32, entered: Entered) -> Link
+    ensures program { (old new list : List ℕ) → link_of old new list result ≡ named_on old new number directory list (entered_of entered) }
+    ensures past { link_stage result ≡ Past }
+{
+    match entered {
+        Entered::InPlace => Link::GiveNamed(Dropping::Give(directory), number),
+        Entered::NoBlock => fail(directory, number, Answer::Full(Full::Blocks)),
+        Entered::NoSlot => fail(directory, number, Answer::Full(Full::Directory)),
+    }
+}
+
+impl Link {
+    pub fn new() -> Link
+        ensures program { (old new : List ℕ) → link_of old new [] result ≡ link_program old new }
+        ensures fresh { link_stage result ≡ Fresh }
+    {
+        Link::Join
+    }
+
+    /// Its names stand in the new path.
+    pub fn is_new(&self) -> bool
+        ensures { (old new : List ℕ) → link_text old new self.now ≡ (if result then new else old) }
+    {
+        match self {
+            Link::Join | Link::WalksOld(_) => false,
+            _ => true,
+        }
+    }
+
+    pub fn ask(&self, old: &[u8], new: &[u8]) -> Ask
+        ensures { (list : List ℕ) → asks (link_of old.now new.now list self.now) ≡ Some (op_in (link_text old.now new.now self.now) result) }
+    {
+        match self {
+            Link::Join => Ask::Join,
+            Link::WalksOld(walk) => walk.ask(old),
+            Link::Take(number) => Ask::Take(*number, Query::Nothing),
+            Link::Raise(number, face) => Ask::Store(*number, u32::from(face.count) + 1),
+            Link::Give(number) => Ask::Give(*number),
+            Link::WalksNew(walk, _) => walk.ask(new),
+            Link::Look(directory, element, _) => Ask::Take(*directory, Query::Name(*element)),
+            Link::Enter(directory, element, number) => { Ask::Enter(*directory, *element, *number) }
+            Link::GiveNamed(dropping, _) => dropping.ask(),
+            Link::GiveFailed(dropping, _, _) => dropping.ask(),
+            Link::TakeRaised(number, _) => Ask::Take(*number, Query::Nothing),
+            Link::Lower(number, face, _) => {
+                Ask::Store(*number, u32::from(face.count.saturating_sub(1)))
+            }
+            Link::Ends(ending) => ending.ask(),
+        }
+    }
+
+    pub fn next(
+        self,
+        heard: &Heard,
+        old: &[u8],
+        new: &[u8],
+        list: &mut Numbers,
+    ) -> Turn<Link, Answer>
+        requires old_nonzero { All (λ b. b ≢ 0) old.now }
+        requires new_nonzero { All (λ b. b ≢ 0) new.now }
+        requires fits { LinkFits old.now new.now list.old (link_stage self) }
+        ensures goes { (text : List ℕ) → hears text (link_of old.now new.now list.old self) heard.now ≡ turned (link_of old.now new.now list.new) (calls.Link old.now new.now) result }
+        ensures fits { LinkFitsOn old.now new.now list.new result }
+    {
+        let next = match self {
+            Link::Join => Link::WalksOld(Walk::Start),
+            Link::WalksOld(walk) => walked_old(walk.next(Goal::Inside, heard, old, list)),
+            Link::Take(number) => took(number, &heard.sight()),
+            Link::Raise(number, _) => Link::Give(number),
+            Link::Give(number) => gave(number, new),
+            Link::WalksNew(walk, number) => {
+                walked_new(walk.next(Goal::Parent, heard, new, list), number)
+            }
+            Link::Look(directory, element, number) => {
+                let sight = heard.sight();
+                if is_live(&sight) {
+                    looked(directory, element, number, sight.found)
+                } else {
+                    fail(directory, number, Answer::Failed(Cause::NoEntry))
+                }
+            }
+            Link::Enter(directory, _, number) => entered(directory, number, heard.entered()),
+            Link::GiveNamed(dropping, number) => match dropping.next(heard) {
+                Some(dropping) => Link::GiveNamed(dropping, number),
+                None => Link::Ends(Ending::Gives(Dropping::Down(number), Answer::Done)),
+            },
+            Link::GiveFailed(dropping, number, answer) => match dropping.next(heard) {
+                Some(dropping) => Link::GiveFailed(dropping, number, answer),
+                None => Link::TakeRaised(number, answer),
+            },
+            Link::TakeRaised(number, answer) => {
+                Link::Lower(number, face_or(&heard.sight()), answer)
+            }
+            Link::Lower(number, _, answer) => {
+                Link::Ends(Ending::Gives(Dropping::Give(number), answer))
+            }
+            Link::Ends(ending) => match ending.next(heard, list) {
+                Turn::Asks(ending) => Link::Ends(ending),
+                Turn::Ends(answer) => return Turn::Ends(answer),
+            },
+        };
+        Turn::Asks(next)
+    }
+
+    pub fn mark(&self, heard: &Heard, new: &[u8]) -> Option<Mark>
+        requires { All (λ b. b ≢ 0) new.now }
+        ensures { (old list : List ℕ) → mark_at (link_of old new.now list self.now) heard.now ≡ marked_as (link_action old new.now self.now) result }
+    {
+        match self {
+            Link::WalksOld(walk) => walk.mark(heard),
+            Link::Take(_) => {
+                let sight = heard.sight();
+                if is_directory(&sight) || refusal(&face_or(&sight)).is_none() {
+                    None
+                } else {
+                    Some(Mark::Bump)
+                }
+            }
+            Link::Raise(_, _) => Some(Mark::Bump),
+            Link::Give(_) => {
+                if next_element(new, 0).is_none() {
+                    Some(Mark::Begin)
+                } else {
+                    None
+                }
+            }
+            Link::WalksNew(walk, _) => walk.mark(heard),
+            Link::Look(_, _, _) => {
+                let sight = heard.sight();
+                if !is_live(&sight) {
+                    Some(Mark::Quit)
+                } else if sight.found.is_some() {
+                    Some(Mark::Look(0))
+                } else {
+                    None
+                }
+            }
+            Link::Enter(_, _, _) => match heard.entered() {
+                Entered::InPlace => Some(Mark::Look(0)),
+                _ => Some(Mark::Mends),
+            },
+            Link::GiveNamed(dropping, _) => dropping.mark(),
+            Link::GiveFailed(dropping, _, _) => dropping.mark(),
+            Link::Lower(_, _, _) => Some(Mark::Unbump),
+            Link::Ends(ending) => ending.mark(),
+            _ => None,
+        }
+    }
+}

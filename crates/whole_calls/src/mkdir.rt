@@ -1,0 +1,245 @@
+//! mkdir: the new directory with its two entries first, then its name and its parent's count.
+ghost use Rattle.std.specs.Prelude.{◌≡◌, ◌≢◌, ◌≤◌, ◌+◌, ℕ, All, [], List, Option, Some, length};
+ghost use Rattle.plain_tree.specs.Tree.{elements};
+ghost use Rattle.plain_tree.specs.declared.call.Call.TheVariants as calls;
+ghost use Rattle.plain_tree.specs.declared.step.Action.TheVariants as steps;
+ghost use Rattle.whole_calls.specs.Asks.{asks, claimed_of, entered_of, face_of, hears, mark_at, marked_as, op_in, reply_to, sight_of, turned};
+ghost use Rattle.whole_calls.specs.Calls.{Fits, FitsOn, Fresh, Past};
+ghost use Rattle.whole_calls.specs.Elements.{name_in};
+ghost use Rattle.inode_machine.specs.Inodes.{face_or};
+ghost use Rattle.whole_calls.specs.Makes.{mkdir_after, mkdir_of, mkdir_stage};
+ghost use Rattle.inode_machine.specs.Naming.{mkdir_on, mkdir_program, mkdir_refused, mkdir_with, name_directory};
+ghost use Rattle.inode_machine.specs.Parts.{give_up, tail};
+ghost use Rattle.whole_calls.specs.Walks.{StandsAt, most_walked, walked_to};
+ghost use Rattle.whole_calls.specs.declared.asks.Heard.{Heard};
+ghost use Rattle.whole_calls.specs.declared.mkdir.Mkdir.TheVariants as making;
+ghost use Rattle.whole_calls.specs.declared.walk.Goal.TheVariants as goals;
+
+use crate::asks::{Ask, Claimed, Entered, Face, Heard, Mark, Query, Sight, Sort, Turn};
+use crate::dropping::Dropping;
+use crate::elements::{Element, next_element};
+use crate::ending::Ending;
+use crate::numbers::{MOST_LISTED, Numbers};
+use crate::opens::NewName;
+use crate::walk::{Goal, Walk, Walked, face_or, is_live, stopped};
+use plain_tree::{Answer, Cause, Full};
+
+const COUNT_LIMIT: u16 = 32767;
+
+/// The face is the parent's, as it was seen.
+#[derive(Clone, Copy)]
+pub enum Mkdir {
+    Join,
+    Walks(Walk),
+    Look(u32, Element),
+    Claim(u32, Element, Face),
+    ForgetSame(u32),
+    TakeNew(NewName, Face),
+    StoreNew(NewName, Face),
+    Fill(NewName, Face),
+    Enter(NewName, Face),
+    Raise(NewName, Face),
+    Unmake(NewName, Answer),
+    Ends(Ending),
+}
+
+fn refuse(number: u32, answer: Answer) -> Mkdir
+    ensures program { (path list : List ℕ) → mkdir_of path list result ≡ give_up number (tail list (reply_to (calls.Mkdir path) answer)) }
+    ensures past { mkdir_stage result ≡ Past }
+{
+    Mkdir::Ends(Ending::Gives(Dropping::Give(number), answer))
+}
+
+fn walked(walked: Walked) -> Mkdir
+    ensures program { (path list : List ℕ) → mkdir_of path list result ≡ walked_to (steps.Mkdir path) path (mkdir_after path) goals.Parent list walked }
+    ensures fits { (path list : List ℕ) → StandsAt path walked → length list + most_walked path walked ≤ MOST_LISTED → Fits path list (mkdir_stage result) }
+{
+    match walked {
+        Walked::Walks(walk) => Mkdir::Walks(walk),
+        Walked::Reached(directory, Some(element)) => Mkdir::Look(directory, element),
+        Walked::Reached(_, None) => Mkdir::Ends(Ending::Leaves(Answer::Failed(Cause::NoEntry))),
+        Walked::Lost(why) => Mkdir::Ends(Ending::Leaves(stopped(why))),
+    }
+}
+
+fn begin(path: &[u8]) -> Mkdir
+    requires { All (λ b. b ≢ 0) path.now }
+    ensures program { (text : List ℕ) (heard : Heard) → hears text (mkdir_of path.now [] making.Join) heard ≡ mkdir_of path.now [] result }
+    ensures fits { length (elements path.now) ≤ MOST_LISTED → Fits path.now [] (mkdir_stage result) }
+{
+    match next_element(path, 0) {
+        None => Mkdir::Ends(Ending::Leaves(Answer::Failed(Cause::NoEntry))),
+        Some(_) => Mkdir::Walks(Walk::Start),
+    }
+}
+
+/// Why a directory isn't made: its name is there, or its parent has all its links.
+fn refusal(sight: &Sight) -> Option<Cause>
+    ensures { result ≡ mkdir_refused sight.now.found (face_or (sight_of sight.now).face) }
+{
+    match sight.found {
+        Some(_) => Some(Cause::Exists),
+        None => {
+            if face_or(sight).count < COUNT_LIMIT {
+                None
+            } else {
+                Some(Cause::TooManyLinks)
+            }
+        }
+    }
+}
+
+/// What the directory has under the name.
+fn looked(directory: u32, element: Element, sight: &Sight) -> Mkdir
+    ensures program { (path list : List ℕ) → mkdir_of path list result ≡
+        mkdir_on path directory (name_in path element) list (face_or (sight_of sight.now).face) (mkdir_refused sight.now.found (face_or (sight_of sight.now).face)) }
+    ensures past { mkdir_stage result ≡ Past }
+{
+    match refusal(sight) {
+        Some(cause) => refuse(directory, Answer::Failed(cause)),
+        None => Mkdir::Claim(directory, element, face_or(sight)),
+    }
+}
+
+fn claimed(directory: u32, element: Element, face: Face, claimed: Claimed) -> Mkdir
+    ensures program { (path list : List ℕ) → mkdir_of path list result ≡ mkdir_with path directory (name_in path element) list (face_of face) (claimed_of claimed) }
+    ensures past { mkdir_stage result ≡ Past }
+{
+    match claimed {
+        Claimed::NoInode => refuse(directory, Answer::Full(Full::DiskInodes)),
+        Claimed::NoPlace => refuse(directory, Answer::Full(Full::MemInodes)),
+        Claimed::New(number) if number == directory => Mkdir::ForgetSame(directory),
+        Claimed::New(number) => {
+            let name = NewName {
+                directory,
+                element,
+                number,
+            };
+            Mkdir::TakeNew(name, face)
+        }
+    }
+}
+
+fn entered(name: NewName, face: Face, entered: Entered) -> Mkdir
+    ensures program { (path list : List ℕ) → mkdir_of path list result ≡ name_directory path name.directory (face_of face) name.number list (entered_of entered) }
+    ensures past { mkdir_stage result ≡ Past }
+{
+    match entered {
+        Entered::InPlace => Mkdir::Raise(name, face),
+        Entered::NoBlock => Mkdir::Unmake(name, Answer::Full(Full::Blocks)),
+        Entered::NoSlot => Mkdir::Unmake(name, Answer::Full(Full::Directory)),
+    }
+}
+
+impl Mkdir {
+    pub fn new() -> Mkdir
+        ensures program { (path : List ℕ) → mkdir_of path [] result ≡ mkdir_program path }
+        ensures fresh { mkdir_stage result ≡ Fresh }
+    {
+        Mkdir::Join
+    }
+
+    pub fn ask(&self, path: &[u8]) -> Ask
+        ensures { (list : List ℕ) → asks (mkdir_of path.now list self.now) ≡ Some (op_in path.now result) }
+    {
+        match self {
+            Mkdir::Join => Ask::Join,
+            Mkdir::Walks(walk) => walk.ask(path),
+            Mkdir::Look(directory, element) => Ask::Take(*directory, Query::Name(*element)),
+            Mkdir::Claim(_, _, _) => Ask::Claim(Sort::Directory),
+            Mkdir::ForgetSame(number) => Ask::Forget(*number),
+            Mkdir::TakeNew(name, _) => Ask::Take(name.number, Query::Nothing),
+            Mkdir::StoreNew(name, _) => Ask::Store(name.number, 1),
+            Mkdir::Fill(name, _) => Ask::Fill(name.number, name.directory),
+            Mkdir::Enter(name, _) => Ask::Enter(name.directory, name.element, name.number),
+            Mkdir::Raise(name, face) => Ask::Store(name.directory, u32::from(face.count) + 1),
+            Mkdir::Unmake(name, _) => Ask::Store(name.number, 0),
+            Mkdir::Ends(ending) => ending.ask(),
+        }
+    }
+
+    pub fn next(self, heard: &Heard, path: &[u8], list: &mut Numbers) -> Turn<Mkdir, Answer>
+        requires nonzero { All (λ b. b ≢ 0) path.now }
+        requires fits { Fits path.now list.old (mkdir_stage self) }
+        ensures goes { (text : List ℕ) → hears text (mkdir_of path.now list.old self) heard.now ≡ turned (mkdir_of path.now list.new) (calls.Mkdir path.now) result }
+        ensures fits { FitsOn mkdir_stage path.now list.new result }
+    {
+        let next = match self {
+            Mkdir::Join => begin(path),
+            Mkdir::Walks(walk) => walked(walk.next(Goal::Parent, heard, path, list)),
+            Mkdir::Look(directory, element) => {
+                let sight = heard.sight();
+                if is_live(&sight) {
+                    looked(directory, element, &sight)
+                } else {
+                    refuse(directory, Answer::Failed(Cause::NoEntry))
+                }
+            }
+            Mkdir::Claim(directory, element, face) => {
+                claimed(directory, element, face, heard.claimed())
+            }
+            Mkdir::ForgetSame(directory) => refuse(directory, Answer::Full(Full::MemInodes)),
+            Mkdir::TakeNew(name, face) => Mkdir::StoreNew(name, face),
+            Mkdir::StoreNew(name, face) => Mkdir::Fill(name, face),
+            Mkdir::Fill(name, face) => {
+                if heard.is() {
+                    Mkdir::Enter(name, face)
+                } else {
+                    Mkdir::Unmake(name, Answer::Full(Full::Blocks))
+                }
+            }
+            Mkdir::Enter(name, face) => entered(name, face, heard.entered()),
+            Mkdir::Raise(name, _) => {
+                let dropping = Dropping::Give(name.directory);
+                Mkdir::Ends(Ending::GivesTwo(dropping, name.number, Answer::Done))
+            }
+            Mkdir::Unmake(name, answer) => {
+                let dropping = Dropping::Give(name.number);
+                Mkdir::Ends(Ending::GivesTwo(dropping, name.directory, answer))
+            }
+            Mkdir::Ends(ending) => match ending.next(heard, list) {
+                Turn::Asks(ending) => Mkdir::Ends(ending),
+                Turn::Ends(answer) => return Turn::Ends(answer),
+            },
+        };
+        Turn::Asks(next)
+    }
+
+    pub fn mark(&self, heard: &Heard, path: &[u8]) -> Option<Mark>
+        requires { All (λ b. b ≢ 0) path.now }
+        ensures { (list : List ℕ) → mark_at (mkdir_of path.now list self.now) heard.now ≡ marked_as (steps.Mkdir path.now) result }
+    {
+        match self {
+            Mkdir::Join => {
+                if next_element(path, 0).is_none() {
+                    Some(Mark::Begin)
+                } else {
+                    None
+                }
+            }
+            Mkdir::Walks(walk) => walk.mark(heard),
+            Mkdir::Look(_, _) => {
+                let sight = heard.sight();
+                if !is_live(&sight) {
+                    Some(Mark::Quit)
+                } else if refusal(&sight).is_some() {
+                    Some(Mark::Look(0))
+                } else {
+                    None
+                }
+            }
+            Mkdir::Claim(_, _, _) => match heard.claimed() {
+                Claimed::New(_) => None,
+                _ => Some(Mark::Mends),
+            },
+            Mkdir::Fill(_, _) => { if heard.is() { None } else { Some(Mark::Mends) } }
+            Mkdir::Enter(name, _) => match heard.entered() {
+                Entered::InPlace => Some(Mark::Look(name.number)),
+                _ => Some(Mark::Mends),
+            },
+            Mkdir::Unmake(name, _) => Some(Mark::Orphans(name.number)),
+            Mkdir::Ends(ending) => ending.mark(),
+            _ => None,
+        }
+    }
+}

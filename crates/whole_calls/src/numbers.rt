@@ -1,0 +1,51 @@
+//! The inodes that a call frees at its end.
+ghost use Rattle.std.specs.Prelude.{◌≡◌, ◌<◌, List, [], ◌∷◌, ◌++◌, length, MatchOption};
+
+use arrayvec::ArrayVec;
+use std::marker::Model;
+
+/// One for each element of two paths.
+pub const MOST_LISTED: usize = 128;
+
+/// Numbers of dead inodes, each of whose last reference is the call's.
+#[derive(Drop)]
+pub struct Numbers {
+    numbers: ArrayVec<u32, MOST_LISTED>,
+}
+
+impl Model for Numbers {
+    ghost use Rattle.std.specs.Prelude.{ℕ, List};
+
+    ghost Value = { List ℕ };
+
+    ghost view = { λ l. l.numbers.items };
+}
+
+impl Numbers {
+    pub fn new() -> Numbers
+        ensures { result ≡ [] }
+    {
+        Numbers {
+            numbers: ArrayVec::new(),
+        }
+    }
+
+    /// One more, behind the others.
+    pub fn push(&mut self, number: u32)
+        requires { length self.old < MOST_LISTED }
+        ensures { self.new ≡ self.old ++ number ∷ [] }
+    {
+        self.numbers.push(number);
+    }
+
+    /// Takes the first one out.
+    pub fn take_first(&mut self) -> Option<u32>
+        ensures { MatchOption result ((self.old ≡ []) × (self.new ≡ [])) (λ first. self.old ≡ first ∷ self.new) }
+    {
+        if self.numbers.is_empty() {
+            None
+        } else {
+            Some(self.numbers.remove(0))
+        }
+    }
+}

@@ -1,0 +1,392 @@
+//! open: what is there is opened, or a new file made.
+ghost use Rattle.std.specs.Prelude.{◌≡◌, ◌≢◌, ◌≤◌, ◌+◌, ℕ, All, [], List, Option, Some, length, ◌==◌};
+ghost use Rattle.plain_tree.specs.Steps.{creates, has};
+ghost use Rattle.plain_tree.specs.Tree.{elements};
+ghost use Rattle.plain_tree.specs.declared.call.Call.TheVariants as calls;
+ghost use Rattle.plain_tree.specs.declared.step.Action.TheVariants as steps;
+ghost use Rattle.whole_calls.specs.Asks.{asks, claimed_of, entered_of, face_of, hears, mark_at, marked_as, op_in, reply_to, sight_of, sort_of, turned};
+ghost use Rattle.whole_calls.specs.Calls.{Fits, FitsOn, Fresh, Past};
+ghost use Rattle.whole_calls.specs.Elements.{name_in};
+ghost use Rattle.inode_machine.specs.Inodes.{face_or, open_refusal};
+ghost use Rattle.inode_machine.specs.Opening.{create_found, empties, make_on, make_with, open_face, open_program};
+ghost use Rattle.whole_calls.specs.Opens.{installed, open_after, open_goal, open_of, open_stage};
+ghost use Rattle.inode_machine.specs.Parts.{give_up, tail};
+ghost use Rattle.whole_calls.specs.Walks.{StandsAt, most_walked, walked_to};
+ghost use Rattle.whole_calls.specs.declared.asks.Heard.{Heard};
+ghost use Rattle.whole_calls.specs.declared.opens.Open.TheVariants as opening;
+
+use crate::asks::{Ask, Claimed, Entered, Heard, Mark, Query, Sight, Sort, Turn};
+use crate::dropping::Dropping;
+use crate::elements::{Element, next_element};
+use crate::ending::Ending;
+use crate::numbers::{MOST_LISTED, Numbers};
+use crate::walk::{Goal, Walk, Walked, face_or, is_live, stopped};
+use plain_tree::{Answer, Cause, Full};
+
+const CREATE: u32 = 0x200;
+
+const EMPTY: u32 = 0x400;
+
+const DRIVERS: i16 = 10;
+
+/// An inode that is to have a descriptor.
+#[derive(Clone, Copy)]
+pub struct Found {
+    pub number: u32,
+    pub sort: Sort,
+    /// It is new.
+    pub made: bool,
+}
+
+/// A name that is to stand for a new inode.
+#[derive(Clone, Copy)]
+pub struct NewName {
+    pub directory: u32,
+    pub element: Element,
+    pub number: u32,
+}
+
+#[derive(Clone, Copy)]
+pub enum Open {
+    Join,
+    Walks(Walk),
+    /// What is there is taken.
+    Take(u32),
+    /// A place for an open file, and a descriptor for it; a file may be emptied; its lock is given up.
+    Slot(Found),
+    Install(Found),
+    Empty(u32, u32),
+    Give(u32, u32),
+    /// The name is looked up, to be made where it isn't there.
+    Look(u32, Element),
+    Up(u32, u32),
+    GiveParent(Dropping, u32),
+    Claim(u32, Element),
+    /// What was claimed is the directory itself, which was no directory then.
+    ForgetSame(u32),
+    TakeNew(NewName),
+    StoreNew(NewName, Sort),
+    Enter(NewName, Sort),
+    GiveEntered(Dropping, u32, Sort),
+    Unmake(u32, u32, Answer),
+    Ends(Ending),
+}
+
+/// The flags have this bit.
+fn has_flag(flags: u32, bit: u32) -> bool
+    ensures { result ≡ has flags bit }
+{
+    flags & bit != 0
+}
+
+fn goal(flags: u32) -> Goal
+    ensures { result ≡ open_goal flags }
+{
+    if has_flag(flags, CREATE) {
+        Goal::Parent
+    } else {
+        Goal::Inside
+    }
+}
+
+/// A file is emptied.
+fn is_emptied(flags: u32, sort: Sort) -> bool
+    ensures { result ≡ empties flags (sort_of sort) }
+{
+    match sort {
+        Sort::File => has_flag(flags, EMPTY),
+        _ => false,
+    }
+}
+
+/// Why what is of this type isn't opened.
+fn refusal(flags: u32, sort: Sort) -> Option<Cause>
+    ensures { result ≡ open_refusal (flags == 0) (sort_of sort) }
+{
+    match sort {
+        Sort::Directory => {
+            if flags == 0 {
+                None
+            } else {
+                Some(Cause::IsDirectory)
+            }
+        }
+        Sort::File => None,
+        Sort::Device(major) => {
+            if 0 <= major && major < DRIVERS {
+                None
+            } else {
+                Some(Cause::NoDriver)
+            }
+        }
+    }
+}
+
+/// Gives an inode up, and answers this.
+fn refuse(number: u32, answer: Answer) -> Open
+    ensures program { (path : List ℕ) (flags : ℕ) (list : List ℕ) → open_of path flags list result ≡ give_up number (tail list (reply_to (calls.Open path flags) answer)) }
+    ensures past { open_stage result ≡ Past }
+{
+    Open::Ends(Ending::Gives(Dropping::Give(number), answer))
+}
+
+/// After a step of the walk.
+fn walked(walked: Walked, flags: u32) -> Open
+    ensures program { (path list : List ℕ) → open_of path flags list result ≡ walked_to (steps.Open path flags) path (open_after path flags) (open_goal flags) list walked }
+    ensures fits { (path list : List ℕ) → StandsAt path walked → length list + most_walked path walked ≤ MOST_LISTED → Fits path list (open_stage result) }
+{
+    match walked {
+        Walked::Walks(walk) => Open::Walks(walk),
+        Walked::Reached(number, None) => Open::Take(number),
+        Walked::Reached(directory, Some(element)) => Open::Look(directory, element),
+        Walked::Lost(why) => Open::Ends(Ending::Leaves(stopped(why))),
+    }
+}
+
+/// A transaction is joined.
+fn begin(path: &[u8], flags: u32) -> Open
+    requires { All (λ b. b ≢ 0) path.now }
+    ensures program { (text : List ℕ) (heard : Heard) → hears text (open_of path.now flags [] opening.Join) heard ≡ open_of path.now flags [] result }
+    ensures fits { length (elements path.now) ≤ MOST_LISTED → Fits path.now [] (open_stage result) }
+{
+    if !has_flag(flags, CREATE) {
+        return Open::Walks(Walk::Start);
+    }
+    match next_element(path, 0) {
+        None => Open::Ends(Ending::Leaves(Answer::Failed(Cause::NoEntry))),
+        Some(_) => Open::Walks(Walk::Start),
+    }
+}
+
+/// What is there was taken.
+fn took(number: u32, flags: u32, sight: &Sight) -> Open
+    ensures program { (path list : List ℕ) → open_of path flags list result ≡
+        open_face path flags number list (face_or (sight_of sight.now).face).sort (open_refusal (flags == 0) (face_or (sight_of sight.now).face).sort) }
+    ensures past { open_stage result ≡ Past }
+{
+    let sort = face_or(sight).sort;
+    match refusal(flags, sort) {
+        Some(cause) => refuse(number, Answer::Failed(cause)),
+        None => Open::Slot(Found {
+            number,
+            sort,
+            made: false,
+        }),
+    }
+}
+
+/// A descriptor was wanted.
+fn installed(found: Found, flags: u32, fd: Option<u32>) -> Open
+    ensures program { (path list : List ℕ) → open_of path flags list result ≡ installed path flags list found fd }
+    ensures past { open_stage result ≡ Past }
+{
+    match fd {
+        None => refuse(found.number, Answer::Full(Full::Descriptors)),
+        Some(fd) => {
+            if !found.made && is_emptied(flags, found.sort) {
+                Open::Empty(found.number, fd)
+            } else {
+                Open::Give(found.number, fd)
+            }
+        }
+    }
+}
+
+/// What the directory has under the name.
+fn looked(directory: u32, element: Element, number: Option<u32>) -> Open
+    ensures program { (path : List ℕ) (flags : ℕ) (list : List ℕ) → open_of path flags list result ≡ create_found path flags directory (name_in path element) list number }
+    ensures past { open_stage result ≡ Past }
+{
+    match number {
+        None => Open::Claim(directory, element),
+        Some(number) => Open::Up(directory, number),
+    }
+}
+
+/// A new inode was wanted.
+fn claimed(directory: u32, element: Element, claimed: Claimed) -> Open
+    ensures program { (path : List ℕ) (flags : ℕ) (list : List ℕ) → open_of path flags list result ≡ make_with path flags directory (name_in path element) list (claimed_of claimed) }
+    ensures past { open_stage result ≡ Past }
+{
+    match claimed {
+        Claimed::NoInode => refuse(directory, Answer::Full(Full::DiskInodes)),
+        Claimed::NoPlace => refuse(directory, Answer::Full(Full::MemInodes)),
+        Claimed::New(number) if number == directory => Open::ForgetSame(directory),
+        Claimed::New(number) => Open::TakeNew(NewName {
+            directory,
+            element,
+            number,
+        }),
+    }
+}
+
+/// The name was to be entered.
+fn entered(name: NewName, sort: Sort, entered: Entered) -> Open
+    ensures program { (path : List ℕ) (flags : ℕ) (list : List ℕ) → open_of path flags list result ≡ make_on path flags name.number (sort_of sort) name.directory list (entered_of entered) }
+    ensures past { open_stage result ≡ Past }
+{
+    match entered {
+        Entered::InPlace => { Open::GiveEntered(Dropping::Give(name.directory), name.number, sort) }
+        Entered::NoBlock => {
+            Open::Unmake(name.number, name.directory, Answer::Full(Full::Blocks))
+        }
+        Entered::NoSlot => {
+            Open::Unmake(name.number, name.directory, Answer::Full(Full::Directory))
+        }
+    }
+}
+
+impl Open {
+    pub fn new() -> Open
+        ensures program { (path : List ℕ) (flags : ℕ) → open_of path flags [] result ≡ open_program path flags }
+        ensures fresh { open_stage result ≡ Fresh }
+    {
+        Open::Join
+    }
+
+    pub fn ask(&self, path: &[u8], flags: u32) -> Ask
+        ensures { (list : List ℕ) → asks (open_of path.now flags list self.now) ≡ Some (op_in path.now result) }
+    {
+        match self {
+            Open::Join => Ask::Join,
+            Open::Walks(walk) => walk.ask(path),
+            Open::Take(number) => Ask::Take(*number, Query::Nothing),
+            Open::Slot(_) => Ask::Slot,
+            Open::Install(found) => Ask::Install(found.number, flags, found.sort),
+            Open::Empty(number, _) => Ask::Empty(*number),
+            Open::Give(number, _) => Ask::Give(*number),
+            Open::Look(directory, element) => Ask::Take(*directory, Query::Name(*element)),
+            Open::Up(_, number) => Ask::Up(*number),
+            Open::GiveParent(dropping, _) => dropping.ask(),
+            Open::Claim(_, _) => Ask::Claim(Sort::File),
+            Open::ForgetSame(number) => Ask::Forget(*number),
+            Open::TakeNew(name) => Ask::Take(name.number, Query::Nothing),
+            Open::StoreNew(name, _) => Ask::Store(name.number, 1),
+            Open::Enter(name, _) => Ask::Enter(name.directory, name.element, name.number),
+            Open::GiveEntered(dropping, _, _) => dropping.ask(),
+            Open::Unmake(number, _, _) => Ask::Store(*number, 0),
+            Open::Ends(ending) => ending.ask(),
+        }
+    }
+
+    pub fn next(
+        self,
+        heard: &Heard,
+        path: &[u8],
+        flags: u32,
+        list: &mut Numbers,
+    ) -> Turn<Open, Answer>
+        requires nonzero { All (λ b. b ≢ 0) path.now }
+        requires fits { Fits path.now list.old (open_stage self) }
+        ensures goes { (text : List ℕ) → hears text (open_of path.now flags list.old self) heard.now ≡ turned (open_of path.now flags list.new) (calls.Open path.now flags) result }
+        ensures fits { FitsOn open_stage path.now list.new result }
+    {
+        let next = match self {
+            Open::Join => begin(path, flags),
+            Open::Walks(walk) => walked(walk.next(goal(flags), heard, path, list), flags),
+            Open::Take(number) => took(number, flags, &heard.sight()),
+            Open::Slot(found) => {
+                if heard.is() {
+                    Open::Install(found)
+                } else {
+                    refuse(found.number, Answer::Full(Full::OpenFiles))
+                }
+            }
+            Open::Install(found) => installed(found, flags, heard.start()),
+            Open::Empty(number, fd) => Open::Give(number, fd),
+            Open::Give(_, fd) => Open::Ends(Ending::Leaves(Answer::Fd(fd))),
+            Open::Look(directory, element) => {
+                let sight = heard.sight();
+                if is_live(&sight) {
+                    looked(directory, element, sight.found)
+                } else {
+                    refuse(directory, Answer::Failed(Cause::NoEntry))
+                }
+            }
+            Open::Up(directory, number) => {
+                if heard.is() {
+                    Open::GiveParent(Dropping::Give(directory), number)
+                } else {
+                    refuse(directory, Answer::Full(Full::MemInodes))
+                }
+            }
+            Open::GiveParent(dropping, number) => match dropping.next(heard) {
+                Some(dropping) => Open::GiveParent(dropping, number),
+                None => Open::Take(number),
+            },
+            Open::Claim(directory, element) => claimed(directory, element, heard.claimed()),
+            Open::ForgetSame(directory) => refuse(directory, Answer::Full(Full::MemInodes)),
+            Open::TakeNew(name) => Open::StoreNew(name, face_or(&heard.sight()).sort),
+            Open::StoreNew(name, sort) => Open::Enter(name, sort),
+            Open::Enter(name, sort) => entered(name, sort, heard.entered()),
+            Open::GiveEntered(dropping, number, sort) => match dropping.next(heard) {
+                Some(dropping) => Open::GiveEntered(dropping, number, sort),
+                None => Open::Slot(Found {
+                    number,
+                    sort,
+                    made: true,
+                }),
+            },
+            Open::Unmake(number, directory, answer) => {
+                Open::Ends(Ending::GivesTwo(Dropping::Give(number), directory, answer))
+            }
+            Open::Ends(ending) => match ending.next(heard, list) {
+                Turn::Asks(ending) => Open::Ends(ending),
+                Turn::Ends(answer) => return Turn::Ends(answer),
+            },
+        };
+        Turn::Asks(next)
+    }
+
+    /// The move that is made here, if one is.
+    pub fn mark(&self, heard: &Heard, path: &[u8], flags: u32) -> Option<Mark>
+        requires { All (λ b. b ≢ 0) path.now }
+        ensures { (list : List ℕ) → mark_at (open_of path.now flags list self.now) heard.now ≡ marked_as (steps.Open path.now flags) result }
+    {
+        match self {
+            Open::Join => {
+                if has_flag(flags, CREATE) && next_element(path, 0).is_none() {
+                    Some(Mark::Begin)
+                } else {
+                    None
+                }
+            }
+            Open::Walks(walk) => walk.mark(heard),
+            Open::Slot(_) | Open::Up(_, _) => { if heard.is() { None } else { Some(Mark::Mends) } }
+            Open::Install(found) => match heard.start() {
+                None => Some(Mark::Mends),
+                Some(fd) => {
+                    if found.made && has_flag(flags, EMPTY) {
+                        Some(Mark::Truncate(fd))
+                    } else {
+                        None
+                    }
+                }
+            },
+            Open::Empty(_, fd) => Some(Mark::Truncate(*fd)),
+            Open::Look(_, _) => {
+                let sight = heard.sight();
+                if !is_live(&sight) {
+                    Some(Mark::Quit)
+                } else if sight.found.is_some() {
+                    Some(Mark::Look(0))
+                } else {
+                    None
+                }
+            }
+            Open::GiveParent(dropping, _) => dropping.mark(),
+            Open::Claim(_, _) => match heard.claimed() {
+                Claimed::New(_) => None,
+                _ => Some(Mark::Mends),
+            },
+            Open::Enter(name, _) => match heard.entered() {
+                Entered::InPlace => Some(Mark::Look(name.number)),
+                _ => Some(Mark::Mends),
+            },
+            Open::GiveEntered(dropping, _, _) => dropping.mark(),
+            Open::Unmake(number, _, _) => Some(Mark::Orphans(*number)),
+            Open::Ends(ending) => ending.mark(),
+            _ => None,
+        }
+    }
+}

@@ -1,0 +1,68 @@
+//! read: the inode is locked, then a part read, and the offset moves; or the descriptor isn't for that.
+ghost use Rattle.std.specs.Prelude.{◌≡◌, ◌≤◌, ◌<◌, ◌^◌, ℕ, [], List, Option, Some, length};
+ghost use Rattle.plain_tree.specs.declared.call.Call.TheVariants as calls;
+ghost use Rattle.plain_tree.specs.declared.step.Action.TheVariants as steps;
+ghost use Rattle.whole_calls.specs.Asks.{asks, hears, mark_at, marked_as, op_in, turned, count_in};
+ghost use Rattle.inode_machine.specs.Descriptors.{read_program};
+ghost use Rattle.whole_calls.specs.Reads.{FilledFrom, ReadFits, ReadFitsOn, read_of};
+
+use crate::asks::{Ask, Heard, Locked, Mark, Turn};
+use plain_tree::Answer;
+
+#[derive(Clone, Copy)]
+pub enum Read {
+    Lock,
+    Part(u32, u64),
+    /// So many bytes stand at the front of the buffer.
+    Says(usize),
+}
+
+impl Read {
+    pub fn new() -> Read
+        ensures program { (fd : ℕ) (buffer : List ℕ) → read_of fd buffer result ≡ read_program fd buffer }
+        ensures fits { (buffer : List ℕ) → ReadFits buffer result }
+    {
+        Read::Lock
+    }
+
+    pub fn ask(&self, fd: u32, buffer: &[u8]) -> Ask
+        ensures { (text : List ℕ) → asks (read_of fd buffer.now self.now) ≡ Some (op_in text result) }
+    {
+        match self {
+            Read::Lock => Ask::LockFile(fd),
+            Read::Part(number, offset) => Ask::ReadFile(fd, *number, *offset, buffer.len()),
+            Read::Says(_) => Ask::Say,
+        }
+    }
+
+    /// The buffer has what was read.
+    pub fn next(self, heard: &Heard, buffer: &[u8]) -> Turn<Read, Answer>
+        requires short { length buffer.now < 2 ^ 31 }
+        requires fits { ReadFits buffer.now self }
+        requires count { count_in heard.now ≤ length buffer.now }
+        ensures goes { (fd : ℕ) (old : List ℕ) → FilledFrom old buffer.now self heard.now → hears buffer.now (read_of fd old self) heard.now ≡ turned (read_of fd buffer.now) (calls.Read fd buffer.now) result }
+        ensures fits { ReadFitsOn buffer.now result }
+    {
+        match self {
+            Read::Lock => match heard.locked() {
+                Locked::Refused(cause) => Turn::Ends(Answer::Failed(cause)),
+                Locked::Locks(number, offset) => Turn::Asks(Read::Part(number, offset)),
+            },
+            Read::Part(_, _) => Turn::Asks(Read::Says(heard.count())),
+            Read::Says(count) => Turn::Ends(Answer::Count(count as u32)),
+        }
+    }
+
+    pub fn mark(&self, heard: &Heard) -> Option<Mark>
+        ensures { (fd : ℕ) (buffer : List ℕ) → mark_at (read_of fd buffer self.now) heard.now ≡ marked_as (steps.Read fd (length buffer)) result }
+    {
+        match self {
+            Read::Lock => match heard.locked() {
+                Locked::Refused(_) => Some(Mark::Own),
+                Locked::Locks(_, _) => None,
+            },
+            Read::Part(_, _) => Some(Mark::Own),
+            Read::Says(_) => None,
+        }
+    }
+}

@@ -1,0 +1,273 @@
+//! unlink: a name removed.
+ghost use Rattle.std.specs.Prelude.{◌≡◌, ◌≢◌, ◌≤◌, ◌+◌, ℕ, All, [], List, Option, Some, length};
+ghost use Rattle.plain_tree.specs.declared.call.Call.TheVariants as calls;
+ghost use Rattle.plain_tree.specs.declared.step.Action.TheVariants as steps;
+ghost use Rattle.whole_calls.specs.Asks.{asks, face_of, hears, mark_at, marked_as, op_in, turned, reply_to, sight_of};
+ghost use Rattle.whole_calls.specs.Calls.{Fits, FitsOn, Fresh, Past, unlink_stage, cleared, gave_parent, is_dots, unlink_after, unlink_of};
+ghost use Rattle.inode_machine.specs.Inodes.{is_directory_sort, face_or};
+ghost use Rattle.inode_machine.specs.Naming.{unlink_program, unlink_found};
+ghost use Rattle.whole_calls.specs.Walks.{StandsAt, most_walked, walked_to};
+ghost use Rattle.whole_calls.specs.declared.walk.Goal.TheVariants as goals;
+ghost use Rattle.inode_machine.specs.Parts.{give_up, tail};
+ghost use Rattle.whole_calls.specs.Elements.{name_in};
+ghost use Rattle.plain_tree.specs.Tree.{elements};
+ghost use Rattle.whole_calls.specs.declared.unlink.Unlink.TheVariants as unlinking;
+
+use crate::asks::{Ask, Face, Heard, Mark, Query, Sight, Sort, Turn};
+use crate::dropping::Dropping;
+use crate::elements::{Element, next_element};
+use crate::ending::Ending;
+use crate::numbers::{MOST_LISTED, Numbers};
+use crate::walk::{Goal, Walk, Walked, face_or, is_live, stopped};
+use plain_tree::{Answer, Cause, Full};
+
+/// A name in its directory, of which this is seen.
+#[derive(Clone, Copy)]
+pub struct Name {
+    pub directory: u32,
+    pub element: Element,
+    pub face: Face,
+}
+
+/// The name goes, then the counts of its directory and of what it named.
+#[derive(Clone, Copy)]
+pub enum Unlink {
+    Join,
+    Walks(Walk),
+    /// "." and ".." stay.
+    Dots(u32),
+    /// The name is looked up.
+    Look(u32, Element),
+    /// What it names is referred to ..
+    Up(Name, u32),
+    /// .. and taken. A directory with entries stays.
+    Take(Name, u32),
+    Clear(Name, u32, Face),
+    LowerParent(Name, u32, Face),
+    GiveParent(Dropping, u32, Face),
+    Lower(u32, Face),
+    Ends(Ending),
+}
+
+/// Gives the directory up, and answers this.
+fn refuse(directory: u32, answer: Answer) -> Unlink
+    ensures program { (path list : List ℕ) → unlink_of path list result ≡ give_up directory (tail list (reply_to (calls.Unlink path) answer)) }
+    ensures past { unlink_stage result ≡ Past }
+{
+    Unlink::Ends(Ending::Gives(Dropping::Give(directory), answer))
+}
+
+fn is_directory(face: &Face) -> bool
+    ensures { result ≡ is_directory_sort (face_of face.now).sort }
+{
+    match face.sort {
+        Sort::Directory => true,
+        _ => false,
+    }
+}
+
+/// "." or "..".
+fn is_dots(name: &[u8]) -> bool
+    ensures { result ≡ is_dots name.now }
+{
+    let len = name.len();
+    if len == 1 {
+        return name[0] == b'.';
+    }
+    if len == 2 {
+        return name[0] == b'.' && name[1] == b'.';
+    }
+    false
+}
+
+/// After a step of the walk.
+fn walked(walked: Walked, path: &[u8]) -> Unlink
+    requires stands { StandsAt path.now walked }
+    ensures program { (list : List ℕ) → unlink_of path.now list result ≡ walked_to (steps.Unlink path.now) path.now (unlink_after path.now) goals.Parent list walked }
+    ensures fits { (list : List ℕ) → length list + most_walked path.now walked ≤ MOST_LISTED → Fits path.now list (unlink_stage result) }
+{
+    match walked {
+        Walked::Walks(walk) => Unlink::Walks(walk),
+        Walked::Reached(directory, Some(element)) => {
+            if is_dots(&path[element.start..element.end]) {
+                Unlink::Dots(directory)
+            } else {
+                Unlink::Look(directory, element)
+            }
+        }
+        Walked::Reached(_, None) => Unlink::Ends(Ending::Leaves(Answer::Failed(Cause::NoEntry))),
+        Walked::Lost(why) => Unlink::Ends(Ending::Leaves(stopped(why))),
+    }
+}
+
+/// Once the name is gone.
+fn cleared(name: Name, number: u32, face: Face) -> Unlink
+    ensures program { (path list : List ℕ) → unlink_of path list result ≡ cleared path name.directory list (face_of name.face) number (face_of face) }
+    ensures past { unlink_stage result ≡ Past }
+{
+    if is_directory(&face) {
+        Unlink::LowerParent(name, number, face)
+    } else {
+        Unlink::GiveParent(Dropping::Give(name.directory), number, face)
+    }
+}
+
+impl Unlink {
+    pub fn new() -> Unlink
+        ensures program { (path : List ℕ) → unlink_of path [] result ≡ unlink_program path }
+        ensures fresh { unlink_stage result ≡ Fresh }
+    {
+        Unlink::Join
+    }
+
+    pub fn ask(&self, path: &[u8]) -> Ask
+        ensures { (list : List ℕ) → asks (unlink_of path.now list self.now) ≡ Some (op_in path.now result) }
+    {
+        match self {
+            Unlink::Join => Ask::Join,
+            Unlink::Walks(walk) => walk.ask(path),
+            Unlink::Dots(directory) => Ask::Take(*directory, Query::Nothing),
+            Unlink::Look(directory, element) => Ask::Take(*directory, Query::Name(*element)),
+            Unlink::Up(_, number) => Ask::Up(*number),
+            Unlink::Take(_, number) => Ask::Take(*number, Query::Entries),
+            Unlink::Clear(name, _, _) => Ask::Clear(name.directory, name.element),
+            Unlink::LowerParent(name, _, _) => {
+                Ask::Store(name.directory, u32::from(name.face.count.saturating_sub(1)))
+            }
+            Unlink::GiveParent(dropping, _, _) => dropping.ask(),
+            Unlink::Lower(number, face) => Ask::Store(
+                *number,
+                u32::from(face.count.saturating_sub(1)),
+            ),
+            Unlink::Ends(ending) => ending.ask(),
+        }
+    }
+
+    pub fn next(self, heard: &Heard, path: &[u8], list: &mut Numbers) -> Turn<Unlink, Answer>
+        requires nonzero { All (λ b. b ≢ 0) path.now }
+        requires fits { Fits path.now list.old (unlink_stage self) }
+        ensures goes { (text : List ℕ) → hears text (unlink_of path.now list.old self) heard.now ≡ turned (unlink_of path.now list.new) (calls.Unlink path.now) result }
+        ensures fits { FitsOn unlink_stage path.now list.new result }
+    {
+        let next = match self {
+            Unlink::Join => begin(path),
+            Unlink::Walks(walk) => walked(walk.next(Goal::Parent, heard, path, list), path),
+            Unlink::Dots(directory) => {
+                if is_live(&heard.sight()) {
+                    refuse(directory, Answer::Failed(Cause::DotName))
+                } else {
+                    refuse(directory, Answer::Failed(Cause::NoEntry))
+                }
+            }
+            Unlink::Look(directory, element) => found(directory, element, &heard.sight()),
+            Unlink::Up(name, number) => {
+                if heard.is() {
+                    Unlink::Take(name, number)
+                } else {
+                    refuse(name.directory, Answer::Full(Full::MemInodes))
+                }
+            }
+            Unlink::Take(name, number) => {
+                if heard.sight().empty {
+                    Unlink::Clear(name, number, face_or(&heard.sight()))
+                } else {
+                    let answer = Answer::Failed(Cause::NotEmpty);
+                    Unlink::Ends(Ending::GivesTwo(Dropping::Give(number), name.directory, answer))
+                }
+            }
+            Unlink::Clear(name, number, face) => cleared(name, number, face),
+            Unlink::LowerParent(name, number, face) => {
+                Unlink::GiveParent(Dropping::Give(name.directory), number, face)
+            }
+            Unlink::GiveParent(dropping, number, face) => match dropping.next(heard) {
+                Some(dropping) => Unlink::GiveParent(dropping, number, face),
+                None => Unlink::Lower(number, face),
+            },
+            Unlink::Lower(number, _) => {
+                Unlink::Ends(Ending::Gives(Dropping::Give(number), Answer::Done))
+            }
+            Unlink::Ends(ending) => match ending.next(heard, list) {
+                Turn::Asks(ending) => Unlink::Ends(ending),
+                Turn::Ends(answer) => return Turn::Ends(answer),
+            },
+        };
+        Turn::Asks(next)
+    }
+
+    /// The move that is made here, if one is.
+    pub fn mark(&self, heard: &Heard, path: &[u8]) -> Option<Mark>
+        requires { All (λ b. b ≢ 0) path.now }
+        ensures { (list : List ℕ) → mark_at (unlink_of path.now list self.now) heard.now ≡ marked_as (steps.Unlink path.now) result }
+    {
+        match self {
+            Unlink::Join => {
+                if next_element(path, 0).is_none() {
+                    Some(Mark::Begin)
+                } else {
+                    None
+                }
+            }
+            Unlink::Walks(walk) => walk.mark(heard),
+            Unlink::Dots(_) => {
+                if is_live(&heard.sight()) {
+                    Some(Mark::Look(0))
+                } else {
+                    Some(Mark::Quit)
+                }
+            }
+            Unlink::Look(_, _) => {
+                let sight = heard.sight();
+                if !is_live(&sight) {
+                    Some(Mark::Quit)
+                } else if sight.found.is_none() {
+                    Some(Mark::Look(0))
+                } else {
+                    None
+                }
+            }
+            Unlink::Up(_, _) => { if heard.is() { None } else { Some(Mark::Mends) } }
+            Unlink::Take(_, _) => {
+                if heard.sight().empty {
+                    None
+                } else {
+                    Some(Mark::Look(0))
+                }
+            }
+            Unlink::Clear(_, _, _) => Some(Mark::Look(0)),
+            Unlink::GiveParent(dropping, _, _) => dropping.mark(),
+            Unlink::Ends(ending) => ending.mark(),
+            _ => None,
+        }
+    }
+}
+
+/// A transaction is joined.
+fn begin(path: &[u8]) -> Unlink
+    requires { All (λ b. b ≢ 0) path.now }
+    ensures program { (text : List ℕ) (heard : Heard) → hears text (unlink_of path.now [] unlinking.Join) heard ≡ unlink_of path.now [] result }
+    ensures fits { length (elements path.now) ≤ MOST_LISTED → Fits path.now [] (unlink_stage result) }
+{
+    match next_element(path, 0) {
+        None => Unlink::Ends(Ending::Leaves(Answer::Failed(Cause::NoEntry))),
+        Some(_) => Unlink::Walks(Walk::Start),
+    }
+}
+
+/// What the directory has under the name.
+fn found(directory: u32, element: Element, sight: &Sight) -> Unlink
+    ensures program { (path list : List ℕ) → unlink_of path list result ≡ unlink_found path directory (name_in path element) list (face_or (sight_of sight.now).face) sight.now.found }
+    ensures past { unlink_stage result ≡ Past }
+{
+    match sight.found {
+        None => refuse(directory, Answer::Failed(Cause::NoEntry)),
+        Some(number) if number == directory => { refuse(directory, Answer::Failed(Cause::NoEntry)) }
+        Some(number) => {
+            let name = Name {
+                directory,
+                element,
+                face: face_or(sight),
+            };
+            Unlink::Up(name, number)
+        }
+    }
+}

@@ -1,0 +1,234 @@
+//! A call under way over whole inodes, whichever it is.
+ghost use Rattle.std.specs.Prelude.{◌≡◌, ◌≤◌, ℕ, [], List, Option, Some, length};
+ghost use Rattle.plain_tree.specs.declared.call.Call.{Call};
+ghost use Rattle.whole_calls.specs.Asks.{asks, count_in, hears, mark_at, marked_as, op_in, reply_to};
+ghost use Rattle.inode_machine.specs.Programs.{program};
+ghost use Rattle.whole_calls.specs.Wholes.{HasRoomFor, IsCall, WholeFits, action_in, call_in, text_in, went_to, whole_of};
+
+use crate::asks::{Ask, Heard, Mark, Turn};
+use crate::chdir::Chdir;
+use crate::close::{Close, Inherit};
+use crate::descriptors::{Dup, Fstat};
+use crate::link::Link;
+use crate::mkdir::Mkdir;
+use crate::numbers::Numbers;
+use crate::opens::Open;
+use crate::reading::Read;
+use crate::unlink::Unlink;
+use crate::writing::Write;
+use plain_tree::{Answer, Bytes, Call, Reply};
+
+/// A call with what it has come to.
+#[derive(Drop)]
+pub enum Whole {
+    Open { path: Bytes, flags: u32, at: Open },
+    Read { fd: u32, buf: Bytes, at: Read },
+    Write { fd: u32, bytes: Bytes, at: Write },
+    Link { old: Bytes, new: Bytes, at: Link },
+    Unlink { path: Bytes, at: Unlink },
+    Mkdir { path: Bytes, at: Mkdir },
+    Chdir { path: Bytes, at: Chdir },
+    Dup { fd: u32, at: Dup },
+    Fstat { fd: u32, at: Fstat },
+    Close { fd: u32, at: Close },
+    Inherit { child: u8, at: Inherit },
+}
+
+impl Whole {
+    pub fn new(call: Call) -> Whole
+        requires { IsCall call }
+        ensures program { whole_of [] result ≡ program call }
+        ensures call { call_in result ≡ call }
+        ensures fits { WholeFits [] result }
+    {
+        match call {
+            Call::Open { path, flags } => {
+                let at = Open::new();
+                Whole::Open { path, flags, at }
+            }
+            Call::Read { fd, buf } => {
+                let at = Read::new();
+                Whole::Read { fd, buf, at }
+            }
+            Call::Write { fd, bytes } => {
+                let at = Write::new(bytes.as_slice());
+                Whole::Write { fd, bytes, at }
+            }
+            Call::Link { old, new } => {
+                let at = Link::new();
+                Whole::Link { old, new, at }
+            }
+            Call::Unlink { path } => {
+                let at = Unlink::new();
+                Whole::Unlink { path, at }
+            }
+            Call::Mkdir { path } => {
+                let at = Mkdir::new();
+                Whole::Mkdir { path, at }
+            }
+            Call::Chdir { path } => {
+                let at = Chdir::new();
+                Whole::Chdir { path, at }
+            }
+            Call::Dup { fd } => {
+                let at = Dup::new();
+                Whole::Dup { fd, at }
+            }
+            Call::Fstat { fd } => {
+                let at = Fstat::new();
+                Whole::Fstat { fd, at }
+            }
+            Call::Close { fd } => {
+                let at = Close::new();
+                Whole::Close { fd, at }
+            }
+            Call::Inherit { child } => {
+                let at = Inherit::new();
+                Whole::Inherit { child, at }
+            }
+        }
+    }
+
+    /// The next operation. Its names stand in the call's path, its pieces in its bytes.
+    pub fn ask(&self) -> Ask
+        ensures { (list : List ℕ) → asks (whole_of list self.now) ≡ Some (op_in (text_in self.now) result) }
+    {
+        match self {
+            Whole::Open { path, flags, at } => at.ask(path.as_slice(), *flags),
+            Whole::Read { fd, buf, at } => at.ask(*fd, buf.as_slice()),
+            Whole::Write { fd, bytes, at } => at.ask(*fd, bytes.as_slice()),
+            Whole::Link { old, new, at } => at.ask(old.as_slice(), new.as_slice()),
+            Whole::Unlink { path, at } => at.ask(path.as_slice()),
+            Whole::Mkdir { path, at } => at.ask(path.as_slice()),
+            Whole::Chdir { path, at } => at.ask(path.as_slice()),
+            Whole::Dup { fd, at } => at.ask(*fd),
+            Whole::Fstat { fd, at } => at.ask(*fd),
+            Whole::Close { fd, at } => at.ask(*fd),
+            Whole::Inherit { child, at } => at.ask(*child),
+        }
+    }
+
+    /// Goes on with what it hears; or it has ended with this answer.
+    pub fn next(&mut self, heard: &Heard, list: &mut Numbers) -> Option<Answer>
+        requires fits { WholeFits list.old self.old }
+        requires count { HasRoomFor heard.now self.old }
+        ensures goes { hears (text_in self.old) (whole_of list.old self.old) heard.now ≡ went_to list.new self.new result }
+        ensures call { call_in self.new ≡ call_in self.old }
+        ensures fits { result ≡ None → WholeFits list.new self.new }
+    {
+        match self {
+            Whole::Open { path, flags, at } => match at.next(heard, path.as_slice(), *flags, list) {
+                Turn::Asks(next) => *at = next,
+                Turn::Ends(answer) => return Some(answer),
+            },
+            Whole::Read { fd, buf, at } => match at.next(heard, buf.as_slice()) {
+                Turn::Asks(next) => *at = next,
+                Turn::Ends(answer) => return Some(answer),
+            },
+            Whole::Write { fd, bytes, at } => match at.next(heard, bytes.as_slice()) {
+                Turn::Asks(next) => *at = next,
+                Turn::Ends(answer) => return Some(answer),
+            },
+            Whole::Link { old, new, at } => match at.next(
+                heard,
+                old.as_slice(),
+                new.as_slice(),
+                list,
+            ) {
+                Turn::Asks(next) => *at = next,
+                Turn::Ends(answer) => return Some(answer),
+            },
+            Whole::Unlink { path, at } => match at.next(heard, path.as_slice(), list) {
+                Turn::Asks(next) => *at = next,
+                Turn::Ends(answer) => return Some(answer),
+            },
+            Whole::Mkdir { path, at } => match at.next(heard, path.as_slice(), list) {
+                Turn::Asks(next) => *at = next,
+                Turn::Ends(answer) => return Some(answer),
+            },
+            Whole::Chdir { path, at } => match at.next(heard, path.as_slice(), list) {
+                Turn::Asks(next) => *at = next,
+                Turn::Ends(answer) => return Some(answer),
+            },
+            Whole::Dup { fd, at } => match at.next(heard) {
+                Turn::Asks(next) => *at = next,
+                Turn::Ends(answer) => return Some(answer),
+            },
+            Whole::Fstat { fd, at } => match at.next(heard) {
+                Turn::Asks(next) => *at = next,
+                Turn::Ends(answer) => return Some(answer),
+            },
+            Whole::Close { fd, at } => match at.next(heard) {
+                Turn::Asks(next) => *at = next,
+                Turn::Ends(answer) => return Some(answer),
+            },
+            Whole::Inherit { child, at } => match at.next(heard) {
+                Turn::Asks(next) => *at = next,
+                Turn::Ends(answer) => return Some(answer),
+            },
+        }
+        None
+    }
+
+    /// The move of the tree that is made as its operation acts with this answer, if one is.
+    pub fn mark(&self, heard: &Heard) -> Option<Mark>
+        requires { (list : List ℕ) × WholeFits list self.now }
+        ensures { (list : List ℕ) → mark_at (whole_of list self.now) heard.now ≡ marked_as (action_in self.now) result }
+    {
+        match self {
+            Whole::Open { path, flags, at } => at.mark(heard, path.as_slice(), *flags),
+            Whole::Read { fd, buf, at } => at.mark(heard),
+            Whole::Write { fd, bytes, at } => at.mark(heard, bytes.as_slice()),
+            Whole::Link { old, new, at } => at.mark(heard, new.as_slice()),
+            Whole::Unlink { path, at } => at.mark(heard, path.as_slice()),
+            Whole::Mkdir { path, at } => at.mark(heard, path.as_slice()),
+            Whole::Chdir { path, at } => at.mark(heard),
+            Whole::Dup { fd, at } => at.mark(heard),
+            Whole::Fstat { fd, at } => at.mark(),
+            Whole::Close { fd, at } => at.mark(),
+            Whole::Inherit { child, at } => at.mark(heard),
+        }
+    }
+
+    /// The path in which its names stand, or its bytes.
+    pub fn text(&self) -> &[u8]
+        ensures { result.now ≡ text_in self.now }
+    {
+        match self {
+            Whole::Open { path, .. } => path.as_slice(),
+            Whole::Read { buf, .. } => buf.as_slice(),
+            Whole::Write { bytes, .. } => bytes.as_slice(),
+            Whole::Link { old, new, at } => {
+                if at.is_new() {
+                    new.as_slice()
+                } else {
+                    old.as_slice()
+                }
+            }
+            Whole::Unlink { path, .. } => path.as_slice(),
+            Whole::Mkdir { path, .. } => path.as_slice(),
+            Whole::Chdir { path, .. } => path.as_slice(),
+            _ => &[],
+        }
+    }
+
+    /// The call handed back.
+    pub fn reply(self, answer: Answer) -> Reply
+        ensures { result ≡ reply_to (call_in self) answer }
+    {
+        let call = match self {
+            Whole::Open { path, flags, at: _ } => Call::Open { path, flags },
+            Whole::Read { fd, buf, at: _ } => Call::Read { fd, buf },
+            Whole::Write { fd, bytes, at: _ } => Call::Write { fd, bytes },
+            Whole::Link { old, new, at: _ } => Call::Link { old, new },
+            Whole::Unlink { path, at: _ } => Call::Unlink { path },
+            Whole::Mkdir { path, at: _ } => Call::Mkdir { path },
+            Whole::Chdir { path, at: _ } => Call::Chdir { path },
+            Whole::Dup { fd, at: _ } => Call::Dup { fd },
+            Whole::Fstat { fd, at: _ } => Call::Fstat { fd },
+            Whole::Close { fd, at: _ } => Call::Close { fd },
+            Whole::Inherit { child, at: _ } => Call::Inherit { child },
+        };
+        Reply { answer, call }
+    }
+}

@@ -1,0 +1,162 @@
+//! write: each piece in a transaction of its own; the first that is refused, or finds no block, ends the call.
+ghost use Rattle.std.specs.Prelude.{◌≡◌, ◌≢◌, ◌+◌, ◌<◌, ◌^◌, ℕ, [], List, Option, Some, length};
+ghost use Rattle.plain_tree.specs.Calls.{piece_count};
+ghost use Rattle.plain_tree.specs.declared.call.Call.TheVariants as calls;
+ghost use Rattle.plain_tree.specs.declared.step.Action.TheVariants as steps;
+ghost use Rattle.whole_calls.specs.Asks.{asks, checked_in, hears, joined_of, mark_at, marked_as, op_in, reply_to, turned, wrote_of};
+ghost use Rattle.inode_machine.specs.Descriptors.{checked_reply, joined_on, write_from, write_program, wrote_on};
+ghost use Rattle.whole_calls.specs.Writes.{WriteFits, WriteFitsOn, few, more_after, write_of};
+
+use crate::asks::{Ask, Heard, Joined, Mark, Turn, Wrote};
+use plain_tree::{Answer, Full};
+
+const PIECE_LEN: usize = 3072;
+
+/// A piece: its inode, its place among the pieces, and how many more come after it.
+#[derive(Clone, Copy)]
+pub struct Piece {
+    pub number: u32,
+    pub index: usize,
+    pub more: usize,
+}
+
+#[derive(Clone, Copy)]
+pub enum Write {
+    /// Of no bytes the descriptor alone is looked up.
+    Check,
+    Join,
+    Lock(Piece),
+    Part(Piece, u32, u64),
+    Leave(Piece, Wrote),
+    JoinNext(Piece),
+    Says(Answer),
+}
+
+/// How many pieces bytes have.
+fn pieces(bytes: &[u8]) -> usize
+    requires { length bytes.now < 2 ^ 31 }
+    ensures { result ≡ piece_count bytes.now }
+{
+    if bytes.is_empty() {
+        1
+    } else {
+        (bytes.len() + 3071) / PIECE_LEN
+    }
+}
+
+/// A transaction was wanted for the first piece.
+fn joined(joined: Joined, bytes: &[u8]) -> Turn<Write, Answer>
+    requires { length bytes.now < 2 ^ 31 }
+    ensures goes { (fd : ℕ) → joined_on fd bytes.now (joined_of joined) ≡ turned (write_of fd bytes.now) (calls.Write fd bytes.now) result }
+    ensures fits { WriteFitsOn bytes.now result }
+{
+    match joined {
+        Joined::Refused(cause) => Turn::Ends(Answer::Failed(cause)),
+        Joined::For(number) => Turn::Asks(Write::Lock(Piece {
+            number,
+            index: 0,
+            more: pieces(bytes) - 1,
+        })),
+    }
+}
+
+/// A piece's transaction was left.
+fn left(piece: Piece, wrote: Wrote, bytes: &[u8]) -> Write
+    requires short { length bytes.now < 2 ^ 31 }
+    requires few { few piece }
+    ensures program { (fd : ℕ) → write_of fd bytes.now result ≡ wrote_on fd bytes.now (more_after fd bytes.now piece) (wrote_of wrote) }
+    ensures fits { WriteFits bytes.now result }
+{
+    match wrote {
+        Wrote::Refused(cause) => Write::Says(Answer::Failed(cause)),
+        Wrote::Short(_) => Write::Says(Answer::Full(Full::Blocks)),
+        Wrote::Whole => {
+            if piece.more == 0 {
+                Write::Says(Answer::Count(bytes.len() as u32))
+            } else {
+                Write::JoinNext(Piece {
+                    number: piece.number,
+                    index: piece.index + 1,
+                    more: piece.more - 1,
+                })
+            }
+        }
+    }
+}
+
+/// Of no bytes the descriptor was looked up.
+fn checked(heard: &Heard) -> Answer
+    ensures { (fd : ℕ) → reply_to (calls.Write fd []) result ≡ checked_reply fd (checked_in heard.now) }
+{
+    match heard.checked() {
+        None => Answer::Count(0),
+        Some(cause) => Answer::Failed(cause),
+    }
+}
+
+impl Write {
+    pub fn new(bytes: &[u8]) -> Write
+        ensures program { (fd : ℕ) → write_of fd bytes.now result ≡ write_program fd bytes.now }
+        ensures fits { WriteFits bytes.now result }
+    {
+        if bytes.is_empty() {
+            Write::Check
+        } else {
+            Write::Join
+        }
+    }
+
+    pub fn ask(&self, fd: u32, bytes: &[u8]) -> Ask
+        ensures { asks (write_of fd bytes.now self.now) ≡ Some (op_in bytes.now result) }
+    {
+        match self {
+            Write::Check => Ask::CheckFile(fd),
+            Write::Join => Ask::JoinFile(fd),
+            Write::Lock(piece) => Ask::LockOpen(fd, piece.number),
+            Write::Part(piece, number, offset) => {
+                Ask::WriteFile(fd, *number, *offset, piece.index)
+            }
+            Write::Leave(_, _) => Ask::Leave,
+            Write::JoinNext(_) => Ask::Join,
+            Write::Says(_) => Ask::Say,
+        }
+    }
+
+    pub fn next(self, heard: &Heard, bytes: &[u8]) -> Turn<Write, Answer>
+        requires short { length bytes.now < 2 ^ 31 }
+        requires fits { WriteFits bytes.now self }
+        ensures goes { (text : List ℕ) (fd : ℕ) → hears text (write_of fd bytes.now self) heard.now ≡ turned (write_of fd bytes.now) (calls.Write fd bytes.now) result }
+        ensures fits { WriteFitsOn bytes.now result }
+    {
+        match self {
+            Write::Check => Turn::Ends(checked(heard)),
+            Write::Join => joined(heard.joined(), bytes),
+            Write::Lock(piece) => {
+                let (number, offset) = heard.at();
+                Turn::Asks(Write::Part(piece, number, offset))
+            }
+            Write::Part(piece, _, _) => Turn::Asks(Write::Leave(piece, heard.wrote())),
+            Write::Leave(piece, wrote) => Turn::Asks(left(piece, wrote, bytes)),
+            Write::JoinNext(piece) => Turn::Asks(Write::Lock(piece)),
+            Write::Says(answer) => Turn::Ends(answer),
+        }
+    }
+
+    pub fn mark(&self, heard: &Heard, bytes: &[u8]) -> Option<Mark>
+        requires { WriteFits bytes.now self.now }
+        ensures { (fd : ℕ) → mark_at (write_of fd bytes.now self.now) heard.now ≡ marked_as (steps.WritePart fd bytes.now) result }
+    {
+        match self {
+            Write::Check => Some(Mark::Piece(0)),
+            Write::Join => match heard.joined() {
+                Joined::Refused(_) => Some(Mark::Piece(0)),
+                Joined::For(_) => None,
+            },
+            Write::Part(piece, _, _) => match heard.wrote() {
+                Wrote::Short(len) => Some(Mark::PartOfPiece(piece.index, len)),
+                _ => Some(Mark::Piece(piece.index)),
+            },
+            _ => None,
+        }
+    }
+}
