@@ -133,7 +133,7 @@ module _ {D : Type 0} (contents : D → List (List ℕ)) (failures : D → ℕ) 
   turns_still : (plan : PlanOf) (harts : List ℕ) (n : ℕ) (last : Flow) → StaysStill (turns contents failures plan harts n last)
   unfolding turns
   turns_still plan harts zero last = gives_still last
-  turns_still plan harts (suc n) last = case_still (goes_on plan last) _ _ (then_still _ _ (turn_still plan.until harts flows.Rests) (λ flow. turns_still plan harts n flow)) (gives_still last)
+  turns_still plan harts (suc n) last = case_still (goes_on last) _ _ (then_still _ _ (turn_still plan.until harts flows.Rests) (λ flow. turns_still plan harts n flow)) (gives_still last)
 
   waits_still : (harts : List ℕ) → StaysStill (tells_waits contents failures harts)
   unfolding tells_waits

@@ -131,30 +131,30 @@ module _ {D : Type 0} (contents : D → List (List ℕ)) (failures : D → ℕ) 
   unfolding turn
   turn_end until harts i flow s out n le = subst (λ hs. Runs (turn contents failures until hs flow) s out n (Ok flow) s out n) (sym (at_drop_all (λ hs. hs) harts i le)) (gives_at_once flow s out n)
 
-  pub turns_more : (plan : Plan) (harts : List ℕ) (k k' : ℕ) (last flow : Flow) (s u t : RunOf D) (out mid end : Option (List ℕ)) (n m l : NotesOf) (r : Result Flow ConsoleFault) → k ≡ suc k' → goes_on plan last ≡ true
+  pub turns_more : (plan : Plan) (harts : List ℕ) (k k' : ℕ) (last flow : Flow) (s u t : RunOf D) (out mid end : Option (List ℕ)) (n m l : NotesOf) (r : Result Flow ConsoleFault) → k ≡ suc k' → goes_on last ≡ true
       → Runs (turn contents failures plan.until harts Rests) s out n (Ok flow) u mid m → Runs (turns contents failures plan harts k' flow) u mid m r t end l → Runs (turns contents failures plan harts k last) s out n r t end l
   unfolding turns
   turns_more plan harts k k' last flow s u t out mid end n m l r is goes first rest =
       subst (λ x. Runs (turns contents failures plan harts x last) s out n r t end l) (sym is)
-      (in_this_case (goes_on plan last) (followed_by (turn contents failures plan.until harts Rests) (λ f. turns contents failures plan harts k' f)) (gives last) s t out end n l r goes
+      (in_this_case (goes_on last) (followed_by (turn contents failures plan.until harts Rests) (λ f. turns contents failures plan harts k' f)) (gives last) s t out end n l r goes
       (then (turn contents failures plan.until harts Rests) (λ f. turns contents failures plan harts k' f) flow s u t out mid end n m l r first rest))
 
-  pub turns_fault : (plan : Plan) (harts : List ℕ) (k k' : ℕ) (last : Flow) (fault : ConsoleFault) (r : Result Flow ConsoleFault) (s t : RunOf D) (out end : Option (List ℕ)) (n l : NotesOf) → r ≡ Err fault → k ≡ suc k' → goes_on plan last ≡ true
+  pub turns_fault : (plan : Plan) (harts : List ℕ) (k k' : ℕ) (last : Flow) (fault : ConsoleFault) (r : Result Flow ConsoleFault) (s t : RunOf D) (out end : Option (List ℕ)) (n l : NotesOf) → r ≡ Err fault → k ≡ suc k' → goes_on last ≡ true
       → Runs (turn contents failures plan.until harts Rests) s out n (Err fault) t end l → Runs (turns contents failures plan harts k last) s out n r t end l
   unfolding turns
   turns_fault plan harts k k' last fault r s t out end n l fails is goes first =
       subst (λ y. Runs (turns contents failures plan harts k last) s out n y t end l) (sym fails)
       (
       subst (λ x. Runs (turns contents failures plan harts x last) s out n (Err fault) t end l) (sym is)
-      (in_this_case (goes_on plan last) (followed_by (turn contents failures plan.until harts Rests) (λ f. turns contents failures plan harts k' f)) (gives last) s t out end n l (Err fault) goes
+      (in_this_case (goes_on last) (followed_by (turn contents failures plan.until harts Rests) (λ f. turns contents failures plan harts k' f)) (gives last) s t out end n l (Err fault) goes
       (ends_in_fault (turn contents failures plan.until harts Rests) (λ f. turns contents failures plan harts k' f) fault s t out end n l first))
       )
 
-  pub turns_rest : (plan : Plan) (harts : List ℕ) (k : ℕ) (last : Flow) (s : RunOf D) (out : Option (List ℕ)) (n : NotesOf) → goes_on plan last ≡ false → Runs (turns contents failures plan harts k last) s out n (Ok last) s out n
+  pub turns_rest : (plan : Plan) (harts : List ℕ) (k : ℕ) (last : Flow) (s : RunOf D) (out : Option (List ℕ)) (n : NotesOf) → goes_on last ≡ false → Runs (turns contents failures plan harts k last) s out n (Ok last) s out n
   unfolding turns
   turns_rest plan harts zero last s out n goes = gives_at_once last s out n
   turns_rest plan harts (suc k) last s out n goes =
-      in_other_case (goes_on plan last) (followed_by (turn contents failures plan.until harts Rests) (λ f. turns contents failures plan harts k f)) (gives last) s s out out n n (Ok last) goes (gives_at_once last s out n)
+      in_other_case (goes_on last) (followed_by (turn contents failures plan.until harts Rests) (λ f. turns contents failures plan harts k f)) (gives last) s s out out n n (Ok last) goes (gives_at_once last s out n)
 
   pub turns_end : (plan : Plan) (harts : List ℕ) (k : ℕ) (last : Flow) (s : RunOf D) (out : Option (List ℕ)) (n : NotesOf) → k ≡ 0 → Runs (turns contents failures plan harts k last) s out n (Ok last) s out n
   unfolding turns

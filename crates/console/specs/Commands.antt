@@ -70,24 +70,24 @@ abbrev pub is_enough : Option Until → Doing → Bool
 is_enough None d = false
 is_enough (Some until) d = if nat_lt (count_of until.kind d) until.steps then false else true
 
--- turns go on as long as the last one moved; those of a number of steps also where it waited
-abbrev pub goes_on : Plan → Flow → Bool
-goes_on plan Moves = true
-goes_on plan Waits = plan.through_waits
-goes_on plan Rests = false
+-- turns go on as long as the last one moved: where whoever had something to do waited, the next would be the same
+abbrev pub goes_on : Flow → Bool
+goes_on Moves = true
+goes_on Waits = false
+goes_on Rests = false
 
 -- more turns than any call takes
 abbrev pub most_turns : ℕ
 most_turns = 18446744073709551615
 
 abbrev pub to_end : Plan
-to_end = record { until = None; most = most_turns; through_waits = false }
+to_end = record { until = None; most = most_turns }
 
 abbrev pub up_to : Kind → ℕ → Plan
-up_to kind steps = record { until = Some (record { kind = kind; steps = steps }); most = most_turns; through_waits = false }
+up_to kind steps = record { until = Some (record { kind = kind; steps = steps }); most = most_turns }
 
 abbrev pub in_steps : ℕ → Plan
-in_steps steps = record { until = None; most = steps; through_waits = true }
+in_steps steps = record { until = None; most = steps }
 
 abbrev pub all_harts : List ℕ
 all_harts = 0 ∷ 1 ∷ 2 ∷ 3 ∷ 4 ∷ 5 ∷ 6 ∷ 7 ∷ []
@@ -131,7 +131,7 @@ module _ {D : Type 0} (contents : D → List (List ℕ)) (failures : D → ℕ) 
   -- turn after turn, at most n
   unfoldable pub turns : Plan → List ℕ → ℕ → Flow → Behaviour (RunOf D) Flow
   turns plan harts zero last = gives last
-  turns plan harts (suc n) last = in_case (goes_on plan last) (followed_by (turn plan.until harts Rests) (λ flow. turns plan harts n flow)) (gives last)
+  turns plan harts (suc n) last = in_case (goes_on last) (followed_by (turn plan.until harts Rests) (λ flow. turns plan harts n flow)) (gives last)
 
   -- each of these harts that has a call waits
   unfoldable pub tells_waits : List ℕ → Behaviour (RunOf D) (Unit {0})

@@ -127,7 +127,7 @@ fn turns<D: Device, W: Write>(
 {
     let mut last = Flow::Moves;
     for _turn in 0..plan.most {
-        if !plan.goes_on(last) {
+        if !last.goes_on() {
             return Ok(last);
         }
         last = turn(alloc, session, desk, out, plan.until, harts)?;

@@ -10,15 +10,24 @@ use std::alloc::AllocError;
 use std::io;
 use thiserror::Error;
 
+/// Why a script can't be read.
+#[derive(Debug, Drop, Error)]
+pub enum Unread {
+    /// It has more bytes than this.
+    #[error("it is longer than {0} bytes")]
+    TooLong(u64),
+    #[error("{0}")]
+    Input(io::Error),
+}
+
 /// Why a script didn't come to its end.
 #[derive(Debug, Drop, Error)]
 pub enum ConsoleFault {
     /// The image isn't taken.
     #[error("refused {} {}", .0.number(), .0.name())]
     Image(MountFault),
-    /// The script can't be read, or is too long.
     #[error("the script can't be read: {0}")]
-    Read(io::Error),
+    Read(Unread),
     /// An answer can't be written.
     #[error("an answer can't be written: {0}")]
     Write(io::Error),

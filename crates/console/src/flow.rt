@@ -1,6 +1,6 @@
 //! Whether anything moved.
 ghost use Rattle.std.specs.Prelude.{◌≡◌};
-ghost use Rattle.console.specs.Commands.{joined};
+ghost use Rattle.console.specs.Commands.{goes_on, joined};
 
 /// What came of an event, or of a turn of harts.
 #[derive(Clone, Copy, PartialEq, Eq, Debug)]
@@ -14,6 +14,16 @@ pub enum Flow {
 }
 
 impl Flow {
+    /// Whether a turn may come to anything after one with this flow: where all that had something to do waited, the next is the same.
+    pub fn goes_on(self) -> bool
+        ensures { result ≡ goes_on self }
+    {
+        match self {
+            Flow::Moves => true,
+            Flow::Waits | Flow::Rests => false,
+        }
+    }
+
     /// That of both.
     pub fn joined(self, other: Flow) -> Flow
         ensures { result ≡ joined self other }

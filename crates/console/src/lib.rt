@@ -1,4 +1,7 @@
 //! The console: scripts of calls on a file system with eight harts, and what they print.
+//!
+//! The events that a script makes of a `World` are those that its lines say, each line once and in order, up to a call that is stopped;
+//! what is printed is what they came to. With a bad line nothing happens.
 #![tactic(auto)]
 
 mod commands;

@@ -1,9 +1,8 @@
 //! How far a line goes.
 ghost use Rattle.std.specs.Prelude.{◌≡◌};
-ghost use Rattle.console.specs.Commands.{goes_on, in_steps, is_enough, to_end, up_to};
+ghost use Rattle.console.specs.Commands.{in_steps, is_enough, to_end, up_to};
 
 use crate::doing::Doing;
-use crate::flow::Flow;
 use fs_machine::Kind;
 
 /// More turns than any call takes.
@@ -28,12 +27,11 @@ impl Until {
     }
 }
 
-/// Turns that are made one after the other: at most so many, and as long as anything moves, or as anything waits too.
+/// Turns that are made one after the other: at most so many, and as long as anything moves.
 #[derive(Clone, Copy, PartialEq, Eq, Debug)]
 pub struct Plan {
     pub until: Option<Until>,
     pub most: u64,
-    pub through_waits: bool,
 }
 
 impl Plan {
@@ -44,7 +42,6 @@ impl Plan {
         Plan {
             until: None,
             most: MOST_TURNS,
-            through_waits: false,
         }
     }
 
@@ -55,29 +52,16 @@ impl Plan {
         Plan {
             until: Some(Until { kind, steps }),
             most: MOST_TURNS,
-            through_waits: false,
         }
     }
 
-    /// So many steps, of which waits are some.
+    /// So many steps, up to a wait.
     pub fn in_steps(steps: u32) -> Plan
         ensures { result ≡ in_steps steps }
     {
         Plan {
             until: None,
             most: u64::from(steps),
-            through_waits: true,
-        }
-    }
-
-    /// Whether a turn follows one with this flow.
-    pub fn goes_on(&self, last: Flow) -> bool
-        ensures { result ≡ goes_on self.now last }
-    {
-        match last {
-            Flow::Moves => true,
-            Flow::Waits => self.through_waits,
-            Flow::Rests => false,
         }
     }
 }

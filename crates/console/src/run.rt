@@ -12,7 +12,7 @@ ghost use Rattle.console.specs.Scripts.{RunsImage, Tells};
 
 use crate::commands::{Desk, run_lines};
 use crate::events::{write_last, write_timeline};
-use crate::fault::ConsoleFault;
+use crate::fault::{ConsoleFault, Unread};
 use crate::history::write_history;
 use crate::lines::{Course, course_of};
 use crate::notes::Notes;
@@ -158,7 +158,7 @@ pub fn read_script<R: Read + Drop>(
         Err(fault) => return Err(read_fault(fault)),
     }
     if text.len() as u64 > longest {
-        return Err(ConsoleFault::Read(io::Error::from(io::ErrorKind::FileTooLarge)));
+        return Err(ConsoleFault::Read(Unread::TooLong(longest)));
     }
     Ok(text)
 }
@@ -169,7 +169,7 @@ fn read_fault(fault: io::Error) -> ConsoleFault
     if fault.kind() == io::ErrorKind::OutOfMemory {
         ConsoleFault::Memory
     } else {
-        ConsoleFault::Read(fault)
+        ConsoleFault::Read(Unread::Input(fault))
     }
 }
 
@@ -255,13 +255,16 @@ fn write_wanted<W: Write>(
     }
 }
 
-// What stands after all answers.
+// What stands after all answers. Before a history is sought, which may take long, all that was written is handed on.
 fn write_end<W: Write>(out: &mut W, mode: Mode, notes: &Notes) -> io::Result<()>
     ensures { OnOk result (Appends (W.contents out.old) (W.contents out.new) (end_text mode notes.now)) }
 {
     write_last(out, mode.last, notes)?;
     if mode.timeline {
         write_timeline(out, notes)?;
+    }
+    if mode.explain {
+        out.flush()?;
     }
     Ok(())
 }

@@ -1,8 +1,8 @@
 //! `console [IMAGE] [--schedule listed|round] [--threads] [--last N] [--timeline] [--explain] [--check] [--save FILE]`: runs a script from standard input on a file system, and prints its answers.
 //!
-//! Faults are told in this order: the command line (status 2), an IMAGE file that can't be read or an image that isn't
-//! taken (status 1), the script (status 1 or 2), a FILE that can't be written (status 1). Want of memory is told where it
-//! comes (status 3).
+//! Faults are told in this order: the command line (status 2), an IMAGE file that can't be read, a FILE that can't be
+//! written, an image that isn't taken (status 1), the script (status 1 or 2), and what only writing FILE shows (status 1).
+//! Want of memory is told where it comes (status 3).
 #![tactic(auto)]
 
 use clap::ArgMatches;
@@ -10,7 +10,7 @@ use clap::error::ErrorKind;
 use console::{ConsoleFault, run_script, status};
 use console_parts::{IMAGE, SAVE, has_threads, mode_of, options};
 use console_threads::{ThreadsFault, run_threads};
-use image_files::{SaveRefused, read_image, save};
+use image_files::{ImageRefused, SaveRefused, read_image, save, shown, try_to_save};
 use std::alloc::AllocError;
 use std::io::{BufWriter, Write};
 use std::process::ExitCode;
@@ -28,9 +28,12 @@ enum Fault<'a> {
     /// The command line names a schedule that there isn't.
     #[error("error: invalid value for '--schedule <SCHEDULE>': listed or round is wanted")]
     Schedule,
+    /// An image that is only examined isn't changed, so there is nothing to be saved.
+    #[error("error: '--check' examines the image, and has nothing for '--save <FILE>' to write")]
+    CheckAndSave,
     /// The image's file can't be read, or is too large.
     #[error("{0}: {1}")]
-    Image(&'a str, io::Error),
+    Image(&'a str, ImageRefused),
     #[error("{0}")]
     Run(ConsoleFault),
     /// What there is by threads alone.
@@ -81,11 +84,11 @@ impl<'a> Fault<'a> {
     }
 
     // What came of reading the image's file.
-    fn of_image(path: &'a str, error: io::Error) -> Fault<'a> {
-        if error.kind() == io::ErrorKind::OutOfMemory {
-            return Fault::Run(ConsoleFault::Memory);
+    fn of_image(path: &'a str, refused: ImageRefused) -> Fault<'a> {
+        match refused {
+            ImageRefused::NoMemory => Fault::Run(ConsoleFault::Memory),
+            refused => Fault::Image(shown(path), refused),
         }
-        Fault::Image(path, error)
     }
 
     // What came of writing answers.
@@ -99,7 +102,7 @@ impl<'a> Fault<'a> {
     // The program's exit status.
     fn status(&self) -> u8 {
         match self {
-            Fault::Words(_) | Fault::Schedule => 2,
+            Fault::Words(_) | Fault::Schedule | Fault::CheckAndSave => 2,
             Fault::Image(..) | Fault::Save(_) => 1,
             Fault::Run(fault) => status(fault),
             Fault::Threads(fault) => console_threads::status(fault),
@@ -134,15 +137,19 @@ fn run<'a, R: Threads + Wait + Sync>(
         return Err(Fault::Schedule);
     };
     let place = matches.get_str(SAVE);
-    let image = match matches.get_str(IMAGE) {
+    if mode.check && place.is_some() {
+        return Err(Fault::CheckAndSave);
+    }
+    let (image, rest) = match matches.get_str(IMAGE) {
         Some(path) => {
-            let bytes = read_image(rt, path, place.is_some()).map_err(|error| Fault::of_image(
-                path, error,
-            ))?;
-            Some(bytes)
+            let file = read_image(rt, path).map_err(|refused| Fault::of_image(path, refused))?;
+            (Some(file.bytes), Some(file.rest))
         }
-        None => None,
+        None => (None, None),
     };
+    if let Some(path) = place {
+        try_to_save(rt, path)?;
+    }
     let mut out = BufWriter::new(rt.alloc(), io::writer(rt)).map_err(|error| Fault::of_answers(
         error,
     ))?;
@@ -158,7 +165,7 @@ fn run<'a, R: Threads + Wait + Sync>(
     let disk = ran?;
     if let Some(path) = place {
         let bytes = disk.into_bytes();
-        save(rt, path, bytes.as_slice())?;
+        save(rt, path, bytes.as_slice(), rest)?;
     }
     Ok(())
 }

@@ -1,35 +1,69 @@
 //! How an image's file is read.
 ghost use Rattle.std.specs.Prelude.{◌≤◌, length, IfOk};
 
-use crate::read_at_most;
-use std::io::ErrorKind;
+use std::fs::File;
+use std::io::{ErrorKind, Read};
 use std::{fs, io};
+use thiserror::Error;
 
 /// The most bytes that an image uses: those of 8191 blocks.
-const LONGEST_IMAGE: usize = 8191 * 1024;
+const LONGEST_IMAGE: u64 = 8191 * 1024;
 
 /// The longest file that is taken for an image, in bytes: 4 GiB.
 const LONGEST_FILE: u64 = 4_294_967_296;
 
-/// The bytes of the file of an image: all of them, or as many as an image can use of them where the file isn't to be `whole`.
-/// A regular file above 4 GiB is too large, and so is anything else that has more than an image uses, as a device without end.
-pub fn read_image(rt: &HostRuntime, path: &str, whole: bool) -> io::Result<Vec<u8>>
-    ensures { IfOk result (λ bytes. length bytes.items ≤ 4294967296) }
+/// Why the file of an image isn't taken.
+#[derive(Debug, Drop, Error)]
+pub enum ImageRefused {
+    /// It has more bytes than this.
+    #[error("larger than {0} bytes")]
+    TooLarge(u64),
+    #[error("{0}")]
+    File(io::Error),
+    #[error("out of memory")]
+    NoMemory,
+}
+
+impl From<io::Error> for ImageRefused {
+    fn from(error: io::Error) -> ImageRefused {
+        if error.kind() == ErrorKind::OutOfMemory {
+            return ImageRefused::NoMemory;
+        }
+        ImageRefused::File(error)
+    }
+}
+
+/// The file of an image: its bytes, as many as an image can use, and the file, read so far.
+#[derive(Drop)]
+pub struct ImageFile {
+    pub bytes: Vec<u8>,
+    pub rest: File,
+}
+
+// The file's bytes, as many as an image can use and one more.
+fn bytes_of(rt: &HostRuntime, file: &File) -> io::Result<Vec<u8>>
+    ensures { IfOk result (λ bytes. length bytes.items ≤ 8387585) }
+{
+    let mut bytes = Vec::new(rt.alloc());
+    let limit = LONGEST_IMAGE + 1;
+    file.take(limit).read_to_end(&mut bytes)?;
+    bytes.truncate(limit as usize);
+    Ok(bytes)
+}
+
+/// Reads the file of an image, as far as an image can use it: what stands behind that isn't had in memory. A regular file above 4 GiB is too
+/// large, and so is anything else that has more than an image uses, as a device without end.
+pub fn read_image(rt: &HostRuntime, path: &str) -> Result<ImageFile, ImageRefused>
+    ensures { IfOk result (λ image. length image.bytes.items ≤ 8387585) }
 {
     let metadata = fs::metadata(rt, path)?;
-    let is_regular = metadata.is_file();
     if metadata.len() > LONGEST_FILE {
-        return Err(io::Error::from(ErrorKind::FileTooLarge));
+        return Err(ImageRefused::TooLarge(LONGEST_FILE));
     }
-    let most = if whole && is_regular {
-        LONGEST_FILE as usize
-    } else {
-        LONGEST_IMAGE
-    };
-    let mut bytes = read_at_most(rt, path, most)?;
-    if bytes.len() > most && (whole || !is_regular) {
-        return Err(io::Error::from(ErrorKind::FileTooLarge));
+    let file = File::open(rt, path)?;
+    let bytes = bytes_of(rt, &file)?;
+    if bytes.len() as u64 > LONGEST_IMAGE && !metadata.is_file() {
+        return Err(ImageRefused::TooLarge(LONGEST_IMAGE));
     }
-    bytes.truncate(most);
-    Ok(bytes)
+    Ok(ImageFile { bytes, rest: file })
 }

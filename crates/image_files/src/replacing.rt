@@ -1,6 +1,7 @@
 //! How a file is replaced.
+use crate::shown;
 use std::alloc::{AllocError, Global};
-use std::fs::{Metadata, OpenOptions};
+use std::fs::{File, Metadata, OpenOptions};
 use std::io::{ErrorKind, Write};
 use std::{fs, io, process};
 use thiserror::Error;
@@ -25,37 +26,84 @@ impl From<AllocError> for SaveRefused {
 }
 
 // What the system answered of this file.
-fn of_file(alloc: Global, path: &str, error: io::Error) -> SaveRefused {
+fn of_file(alloc: Global, name: &str, error: io::Error) -> SaveRefused {
     if error.kind() == ErrorKind::OutOfMemory {
         return SaveRefused::NoMemory;
     }
-    match String::from_str(alloc, path) {
+    match String::from_str(alloc, shown(name)) {
         Ok(name) => SaveRefused::File(name, error),
         Err(_) => SaveRefused::NoMemory,
     }
 }
 
 // The regular file that stands there, through any links; none where nothing does.
-fn standing(rt: &HostRuntime, path: &str) -> Result<Option<Metadata>, SaveRefused> {
-    match fs::metadata(rt, path) {
+fn standing(rt: &HostRuntime, name: &str) -> Result<Option<Metadata>, SaveRefused> {
+    match fs::metadata(rt, name) {
         Ok(metadata) if metadata.is_file() => Ok(Some(metadata)),
-        Ok(_) => Err(SaveRefused::NotRegular(String::from_str(rt.alloc(), path)?)),
-        // a link that leads nowhere is no place for a new file
+        Ok(_) => Err(SaveRefused::NotRegular(String::from_str(rt.alloc(), name)?)),
+        // neither a link that leads nowhere nor an empty name is a place for a new file
         Err(error)
-            if error.kind() == ErrorKind::NotFound && fs::symlink_metadata(rt, path).is_err() => Ok(
-            None,
-        ),
-        Err(error) => Err(of_file(rt.alloc(), path, error)),
+            if error.kind() == ErrorKind::NotFound
+                && !name.is_empty()
+                && fs::symlink_metadata(rt, name).is_err() => Ok(None),
+        Err(error) => Err(of_file(rt.alloc(), name, error)),
     }
 }
 
-// Writes a new file with these bytes, and the mode of the one that it is to replace.
-fn write_new(rt: &HostRuntime, path: &str, old: Option<&Metadata>, bytes: &[u8]) -> io::Result<()> {
-    let mut file = OpenOptions::new()
-        .write(true)
-        .create_new(true)
-        .open(rt, path)?;
-    file.write_all(bytes)?;
+// Where a file is written: what it is called, the path without links, and what is to be replaced there.
+#[derive(Drop)]
+struct Place<'a> {
+    name: &'a str,
+    path: String,
+    old: Option<Metadata>,
+}
+
+impl<'a> Place<'a> {
+    fn of(rt: &HostRuntime, name: &'a str) -> Result<Place<'a>, SaveRefused> {
+        let old = standing(rt, name)?;
+        let path = match &old {
+            None => String::from_str(rt.alloc(), name)?,
+            Some(_) => fs::canonicalize(rt, name)
+                .map_err(|error| of_file(rt.alloc(), name, error))?
+                .into_string(),
+        };
+        Ok(Place { name, path, old })
+    }
+
+    // The file beside it that is written first.
+    fn beside(&self, rt: &HostRuntime) -> Result<String, SaveRefused> {
+        let (path, id) = (&self.path, process::id(rt.process()));
+        Ok(format!(in rt.alloc(); "{path}.{id}.part")?)
+    }
+
+    // A new file beside it. One that stands in the way is named itself, since it is for somebody to remove.
+    fn new_file(&self, rt: &HostRuntime, beside: &str) -> Result<File, SaveRefused> {
+        OpenOptions::new()
+            .write(true)
+            .create_new(true)
+            .open(rt, beside)
+            .map_err(|error| {
+                let in_the_way = error.kind() == ErrorKind::AlreadyExists;
+                let name = if in_the_way { beside } else { self.name };
+                of_file(rt.alloc(), name, error)
+            })
+    }
+}
+
+// What a file is to have: bytes, and then all that is left of another file, which may be more than memory has room for.
+#[derive(Drop)]
+struct Content<'a> {
+    bytes: &'a [u8],
+    rest: Option<File>,
+}
+
+// Writes this, and gives the file the mode of the one that it is to replace.
+fn fill(file: &mut File, old: Option<&Metadata>, content: Content) -> io::Result<()> {
+    file.write_all(content.bytes)?;
+    if let Some(rest) = content.rest {
+        let mut rest = rest;
+        io::copy(&mut rest, file)?;
+    }
     match old {
         Some(metadata) => file.set_permissions(metadata.permissions()),
         None => Ok(()),
@@ -63,39 +111,40 @@ fn write_new(rt: &HostRuntime, path: &str, old: Option<&Metadata>, bytes: &[u8])
 }
 
 // Writes the file beside its place and moves it there. After a fault nothing of it is left.
-fn replace(
-    rt: &HostRuntime,
-    path: &str,
-    old: Option<&Metadata>,
-    bytes: &[u8],
-) -> Result<(), SaveRefused> {
-    let id = process::id(rt.process());
-    let beside = format!(in rt.alloc(); "{path}.{id}.part")?;
-    if let Err(error) = write_new(rt, beside.as_str(), old, bytes) {
-        let taken = error.kind() == ErrorKind::AlreadyExists;
-        if !taken {
-            let _ = fs::remove_file(rt, beside.as_str());
-        }
-        return Err(of_file(rt.alloc(), beside.as_str(), error));
-    }
-    fs::rename(rt, beside.as_str(), path).map_err(|error| {
+fn replace(rt: &HostRuntime, place: &Place, content: Content) -> Result<(), SaveRefused> {
+    let beside = place.beside(rt)?;
+    let written = match place.new_file(rt, beside.as_str()) {
+        Ok(mut file) => fill(&mut file, place.old.as_ref(), content),
+        Err(refused) => return Err(refused),
+    };
+    let moved = match written {
+        Ok(()) => fs::rename(rt, beside.as_str(), place.path.as_str()),
+        Err(error) => Err(error),
+    };
+    moved.map_err(|error| {
         let _ = fs::remove_file(rt, beside.as_str());
-        of_file(rt.alloc(), path, error)
+        of_file(rt.alloc(), place.name, error)
     })
 }
 
+/// Tells beforehand why a file of this name can't be written, as far as that is known then: a new file is made beside it, and
+/// removed. What stands there isn't touched.
+pub fn try_to_save(rt: &HostRuntime, name: &str) -> Result<(), SaveRefused> {
+    let place = Place::of(rt, name)?;
+    let beside = place.beside(rt)?;
+    let _file = place.new_file(rt, beside.as_str())?;
+    fs::remove_file(rt, beside.as_str()).map_err(|error| of_file(rt.alloc(), name, error))
+}
+
 /// Replaces the regular file with this name, or makes a new one. A link is followed, and what it leads to is replaced. The
-/// mode of a file that was there stays. Until the whole file is written what stood there stays, also where this fails.
-pub fn save(rt: &HostRuntime, path: &str, bytes: &[u8]) -> Result<(), SaveRefused> {
-    match standing(rt, path)? {
-        None => replace(rt, path, None, bytes),
-        Some(metadata) => {
-            let place = fs::canonicalize(rt, path).map_err(|error| of_file(
-                rt.alloc(),
-                path,
-                error,
-            ))?;
-            replace(rt, place.as_str(), Some(&metadata), bytes)
-        }
-    }
+/// mode of a file that was there stays. Until the whole file is written what stood there stays, also where this fails. It gets
+/// these bytes, and behind them what is left of `rest`, copied from file to file.
+pub fn save(
+    rt: &HostRuntime,
+    name: &str,
+    bytes: &[u8],
+    rest: Option<File>,
+) -> Result<(), SaveRefused> {
+    let place = Place::of(rt, name)?;
+    replace(rt, &place, Content { bytes, rest })
 }

@@ -94,7 +94,7 @@ fn find_log<D: Device>(device: &mut D, sizes: &Super) -> Result<LogHead, MountFa
     Ok(head)
 }
 
-/// Finds the parts of a disk: its superblock, and the blocks that its log holds. It takes no memory.
+/// Finds the parts of a disk: its superblock, and the blocks that its log holds. It takes no memory (xv6: `readsb`, `read_head`).
 pub fn find_layout<D: Device>(device: &mut D) -> Result<Layout, MountFault>
     ensures judges { JudgesWith (IsLayout (D.contents device.old)) (D.contents device.old) result }
     ensures memory { result ≢ Err MountFault.NoMemory }

@@ -17,7 +17,7 @@ use block_device::{BLOCK_LEN, Device, Fault};
 /// Copies the logged blocks home, and then clears the log's head (the xv6 book, chapter "File system", "Logging
 /// layer"). Where nothing is logged it writes nothing. It takes no memory.
 ///
-/// Wherever it stops, also in the middle of a write, recovery may be run again and makes the same disk.
+/// Wherever it stops, also in the middle of a write, recovery may be run again and makes the same disk (xv6: `recover_from_log`).
 pub fn recover<D: Device>(device: &mut D) -> Result<(), MountFault>
     // Superblock and log are good, or the answer is their first damage; then nothing was written.
     ensures judges { JudgesWith (λ _. UpToLog (D.contents device.old)) (D.contents device.old) result }

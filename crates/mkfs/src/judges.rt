@@ -20,8 +20,8 @@ pub fn has_good_sizes(size: u32, ninodes: u32, files: usize) -> bool
     data_start(ninodes) as usize + node_blocks(root_size(files)) <= size as usize
 }
 
-// Whether a file may be named so.
-fn is_file_name(name: &[u8]) -> bool
+/// Whether a file may be named so.
+pub fn is_file_name(name: &[u8]) -> bool
     ensures { IsTrue result ↔ IsFileName name.now }
 {
     name != b".".as_slice() && name != b"..".as_slice() && Name::new(name).is_some()

@@ -7,9 +7,12 @@
 
 use clap::ArgMatches;
 use clap::error::ErrorKind;
-use image_files::{SaveRefused, read_at_most, save};
+use image_files::{SaveRefused, read_at_most, save, shown};
 use mkfs::widths::{INODE_START, LARGEST_SIZE, LOG_BLOCKS};
-use mkfs::{FILES, IMAGE, INODES, MakeRefused, NewFile, SIZE, data_start, make, number, options};
+use mkfs::{
+    FILES, IMAGE, INODES, MakeRefused, NewFile, SIZE, data_start, is_file_name, make, number,
+    options,
+};
 use std::alloc::{AllocError, Global};
 use std::process::ExitCode;
 use std::{env, io};
@@ -24,6 +27,9 @@ enum Fault<'a> {
     /// The image can't be made, or memory was refused.
     #[error("refused {} {}", .0.number(), .0.name())]
     Refused(MakeRefused),
+    /// The image can't be made, for the sake of this file.
+    #[error("refused {} {}: {}", .0.number(), .0.name(), .1)]
+    RefusedFile(MakeRefused, &'a str),
     /// What can't be read, and why.
     #[error("{0}: {1}")]
     File(&'a str, io::Error),
@@ -59,7 +65,20 @@ impl<'a> Fault<'a> {
         if error.kind() == io::ErrorKind::OutOfMemory {
             return Fault::Refused(MakeRefused::NoMemory);
         }
-        Fault::File(path, error)
+        Fault::File(shown(path), error)
+    }
+
+    // What came of making an image of these files.
+    fn of_files(paths: &[&'a str], files: &[NewFile], refused: MakeRefused) -> Fault<'a> {
+        let place = match refused {
+            MakeRefused::BadName => misnamed(files),
+            MakeRefused::FileTooBig => oversized(files),
+            _ => None,
+        };
+        match place {
+            Some(place) if place < paths.len() => Fault::RefusedFile(refused, shown(paths[place])),
+            _ => Fault::Refused(refused),
+        }
     }
 
     // What came of reading the words of the command line.
@@ -74,9 +93,31 @@ impl<'a> Fault<'a> {
     fn status(&self) -> u8 {
         match self {
             Fault::Words(_) => 2,
-            Fault::Refused(_) | Fault::File(..) | Fault::Save(_) => 1,
+            Fault::Refused(_) | Fault::RefusedFile(..) | Fault::File(..) | Fault::Save(_) => 1,
         }
     }
+}
+
+// The place of the first file whose name an image can't have, or has from a file before it.
+fn misnamed(files: &[NewFile]) -> Option<usize> {
+    for (place, file) in files.iter().enumerate() {
+        let name = file.name.as_slice();
+        let comes_twice = files
+            .iter()
+            .take(place)
+            .any(|before| before.name.as_slice() == name);
+        if comes_twice || !is_file_name(name) {
+            return Some(place);
+        }
+    }
+    None
+}
+
+// The place of the first file that is longer than one of an image.
+fn oversized(files: &[NewFile]) -> Option<usize> {
+    files
+        .iter()
+        .position(|file| file.content.len() > LARGEST_SIZE)
 }
 
 // What a FILE is called in the root.
@@ -119,12 +160,17 @@ fn run<'a>(
     size: u32,
     ninodes: u32,
 ) -> Result<String, Fault<'a>> {
-    let files = load(rt, matches.get_strs(FILES).unwrap_or([].as_slice()))?;
-    let disk = make(rt.alloc(), size, ninodes, files.as_slice())?;
+    let paths = matches.get_strs(FILES).unwrap_or([].as_slice());
+    let files = load(rt, paths)?;
+    let disk = make(rt.alloc(), size, ninodes, files.as_slice()).map_err(|refused| Fault::of_files(
+        paths,
+        files.as_slice(),
+        refused,
+    ))?;
     let line = summary(rt.alloc(), size, ninodes)?;
     let image = matches.get_str(IMAGE).unwrap_or("");
     let bytes = disk.into_bytes();
-    save(rt, image, bytes.as_slice())?;
+    save(rt, image, bytes.as_slice(), None)?;
     Ok(line)
 }
 

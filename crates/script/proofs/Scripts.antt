@@ -2,7 +2,7 @@
 use Rattle.std.proofs.Common.{◌≡◌, ℕ, ◌+◌, ◌<◌, ◌≤◌, true, false, List, [], ◌∷◌, ◌++◌, length, drop, get_or, cond, Some, None, Result, Ok, Err, refl, ap, sym, ◌∙◌}
 use Rattle.std.proofs.lemmas.List.{at_drop_more, at_drop_all, append_assoc, append-nil}
 use Rattle.script.specs.Said.{Line, NumberedLine}
-use Rattle.script.specs.Reading.{lines_from, first_said, with_line, line_in, words_of, is_passed_over}
+use Rattle.script.specs.Reading.{lines_from, first_said, with_line, said_in, is_passed_over}
 
 abbrev pub with_lines : List NumberedLine → Result (List NumberedLine) ℕ → Result (List NumberedLine) ℕ
 with_lines front (Ok lines) = Ok (front ++ lines)
@@ -17,9 +17,9 @@ push_line front said (Err n) = refl
 
 -- line i of the lines, the first of those that are left
 one_line : (n : ℕ) (lines : List (List ℕ)) (i : ℕ) (line : List ℕ) → i < length lines → line ≡ get_or lines i line
-    → lines_from n (drop i lines) ≡ cond (is_passed_over line) (lines_from (n + 1) (drop (i + 1) lines)) (first_said n (line_in (words_of line)) (lines_from (n + 1) (drop (i + 1) lines)))
+    → lines_from n (drop i lines) ≡ cond (is_passed_over line) (lines_from (n + 1) (drop (i + 1) lines)) (first_said n (said_in line) (lines_from (n + 1) (drop (i + 1) lines)))
 unfolding lines_from
-one_line n lines i line lt is = at_drop_more (lines_from n) lines i line lt ∙ ap (λ x. cond (is_passed_over x) (lines_from (n + 1) (drop (i + 1) lines)) (first_said n (line_in (words_of x)) (lines_from (n + 1) (drop (i + 1) lines)))) (sym is)
+one_line n lines i line lt is = at_drop_more (lines_from n) lines i line lt ∙ ap (λ x. cond (is_passed_over x) (lines_from (n + 1) (drop (i + 1) lines)) (first_said n (said_in x) (lines_from (n + 1) (drop (i + 1) lines)))) (sym is)
 
 pub none_left : (front : List NumberedLine) (n : ℕ) (lines : List (List ℕ)) (i : ℕ) → length lines ≤ i → with_lines front (lines_from n (drop i lines)) ≡ Ok front
 unfolding lines_from
@@ -29,19 +29,19 @@ pub passed_over : (front : List NumberedLine) (n : ℕ) (lines : List (List ℕ)
     → with_lines front (lines_from (n + 1) (drop j lines)) ≡ with_lines front (lines_from n (drop i lines))
 passed_over front n lines i j line lt is next passed =
     ap (λ k. with_lines front (lines_from (n + 1) (drop k lines))) next
-    ∙ sym (ap (with_lines front) (one_line n lines i line lt is ∙ ap (λ b. cond b (lines_from (n + 1) (drop (i + 1) lines)) (first_said n (line_in (words_of line)) (lines_from (n + 1) (drop (i + 1) lines)))) passed))
+    ∙ sym (ap (with_lines front) (one_line n lines i line lt is ∙ ap (λ b. cond b (lines_from (n + 1) (drop (i + 1) lines)) (first_said n (said_in line) (lines_from (n + 1) (drop (i + 1) lines)))) passed))
 
 pub one_said : (front : List NumberedLine) (n : ℕ) (lines : List (List ℕ)) (i j : ℕ) (line : List ℕ) (said : Line) → i < length lines → line ≡ get_or lines i line → j ≡ i + 1 → is_passed_over line ≡ false
-    → line_in (words_of line) ≡ Some said
+    → said_in line ≡ Some said
     → with_lines (front ++ at_line n said ∷ []) (lines_from (n + 1) (drop j lines)) ≡ with_lines front (lines_from n (drop i lines))
 one_said front n lines i j line said lt is next read says =
     ap (λ k. with_lines (front ++ at_line n said ∷ []) (lines_from (n + 1) (drop k lines))) next
     ∙ sym (push_line front (at_line n said) (lines_from (n + 1) (drop (i + 1) lines)))
-    ∙ sym (ap (with_lines front) (one_line n lines i line lt is ∙ ap (λ b. cond b (lines_from (n + 1) (drop (i + 1) lines)) (first_said n (line_in (words_of line)) (lines_from (n + 1) (drop (i + 1) lines)))) read
+    ∙ sym (ap (with_lines front) (one_line n lines i line lt is ∙ ap (λ b. cond b (lines_from (n + 1) (drop (i + 1) lines)) (first_said n (said_in line) (lines_from (n + 1) (drop (i + 1) lines)))) read
     ∙ ap (λ o. first_said n o (lines_from (n + 1) (drop (i + 1) lines))) says))
 
-pub nothing_said : (front : List NumberedLine) (n : ℕ) (lines : List (List ℕ)) (i : ℕ) (line : List ℕ) → i < length lines → line ≡ get_or lines i line → is_passed_over line ≡ false → line_in (words_of line) ≡ None
+pub nothing_said : (front : List NumberedLine) (n : ℕ) (lines : List (List ℕ)) (i : ℕ) (line : List ℕ) → i < length lines → line ≡ get_or lines i line → is_passed_over line ≡ false → said_in line ≡ None
     → with_lines front (lines_from n (drop i lines)) ≡ Err n
 nothing_said front n lines i line lt is read says =
-    ap (with_lines front) (one_line n lines i line lt is ∙ ap (λ b. cond b (lines_from (n + 1) (drop (i + 1) lines)) (first_said n (line_in (words_of line)) (lines_from (n + 1) (drop (i + 1) lines)))) read
+    ap (with_lines front) (one_line n lines i line lt is ∙ ap (λ b. cond b (lines_from (n + 1) (drop (i + 1) lines)) (first_said n (said_in line) (lines_from (n + 1) (drop (i + 1) lines)))) read
     ∙ ap (λ o. first_said n o (lines_from (n + 1) (drop (i + 1) lines))) says)

@@ -1,9 +1,9 @@
 -- The grammar of scripts, as docs/SCRIPT.md has it: which words each line has.
-use Rattle.std.specs.Prelude.{◌≡◌, ◌↔◌, ℕ, List, [], ◌∷◌, Some, codes}
+use Rattle.std.specs.Prelude.{◌≡◌, ◌↔◌, false, ℕ, List, [], ◌∷◌, Some, codes}
 use Rattle.fs_machine.specs.declared.kind.Kind.{Kind}
 use Rattle.fs_machine.specs.declared.kind.Kind.TheVariants as kinds
 use Rattle.script.specs.Words.{number_in, hart_in, bytes_in}
-use Rattle.script.specs.Reading.{words_of, line_in}
+use Rattle.script.specs.Reading.{words_of, ends_in_return, said_in}
 use Rattle.script.specs.Said.{Call, Open, Read, Write, Fill, Link, Unlink, Mkdir, Chdir, Dup, Fstat, Close, Inherit, Line, Start, Run, Step, Upto, End, All}
 
 -- ---- words
@@ -95,9 +95,10 @@ SaysLine (Upto hart kind steps) ws = HasUpto hart kind steps ws
 SaysLine (End hart) ws = HasOne (codes "end") IsHart hart ws
 SaysLine All ws = ws ≡ codes "all" ∷ []
 
--- the line's words say this; a line with an empty word says nothing, since no verb, number, kind or bytes is an empty word
+-- the line's words say this, and it doesn't end in a carriage return; a line with an empty word says nothing, since no verb,
+-- number, kind or bytes is an empty word
 abbrev pub Says : Line → List ℕ → Type 0
-Says said line = SaysLine said (words_of line)
+Says said line = (ends_in_return line ≡ false) × SaysLine said (words_of line)
 
 abbrev pub LinesAreRead : Type 0
-LinesAreRead = (said : Line) (line : List ℕ) → Says said line ↔ (line_in (words_of line) ≡ Some said)
+LinesAreRead = (said : Line) (line : List ℕ) → Says said line ↔ (said_in line ≡ Some said)

@@ -1,12 +1,12 @@
 -- How the words of a line are read: what it says, where it says anything.
-use Rattle.std.specs.Prelude.{ℕ, ◌+◌, Bool, ◌||◌, List, [], ◌∷◌, ◌==◌, if◌then◌else◌, Option, Some, None, codes, Result, Ok, Err}
+use Rattle.std.specs.Prelude.{ℕ, ◌+◌, Bool, ◌||◌, List, [], ◌∷◌, ◌==◌, nat_eq, if◌then◌else◌, Option, Some, None, codes, Result, Ok, Err}
 use Rattle.std.specs.Option.{option_and_then}
 use Rattle.std.specs.Str.{bytes_eq}
 use Rattle.fs_machine.specs.declared.kind.Kind.{Kind}
 use Rattle.fs_machine.specs.declared.kind.Kind.TheVariants as kinds
 use Rattle.script.specs.Words.{number_in, hart_in, bytes_in, begins_with}
 use Rattle.script.specs.Said.{Call, Open, Read, Write, Fill, Link, Unlink, Mkdir, Chdir, Dup, Fstat, Close, Inherit, Line, NumberedLine, Start, Run, Step, Upto, End, All}
-use Rattle.std.specs.List.{slice_split}
+use Rattle.std.specs.List.{slice_split, ends_with}
 
 abbrev pub words_of : List ℕ → List (List ℕ)
 words_of line = slice_split (λ b. b == 32) line
@@ -103,6 +103,13 @@ line_in (verb ∷ rest) =
     else if bytes_eq verb (codes "all") then all_in rest
     else start_in (verb ∷ rest)
 
+abbrev pub ends_in_return : List ℕ → Bool
+ends_in_return line = ends_with nat_eq line (codes "\r")
+
+-- what a whole line says: that which its words say, unless it ends in a carriage return
+abbrev pub said_in : List ℕ → Option Line
+said_in line = if ends_in_return line then None else line_in (words_of line)
+
 -- ---- a script: its lines, each with what it says; empty lines and comments are passed over
 
 abbrev pub is_passed_over : List ℕ → Bool
@@ -119,7 +126,7 @@ first_said n (Some said) rest = with_line (record { number = n; says = said }) r
 -- what the lines say, or the number of the first that says nothing; the first line is number n
 unfoldable pub lines_from : ℕ → List (List ℕ) → Result (List NumberedLine) ℕ
 lines_from n [] = Ok []
-lines_from n (line ∷ lines) = if is_passed_over line then lines_from (n + 1) lines else first_said n (line_in (words_of line)) (lines_from (n + 1) lines)
+lines_from n (line ∷ lines) = if is_passed_over line then lines_from (n + 1) lines else first_said n (said_in line) (lines_from (n + 1) lines)
 
 abbrev pub script_in : List ℕ → Result (List NumberedLine) ℕ
 script_in text = lines_from 1 (lines_of text)

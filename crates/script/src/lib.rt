@@ -1,4 +1,5 @@
 //! Scripts of the console: what their lines say (docs/SCRIPT.md has the grammar).
+//! What its lines say is answered in order, each with its number; or the number of the first line that says nothing, with why.
 #![tactic(auto)]
 
 mod call;

@@ -2,7 +2,7 @@
 ghost use Rattle.std.specs.Prelude.{◌≡◌};
 ghost use Rattle.std.specs.Str.{bytes_eq};
 ghost use Rattle.script.specs.Said.{call_said, line_said};
-ghost use Rattle.script.specs.Reading.{all_in, do_in, end_in, kind_in, line_in, start_in, step_in, upto_in, words_of};
+ghost use Rattle.script.specs.Reading.{all_in, do_in, end_in, kind_in, line_in, said_in, start_in, step_in, upto_in, words_of};
 ghost use Rattle.script.specs.Gives.{Gives, words_now};
 
 use crate::calls::call_of;
@@ -17,8 +17,19 @@ use std::alloc::Global;
 /// The most words that a line has.
 const MOST_WORDS: usize = 5;
 
-/// What a line says.
+/// What a line says. One that ends in a carriage return says nothing: its last word would end in a byte that nobody sees.
 pub fn command(alloc: Global, line: &[u8]) -> Result<Command, LineFault>
+    ensures { Gives line_said result (said_in line.now) }
+{
+    if line.ends_with(b"\r") {
+        Err(LineFault::Bad(Reason::CarriageReturn))
+    } else {
+        command_in(alloc, line)
+    }
+}
+
+// What the words of a line say.
+fn command_in(alloc: Global, line: &[u8]) -> Result<Command, LineFault>
     ensures { Gives line_said result (line_in (words_of line.now)) }
 {
     let mut words = ArrayVec::<&[u8], MOST_WORDS>::new();

@@ -45,7 +45,7 @@ impl Display for Shown {
 /// Why a line is no command.
 #[derive(Debug, Clone, PartialEq, Drop)]
 pub enum Reason {
-    /// The line ends in a byte 0x0d, which belongs to its last word.
+    /// The line ends in a byte 0x0d, as those of some editors do.
     CarriageReturn,
     /// A space at an end of the line, or two beside one another.
     EmptyWord,

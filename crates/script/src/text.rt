@@ -35,8 +35,8 @@ pub fn parse(alloc: Global, text: &[u8]) -> Result<Vec<ScriptLine>, ScriptFault>
 
 // What is wrong with a bad line, seen from without: how it ends, its spaces, or else the reason that was found.
 fn plainest(line: &[u8], reason: Reason) -> Reason {
-    if line.ends_with(b"\r") {
-        Reason::CarriageReturn
+    if reason == Reason::CarriageReturn {
+        reason
     } else if line.split(|b| *b == b' ').any(|word| word.is_empty()) {
         Reason::EmptyWord
     } else {

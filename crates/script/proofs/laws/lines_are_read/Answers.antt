@@ -1,7 +1,18 @@
-use Rattle.script.specs.Reading.{words_of}
+use Rattle.std.proofs.Common.{◌≡◌, Bool, true, false, cond, Option, Some, None, refl, ap, ◌∙◌}
+use Rattle.std.proofs.lemmas.Option.{none-some}
+use Rattle.script.specs.Said.{Line}
+use Rattle.script.specs.Reading.{words_of, line_in, ends_in_return}
 use Rattle.script.proofs.Saying.{line_read}
 use Rattle.script.proofs.Standing.{line_says}
 use Rattle.script.proofs.laws.lines_are_read.Goals as goal
 
+-- what is said although a line may end in a carriage return is said in one that doesn't
+unless : (ends : Bool) (o : Option Line) (said : Line) → cond ends None o ≡ Some said → (ends ≡ false) × (o ≡ Some said)
+unless false o said is = (refl, is)
+unless true o said is = absurd (none-some said is)
+
 pub returns : goal.returns
-returns c = λ said line. (line_read said (words_of line), line_says said (words_of line))
+returns c = λ said line. (
+  λ s. ap (λ e. cond e None (line_in (words_of line))) s.0 ∙ line_read said (words_of line) s.1,
+  λ is. let both = unless (ends_in_return line) (line_in (words_of line)) said is in (both.0, line_says said (words_of line) both.1),
+)

@@ -5,7 +5,7 @@ use Rattle.std.proofs.lemmas.List.{length_push, map-append}
 use Rattle.std.specs.Slice.Iter.{split_rest, split_done, split_callee}
 use Rattle.script.specs.declared.command.ScriptLine.{ScriptLine}
 use Rattle.script.specs.Said.{line_said, numbered}
-use Rattle.script.specs.Reading.{lines_of, lines_from, line_in, words_of}
+use Rattle.script.specs.Reading.{lines_of, lines_from, said_in}
 use Rattle.script.specs.Gives.{Fails}
 use Rattle.script.proofs.Scripts.{with_lines, none_left, passed_over, nothing_said, one_said}
 use Rattle.script.proofs.text.parse.Goals as goal
@@ -20,7 +20,7 @@ returns c =
 pub returns-in-Err-Bad : goal.returns-in-Err-Bad
 returns-in-Err-Bad c =
     let turn = YieldsList-turn (YieldsList-from_slice_split _ (λ b. b == 10) c.args.text.now (ap (λ s. split_rest s) c.into_iter-line-iterator.ensures.into_iter_gives ∙ c.split-line-items.ensures.rest) (ap (λ s. split_done s) c.into_iter-line-iterator.ensures.into_iter_gives ∙ c.split-line-items.ensures.done) (ap (λ s. split_callee s) c.into_iter-line-iterator.ensures.into_iter_gives ∙ c.split-line-items.ensures.closure) (λ x r q k. search (rules, tests))) c.loop-line.yielded _ c.loop-line.yielded_by _ _ c.in-Some.line c.in-Some.is c.next.ensures.steps in
-    sym c.loop-line.invariant.3 ∙ nothing_said (map numbered c.loop-line.lines.items) (c.loop-line.number + 1) (lines_of c.args.text.now) (length c.loop-line.yielded) c.in-Some.line.now turn.0 turn.1 (sym c.is_passed_over.ensures ∙ c.if-is_passed_over.false) (subst (λ e. Fails e (line_in (words_of c.in-Some.line.now))) c.in-Err-Bad.field-0-is c.in-Err-Bad.ensures)
+    sym c.loop-line.invariant.3 ∙ nothing_said (map numbered c.loop-line.lines.items) (c.loop-line.number + 1) (lines_of c.args.text.now) (length c.loop-line.yielded) c.in-Some.line.now turn.0 turn.1 (sym c.is_passed_over.ensures ∙ c.if-is_passed_over.false) (subst (λ e. Fails e (said_in c.in-Some.line.now)) c.in-Err-Bad.field-0-is c.in-Err-Bad.ensures)
 
 -- src/text.rt:16:5
 pub loop-line-preserved-then-is_passed_over : goal.loop-line-preserved-then-is_passed_over

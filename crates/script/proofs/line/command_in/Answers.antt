@@ -6,7 +6,7 @@ use Rattle.script.specs.Reading.{line_in, words_of}
 use Rattle.script.specs.Said.{line_said}
 use Rattle.script.specs.Gives.{Gives, words_now}
 use Rattle.script.proofs.Lines.{too_many_words}
-use Rattle.script.proofs.line.command.Goals as goal
+use Rattle.script.proofs.line.command_in.Goals as goal
 
 -- src/line.rt:22:1
 pub returns : goal.returns
