@@ -1,6 +1,9 @@
 //! What the console prints with `--explain`. That a list explains its run, and which lists these are, is shown where lists are made.
-use crate::scripts::run_in;
+use crate::scripts::{is_refused_memory, run_in};
+use console::run_script;
 use console_parts::{Mode, Schedule};
+use std::alloc::AllocError;
+use std::io;
 use std::process::Abort;
 use std::test::Fail;
 
@@ -77,6 +80,45 @@ fn prints_a_history(rt: HostRuntime) -> Result<(), Fail> {
         let want = format!(in rt.alloc(); "{answers}{history}")?;
         assert!(rt; out.as_slice() == want.as_str().as_bytes(), "{script}");
     }
+    Ok(())
+}
+
+// What is written, and how much of it was handed on at last.
+#[derive(Drop)]
+struct Handed {
+    bytes: Vec<u8>,
+    count: usize,
+}
+
+impl io::Write for Handed {
+    fn write(&mut self, buf: &[u8]) -> io::Result<usize> {
+        self.bytes.extend_from_slice(buf)?;
+        Ok(buf.len())
+    }
+
+    fn flush(&mut self) -> io::Result<()> {
+        self.count = self.bytes.len();
+        Ok(())
+    }
+}
+
+#[test]
+fn answers_are_handed_on_before_a_history_is_sought(rt: HostRuntime) -> Result<(), Fail> {
+    let mut out = Handed {
+        bytes: Vec::new(rt.alloc()),
+        count: 0,
+    };
+    match run_script(rt.alloc(), None, EXPLAIN, SHORT.as_bytes(), &mut out) {
+        Ok(_disk) => {}
+        Err(fault) => {
+            if is_refused_memory(&fault) {
+                return Err(Fail::from(AllocError));
+            }
+            return Err(Fail::new("it doesn't come to its end"));
+        }
+    }
+    assert!(rt; out.bytes.ends_with(SHORT_HISTORY.as_bytes()));
+    assert_eq!(rt; out.count, SHORT_ANSWERS.len());
     Ok(())
 }
 

@@ -19,8 +19,8 @@ const SHORTER_LOG: [Change; 5] = [
     (47120, b"\x01\0.."),
 ];
 
-// Whether these lines, on a fresh image or on this one, print these.
-fn prints(
+/// Whether these lines, on a fresh image or on this one, print these.
+pub fn prints(
     alloc: Global,
     image: Option<&[u8]>,
     script: &str,
@@ -156,6 +156,20 @@ fn a_reader_waits_for_another(rt: HostRuntime) -> Result<(), Fail> {
     Ok(())
 }
 
+// By no step of its own does a hart that waits get on.
+#[test]
+fn steps_end_at_a_wait(rt: HostRuntime) -> Result<(), Fail> {
+    assert!(rt;
+        prints(
+            rt.alloc(),
+            None,
+            "0 mkdir /a\nupto 0 lock 1\n1 mkdir /b\nstep 1 4294967295\nstep 1 4294967295\nend 0\nend 1\n",
+            "0 mkdir ok\n1 mkdir ok\n"
+        )?
+    );
+    Ok(())
+}
+
 // A link that is refused has counted for a while.
 const RAISED_SCRIPT: &str =
     "do 1 open /f 0x200\ndo 1 open /g 0x200\n0 link /f /g\nupto 0 unlock 2\ndo 1 fstat 0\nend 0\ndo 1 fstat 0\n";
@@ -285,7 +299,7 @@ fn a_shorter_log_has_less_room(rt: HostRuntime) -> Result<(), Fail> {
 
 // A call whose commit is stopped, where the file `/f` is empty or holds the letter A.
 struct Commit {
-    // Lines that are run first.
+    // Lines that are run first, behind the one that opens the file.
     before: &'static str,
     hart: u8,
     call: &'static str,
@@ -306,7 +320,7 @@ const LETTER: &str = "0 open fd 0\n0 fstat 1 2 2 1 1\n0 read 1 41\n";
 // A write of one byte: the bitmap, the block, the inode. An open that empties the file: the bitmap, the inode.
 const COMMITS: [Commit; 2] = [
     Commit {
-        before: "do 0 open /f 0x201\n",
+        before: "",
         hart: 0,
         call: "write 0 A",
         blocks: &[3, 4, 5, 2, 46, 48, 33, 2],
@@ -316,7 +330,7 @@ const COMMITS: [Commit; 2] = [
         new: LETTER,
     },
     Commit {
-        before: "do 0 open /f 0x201\ndo 0 write 0 A\n",
+        before: "do 0 write 0 A\n",
         hart: 1,
         call: "open /f 0x400",
         blocks: &[3, 4, 2, 46, 33, 2],
@@ -340,9 +354,16 @@ fn differ_in(block: Option<&usize>, old: &[u8], new: &[u8]) -> bool {
 const HEADER: usize = 2 * BLOCK_LEN;
 
 // Leaves a call's commit after each of its writes in turn, and looks at the image.
-fn commits(rt: &impl Abort, alloc: Global, image: &[u8], commit: &Commit) -> Result<(), Fail> {
-    let (before, hart, call) = (commit.before, commit.hart, commit.call);
-    let mut old = image_after(alloc, image, before.as_bytes())?;
+fn commits(
+    rt: &impl Abort,
+    alloc: Global,
+    image: &[u8],
+    open: &str,
+    commit: &Commit,
+) -> Result<(), Fail> {
+    let (hart, call) = (commit.hart, commit.call);
+    let before = format!(in alloc; "{open}{}", commit.before)?;
+    let mut old = image_after(alloc, image, before.as_str().as_bytes())?;
     for written in 0..=commit.blocks.len() {
         let (kind, steps) = if written == 0 {
             ("leave", 1)
@@ -384,9 +405,13 @@ fn commits(rt: &impl Abort, alloc: Global, image: &[u8], commit: &Commit) -> Res
 fn commits_are_left_at_each_write(rt: HostRuntime) -> Result<(), Fail> {
     let fresh = disk(rt.alloc(), 2000, 200)?.into_bytes();
     let with_f = disk_with_f(rt.alloc(), 2000, 200, b"")?.into_bytes();
-    for image in [&fresh, &with_f] {
+    let opens = [
+        (&fresh, "do 0 open /f 0x201\n"),
+        (&with_f, "do 0 open /f 1\n"),
+    ];
+    for (image, open) in opens {
         for commit in &COMMITS {
-            commits(&rt, rt.alloc(), image.as_slice(), commit)?;
+            commits(&rt, rt.alloc(), image.as_slice(), open, commit)?;
         }
     }
     Ok(())
@@ -395,11 +420,47 @@ fn commits_are_left_at_each_write(rt: HostRuntime) -> Result<(), Fail> {
 // The bit of block 48 in the bitmap, which is the lowest one of its byte.
 const BIT_48: usize = 46 * BLOCK_LEN + 48 / 8;
 
+/// The first block that is written to a file of the image is the first one behind the root's, and free again where another hart empties
+/// the file.
 #[test]
 fn an_emptied_file_gives_its_block_back(rt: HostRuntime) -> Result<(), Fail> {
-    let image = disk_with_f(rt.alloc(), 2000, 200, b"A")?.into_bytes();
-    assert_eq!(rt; image.get(BIT_48), Some(&1));
-    let image = image_after(rt.alloc(), image.as_slice(), b"do 1 open /f 0x400\n")?;
-    assert_eq!(rt; image.get(BIT_48), Some(&0));
+    let image = disk_with_f(rt.alloc(), 2000, 200, b"")?.into_bytes();
+    for (script, bits) in [
+        ("do 0 open /f 1\n", 0),
+        ("do 0 open /f 1\ndo 0 write 0 A\n", 1),
+        ("do 0 open /f 1\ndo 0 write 0 A\ndo 1 open /f 0x400\n", 0),
+    ] {
+        let image = image_after(rt.alloc(), image.as_slice(), script.as_bytes())?;
+        assert_eq!(rt; image.get(BIT_48), Some(&bits), "{script}");
+    }
+    Ok(())
+}
+
+/// A file that is removed while it is open stays on the image with its block, and is told there, until the next mount.
+#[test]
+fn a_removed_file_is_left(rt: HostRuntime) -> Result<(), Fail> {
+    let image = disk(rt.alloc(), 2000, 200)?.into_bytes();
+    let script = b"do 0 open /f 0x201\ndo 0 write 0 A\ndo 0 unlink /f\n".as_slice();
+    let image = image_after(rt.alloc(), image.as_slice(), script)?;
+    let check = Mode {
+        check: true,
+        ..Mode::default()
+    };
+    let (out, fault) = run_in(rt.alloc(), Some(image.as_slice()), check, b"".as_slice())?;
+    assert!(rt; fault.is_none());
+    assert!(rt; out.as_slice() == b"clean live 1 orphans 1 blocks 2\n".as_slice());
+    let script = "do 0 mkdir /a\ndo 0 open /a 0\ndo 0 fstat 0\n";
+    assert!(rt;
+        prints(
+            rt.alloc(),
+            Some(image.as_slice()),
+            script,
+            "0 mkdir ok\n0 open fd 0\n0 fstat 1 2 1 1 32\n"
+        )?
+    );
+    let image = image_after(rt.alloc(), image.as_slice(), script.as_bytes())?;
+    let (out, fault) = run_in(rt.alloc(), Some(image.as_slice()), check, b"".as_slice())?;
+    assert!(rt; fault.is_none());
+    assert!(rt; out.as_slice() == b"clean live 2 orphans 0 blocks 2\n".as_slice());
     Ok(())
 }

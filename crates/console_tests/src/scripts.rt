@@ -72,7 +72,7 @@ fn run_once(
     Ok((out, fault))
 }
 
-fn is_refused_memory(fault: &ConsoleFault) -> bool {
+pub fn is_refused_memory(fault: &ConsoleFault) -> bool {
     match fault {
         ConsoleFault::Memory => true,
         ConsoleFault::Write(error) => error.kind() == io::ErrorKind::OutOfMemory,
@@ -386,6 +386,8 @@ fn runs_no_line_of_a_bad_script(rt: HostRuntime) -> Result<(), Fail> {
             "pairs of hexadecimal digits are wanted after hex: PATH",
         ),
         ("do 0 fstat 0\r", "ends in a carriage return"),
+        ("do 0 mkdir /a\r", "ends in a carriage return"),
+        ("\r", "ends in a carriage return"),
         ("do 0 mkdirs /a", "unknown call: mkdirs"),
         (
             "open / 0",
@@ -624,7 +626,7 @@ fn takes_scripts_up_to_their_longest(rt: HostRuntime) -> Result<(), Fail> {
     assert_eq!(rt; status(&fault), 1);
     let text = format!(in rt.alloc(); "{fault}")?;
     assert!(rt;
-        text.as_str() == "the script can't be read: file too large",
+        text.as_str() == "the script can't be read: it is longer than 16777216 bytes",
         "{text}"
     );
     Ok(())

@@ -6,6 +6,8 @@
 mod play;
 #[cfg(test)]
 mod rows;
+#[cfg(test)]
+mod short;
 
 // `rt test` runs the tests, and nothing else is here to be run.
 fn main() {}

@@ -19,7 +19,12 @@ const CUT_NAMES: &str =
 const PIECES: &str =
     "do 0 open /f 0x201\ndo 1 open /f 0\n0 fill 0 3073\nupto 0 leave 1\ndo 1 fstat 0\nend 0\ndo 1 fstat 0";
 
+const ONE_PIECE: &str =
+    "do 0 open /f 0x201\ndo 1 open /f 0\n0 fill 0 3072\nupto 0 leave 1\ndo 1 fstat 0\nend 0\ndo 1 fstat 0";
+
 const TOO_BIG: &str = "do 0 open /f 0x201\ndo 0 fill 0 274433\ndo 0 fstat 0";
+
+const BIGGEST: &str = "do 0 open /f 0x201\ndo 0 fill 0 274432\ndo 0 fstat 0";
 
 const EMPTIED: &str =
     "do 0 open /f 0x202\ndo 0 fill 0 100\ndo 1 open /f 0x400\ndo 0 read 0 10\ndo 0 write 0 A\ndo 0 fill 0 0";
@@ -203,7 +208,7 @@ fn explain_all(rt: &impl Abort, alloc: Global, texts: &[&str]) -> Result<(), Fai
 #[test]
 fn lists_explain_runs(rt: HostRuntime) -> Result<(), Fail> {
     let texts = [
-        FIRST, STATES, NO_PARENT, CUT_NAMES, PIECES, EMPTIED, REMOVED, STILL_OPEN,
+        FIRST, STATES, NO_PARENT, CUT_NAMES, PIECES, ONE_PIECE, EMPTIED, REMOVED, STILL_OPEN,
     ];
     explain_all(&rt, rt.alloc(), &texts)
 }
@@ -228,10 +233,21 @@ fn lists_explain_numbers(rt: HostRuntime) -> Result<(), Fail> {
     explain_all(&rt, rt.alloc(), &[MEETINGS])
 }
 
-/// And that of a write in ninety pieces.
+/// And that of a write in ninety pieces, the last of which is refused or finds its place.
 #[test]
 fn a_list_explains_a_long_write(rt: HostRuntime) -> Result<(), Fail> {
-    explain_all(&rt, rt.alloc(), &[TOO_BIG])
+    explain_all(&rt, rt.alloc(), &[TOO_BIG, BIGGEST])
+}
+
+/// No events are explained by no steps.
+#[test]
+fn an_empty_list_explains_nothing_made(rt: HostRuntime) -> Result<(), Fail> {
+    let alloc = rt.alloc();
+    let play = played(alloc, "")?;
+    let list = list_of(alloc, &play)?;
+    assert!(rt; play.events.is_empty() && list.is_empty());
+    assert!(rt; explains(alloc, &seen_in(alloc, &play)?, &list)?);
+    Ok(())
 }
 
 /// A path that climbs is refused, and want of room also where a path climbs.

@@ -365,7 +365,8 @@ fn is_same(came: &Came, wanted: &Came) -> bool {
     }
 }
 
-fn are_same(outcomes: &[Came], wanted: &[Came]) -> bool {
+/// Whether events came to the same as others.
+pub fn are_same(outcomes: &[Came], wanted: &[Came]) -> bool {
     for (came, wanted) in outcomes.iter().zip(wanted.iter()) {
         if !is_same(came, wanted) {
             return false;

@@ -5,6 +5,8 @@
 #[cfg(test)]
 mod between;
 #[cfg(test)]
+mod calls;
+#[cfg(test)]
 mod contents;
 #[cfg(test)]
 mod creates;
@@ -28,6 +30,8 @@ mod opens;
 mod rows;
 #[cfg(test)]
 mod runs;
+#[cfg(test)]
+mod short;
 #[cfg(test)]
 mod stops;
 #[cfg(test)]
