@@ -21,7 +21,7 @@ use fs_machine::{Core, Fetch, Kind, RetiredCore};
 use group_log::Txn;
 use sleep_lock::Guard;
 
-/// Clears a block's bit, so that it may be taken.
+/// Clears a block's bit, so that it may be taken (xv6: `bfree`).
 pub enum FreeBlock {
     /// The bitmap is fetched, for this block.
     Look(u32, Fetch),

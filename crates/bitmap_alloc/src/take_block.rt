@@ -24,7 +24,8 @@ use fs_machine::{Core, Fetch, Kind, RetiredCore};
 use group_log::Txn;
 use sleep_lock::Guard;
 
-/// Takes the first block whose bit is clear, and fills it with zeros. The result is its number, None where no block is free.
+/// Takes the first block whose bit is clear, and fills it with zeros (xv6: `balloc`, `bzero`). The result is its number, None where no
+/// block is free.
 pub enum TakeBlock {
     /// The bitmap is fetched, for a disk of so many blocks.
     Look(u32, Fetch),

@@ -32,7 +32,7 @@ pub fn with_links(held: Held, links: u16) -> Held
     }
 }
 
-/// The machine that stores an inode as its guard has it.
+/// The machine that stores an inode as its guard has it (xv6: `iupdate`).
 pub fn store(sizes: &Super, held: &Held) -> StoreInode
     requires early { IsEarly sizes.now.inodestart }
     requires there { IsSome held.now.inode.value.content }

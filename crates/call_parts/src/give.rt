@@ -26,7 +26,8 @@ use group_log::Txn;
 use inode_data::{DropReference, FreeInode};
 use std::mem;
 
-/// Gives an inode's lock back, and drops the reference to it. Where that is the last one to a dead inode the inode is freed.
+/// Gives an inode's lock back, and drops the reference to it. Where that is the last one to a dead inode the inode is freed
+/// (xv6: `iunlockput`).
 pub enum GiveUp {
     /// The lock is given back, on a disk with this superblock.
     Unlock(Super, Held),

@@ -2,6 +2,7 @@
 //!
 //! An inode taken, what a path leads to, a last name looked up in its parent, and how a call with a transaction ends: one machine each.
 //! `specs/Parts` and `specs/Programs` say what they do, operation by operation; a machine is a value whose `step` makes the next one.
+//! The inodes of a call's list are freed after its own transaction, each in one of its own, and then comes the reply.
 #![tactic(auto)]
 
 mod answered;

@@ -25,7 +25,7 @@ use fs_tables::Listed;
 use path_walk::{Element, Goal, Stop, Walk, Walked};
 use std::mem;
 
-/// Walks a path, which is told with each step, and takes the inode that it leads to.
+/// Walks a path, which is told with each step, and takes the inode that it leads to (xv6: `namei` and `ilock`).
 pub enum Reach {
     /// The path is walked, on a disk whose inode blocks begin at this block.
     Walking(u32, Walk),

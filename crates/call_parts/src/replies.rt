@@ -76,7 +76,7 @@ pub fn count_of(nlink: i16) -> u16
     if nlink < 0 { 0 } else { nlink as u16 }
 }
 
-/// What an inode's record says of it.
+/// What an inode's record says of it (xv6: `stati`).
 pub fn stat_of(number: u32, inode: &Dinode) -> Stat
     requires { number < 2 ^ 16 }
     ensures { result ≡ stat_of number inode.now }

@@ -64,7 +64,8 @@ pub enum Seen {
     Lost(Stop, Listed),
 }
 
-/// Walks to the parent of a path's last name, takes it, and looks the name up. The path is told with each step.
+/// Walks to the parent of a path's last name, takes it, and looks the name up. The path is told with each step
+/// (xv6: `nameiparent`, `ilock` and `dirlookup`, as `create` and `sys_unlink` begin).
 pub enum Seek {
     /// The parent is reached and taken.
     Reaching(Dots, Reach),

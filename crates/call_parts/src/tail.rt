@@ -47,7 +47,8 @@ impl Ending {
     }
 }
 
-/// Leaves a call's transaction, frees each inode of its list in a transaction of its own, and gives the reply.
+/// Leaves a call's transaction, frees each inode of its list in a transaction of its own, and gives the reply
+/// (xv6: `end_op`; the `iput`s of `namex` that free come here).
 pub enum Tail {
     /// A transaction is left.
     Leaving(Ending, Option<Finish>),

@@ -45,7 +45,7 @@ pub fn number_of(inode: &Guard<Inode>) -> u32
     inode.value().number
 }
 
-/// Takes the lock of an inode to which a reference is in hand, and loads the inode where it isn't loaded.
+/// Takes the lock of an inode to which a reference is in hand, and loads the inode where it isn't loaded (xv6: `ilock`).
 pub enum TakeInode {
     /// The lock is taken, on a disk whose inode blocks begin at this block.
     Lock(u32, Reference),

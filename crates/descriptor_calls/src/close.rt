@@ -26,7 +26,7 @@ use inode_data::DropReference;
 use plain_tree::{Call, Cause, Reply};
 use std::mem;
 
-/// A close under way.
+/// A close under way (xv6: `sys_close`, `fileclose`).
 pub enum Close {
     /// The descriptor goes, on a disk with this superblock.
     Shut(Super, u32),

@@ -18,7 +18,7 @@ use fs_tables::Doubled;
 use plain_tree::{Answer, Call, Cause, Full, Reply};
 use std::mem;
 
-/// A dup under way.
+/// A dup under way (xv6: `sys_dup`).
 pub enum Dup {
     /// The descriptor is doubled.
     Double(u32),

@@ -25,7 +25,7 @@ use plain_tree::{Answer, Call, Cause, Reply};
 use sleep_lock::Guard;
 use std::mem;
 
-/// An fstat under way.
+/// An fstat under way (xv6: `sys_fstat`, `filestat`).
 pub enum Fstat {
     /// What the descriptor names is locked and loaded.
     Loading(u32, LoadFile),

@@ -38,7 +38,7 @@ pub struct Lending {
     pub from: u32,
 }
 
-/// An inherit under way.
+/// An inherit under way (xv6: what `fork` does to open files and the current directory, `filedup` and `idup`).
 pub enum Inherit {
     /// The next descriptor goes to the child.
     Lend(Lending),

@@ -2,6 +2,7 @@
 //!
 //! `specs/Programs`, `specs/Writing` and `specs/Inheriting` say what a call does, operation by operation; its machine is a value whose
 //! `step` makes the next one, in its place. A call under way takes no memory, and is handed back in its reply.
+//! Reads and writes move the offset as they give the inode's lock up. A write goes piece by piece, each in a transaction of its own.
 #![tactic(auto)]
 
 mod close;

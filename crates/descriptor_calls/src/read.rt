@@ -33,7 +33,7 @@ use plain_tree::{Answer, Bytes, Call, Reply};
 use sleep_lock::Guard;
 use std::mem;
 
-/// A read under way.
+/// A read under way (xv6: `sys_read`, `fileread`).
 pub enum Read {
     /// What the descriptor names is locked and loaded, to be read into these bytes.
     Loading(u32, Bytes, LoadFile),

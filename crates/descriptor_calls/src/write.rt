@@ -70,7 +70,7 @@ pub enum Ended {
     Short,
 }
 
-/// A write under way.
+/// A write under way (xv6: `sys_write`, `filewrite`).
 pub enum Write {
     /// The descriptor is looked up, to write no bytes.
     Check(u32, Bytes),

@@ -16,7 +16,8 @@ use inode_table::LoadInode;
 use sleep_lock::Guard;
 use std::mem;
 
-/// Takes the lock of the inode that a descriptor names, where it may be had for this, and loads the inode where it isn't loaded.
+/// Takes the lock of the inode that a descriptor names, where it may be had for this, and loads the inode where it isn't loaded
+/// (xv6: `argfd` and the `ilock` of its inode).
 pub enum LoadFile {
     /// The lock is taken for this descriptor, on a disk whose inode blocks begin at this block.
     Lock(u32, Want, u32),

@@ -22,7 +22,7 @@ impl<D: Device> Core<D> {
         self.tables.check(hart, want, fd)
     }
 
-    /// Takes a place for an open file. False where each of the hundred is taken.
+    /// Takes a place for an open file (xv6: `filealloc`). False where each of the hundred is taken.
     pub fn take_place(&mut self, hart: u8) -> bool
         requires may { May hart TakePlace (state_of D.contents D.failures self.old) }
         ensures ran { (x : Outside) → exec hart x TakePlace (state_of D.contents D.failures self.old) ≡ ItRan result (state_of D.contents D.failures self.new) }
@@ -33,7 +33,8 @@ impl<D: Device> Core<D> {
         self.tables.take_place(hart)
     }
 
-    /// Opens a file at that place, by the lowest free descriptor. Where all are open the place is given back, and the reference.
+    /// Opens a file at that place, by the lowest free descriptor (xv6: `fdalloc`). Where all are open the place is given back, and the
+    /// reference.
     pub fn take_descriptor(
         &mut self,
         hart: u8,
@@ -50,7 +51,7 @@ impl<D: Device> Core<D> {
         self.tables.open(hart, reference, file)
     }
 
-    /// One descriptor more for what this one names, the lowest that is free.
+    /// One descriptor more for what this one names, the lowest that is free (xv6: `fdalloc` and `filedup`).
     pub fn double(&mut self, hart: u8, fd: u32) -> Doubled
         requires may { May hart (Double fd) (state_of D.contents D.failures self.old) }
         ensures ran { (x : Outside) → exec hart x (Double fd) (state_of D.contents D.failures self.old) ≡ ItRan result (state_of D.contents D.failures self.new) }
@@ -61,7 +62,8 @@ impl<D: Device> Core<D> {
         self.tables.double(hart, fd)
     }
 
-    /// A descriptor goes, and with the last one that names it the open file, whose reference is handed out.
+    /// A descriptor goes, and with the last one that names it the open file, whose reference is handed out (xv6: `fileclose`, without its
+    /// `iput`).
     pub fn close(&mut self, hart: u8, fd: u32) -> Shut
         requires may { May hart (Close fd) (state_of D.contents D.failures self.old) }
         ensures ran { (x : Outside) → exec hart x (Close fd) (state_of D.contents D.failures self.old) ≡ ItRan result (state_of D.contents D.failures self.new) }

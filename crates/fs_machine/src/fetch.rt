@@ -15,7 +15,7 @@ use block_device::{Device, Fault};
 use buffer_cache::{Buffer, Got};
 use sleep_lock::Guard;
 
-/// Takes a block's buffer, and reads the block where it isn't valid.
+/// Takes a block's buffer, and reads the block where it isn't valid (xv6: `bread`).
 pub enum Fetch {
     Get(u32),
     Read(Guard<Buffer>),

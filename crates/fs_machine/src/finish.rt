@@ -17,7 +17,7 @@ use group_log::{Left, Progress, Txn};
 /// The most writes of a commit.
 const MOST_WRITES: u8 = 62;
 
-/// Leaves a transaction, and makes the writes of the commit where one begins.
+/// Leaves a transaction, and makes the writes of the commit where one begins (xv6: `end_op` with `commit`).
 pub enum Finish {
     Leave(Txn),
     /// So many writes at most, and one at least.

@@ -18,7 +18,7 @@ use fs_tables::{Dropped, Inode, OpenFile, Reference, Refused, Want};
 use sleep_lock::Guard;
 
 impl<D: Device> Core<D> {
-    /// Takes the lock of an inode. None where it waits.
+    /// Takes the lock of an inode (xv6: the `acquiresleep` of `ilock`). None where it waits.
     pub fn lock(&mut self, hart: u8, reference: &Reference) -> Option<Guard<Inode>>
         requires may { May hart (Lock reference.now) (state_of D.contents D.failures self.old) }
         ensures ran { (x : Outside) → exec hart x (Lock reference.now) (state_of D.contents D.failures self.old) ≡ locked_as result (state_of D.contents D.failures self.new) }
@@ -32,7 +32,7 @@ impl<D: Device> Core<D> {
         self.tables.lock(hart, reference.number())
     }
 
-    /// Gives a lock back, with the inode as the guard has it.
+    /// Gives a lock back, with the inode as the guard has it (xv6: `iunlock`).
     pub fn unlock(&mut self, hart: u8, guard: Guard<Inode>)
         requires own { IsOwnInode hart guard.value.number guard (state_of D.contents D.failures self.old) }
         requires may { May hart (Unlock guard.value None) (state_of D.contents D.failures self.old) }
@@ -44,7 +44,7 @@ impl<D: Device> Core<D> {
         self.tables.unlock(hart, guard);
     }
 
-    /// One reference more to an inode. None where each of the fifty places is referred to.
+    /// One reference more to an inode (xv6: `iget`, `idup`). None where each of the fifty places is referred to.
     #[tactic(auto, unfolding(crate::specs::Premises::May))]
     pub fn up(&mut self, hart: u8, number: u32) -> Option<Reference>
         requires may { May hart (Up (Number number)) (state_of D.contents D.failures self.old) }
@@ -81,7 +81,8 @@ impl<D: Device> Core<D> {
         }
     }
 
-    /// Drops a reference. Where it is the last one to a dead inode the inode's lock is taken in its place.
+    /// Drops a reference (xv6: `iput`, up to where it frees). Where it is the last one to a dead inode the inode's lock is taken in its
+    /// place.
     pub fn drop_reference(&mut self, hart: u8, reference: Reference) -> Dropped
         requires may { May hart (Down (Held reference)) (state_of D.contents D.failures self.old) }
         ensures ran { (x : Outside) → exec hart x (Down (Held reference)) (state_of D.contents D.failures self.old) ≡ dropped_as result (state_of D.contents D.failures self.new) }

@@ -34,7 +34,7 @@ pub enum JoinedToWrite {
 }
 
 impl<D: Device> Core<D> {
-    /// Joins a transaction. None where it waits.
+    /// Joins a transaction (xv6: `begin_op`). None where it waits.
     #[tactic(auto, unfolding(crate::specs::Premises::May, crate::specs::Premises::Honest))]
     pub fn join(&mut self, hart: u8) -> Option<Txn>
         requires may { May hart Join (state_of D.contents D.failures self.old) }
@@ -73,7 +73,7 @@ impl<D: Device> Core<D> {
         }
     }
 
-    /// Leaves a transaction, and says whether a commit begins.
+    /// Leaves a transaction (xv6: `end_op`, without its `commit`), and says whether a commit begins.
     #[tactic(auto, unfolding(crate::specs::Premises::May, crate::specs::Premises::Honest))]
     pub fn leave(&mut self, hart: u8, txn: Txn) -> Left
         requires own { txn ≡ hart }
@@ -87,7 +87,7 @@ impl<D: Device> Core<D> {
         self.log.leave(txn)
     }
 
-    /// Takes a block's buffer.
+    /// Takes a block's buffer (xv6: `bget`).
     #[tactic(auto, unfolding(crate::specs::Premises::May, crate::specs::Premises::Honest))]
     pub fn get(&mut self, hart: u8, b: u32) -> Got
         requires may { May hart (Get b) (state_of D.contents D.failures self.old) }
@@ -103,7 +103,7 @@ impl<D: Device> Core<D> {
         self.log.get(hart, b)
     }
 
-    /// Reads the block from the device into its buffer. An error is the device's.
+    /// Reads the block from the device into its buffer (xv6: what `bread` adds to `bget`). An error is the device's.
     #[tactic(auto, unfolding(crate::specs::Premises::May, crate::specs::Premises::Honest))]
     pub fn read(&mut self, hart: u8, guard: &mut Guard<Buffer>) -> Result<(), Fault>
         requires own { IsOwn hart guard.old.value.block guard.old (state_of D.contents D.failures self.old) }
@@ -122,7 +122,7 @@ impl<D: Device> Core<D> {
         self.log.fill(guard)
     }
 
-    /// Gives a buffer back as it was.
+    /// Gives a buffer back as it was (xv6: `brelse`).
     #[tactic(auto, unfolding(crate::specs::Premises::May, crate::specs::Premises::Honest))]
     pub fn put_back(&mut self, hart: u8, guard: Guard<Buffer>)
         requires own { IsOwn hart guard.value.block guard (state_of D.contents D.failures self.old) }
@@ -136,7 +136,7 @@ impl<D: Device> Core<D> {
         self.log.release(guard);
     }
 
-    /// Gives a buffer back, recorded with the bytes that it holds.
+    /// Gives a buffer back, recorded with the bytes that it holds (xv6: `log_write` and `brelse`).
     #[tactic(auto, unfolding(crate::specs::Premises::May, crate::specs::Premises::Honest))]
     pub fn put_changed(&mut self, hart: u8, txn: &mut Txn, guard: Guard<Buffer>)
         requires txn { txn.old ≡ hart }
@@ -154,7 +154,7 @@ impl<D: Device> Core<D> {
         self.log.record(txn, guard);
     }
 
-    /// Makes one write of the commit.
+    /// Makes one write of the commit (xv6: `commit`; a write of `write_log`, `write_head` or `install_trans`).
     #[tactic(auto, unfolding(crate::specs::Premises::May, crate::specs::Premises::Honest))]
     pub fn commit(&mut self, hart: u8) -> Progress
         requires may { May hart Commit (state_of D.contents D.failures self.old) }

@@ -20,7 +20,7 @@ impl Tables {
     ghost use Rattle.fs_tables.specs.Files.{take_place, double_descriptor, shut_descriptor, open_file};
     ghost use Rattle.fs_tables.specs.Results.{opened_as};
 
-    /// The open file that a descriptor names.
+    /// The open file that a descriptor names (xv6: `argfd`).
     pub fn file(&self, hart: u8, fd: u32) -> Option<OpenFile>
         requires { hart < DESKS }
         ensures { result ≡ file_named hart fd self.now }
@@ -76,7 +76,7 @@ impl Tables {
         }
     }
 
-    /// Takes a place for an open file into the hart's hand. False where all are taken, and then nothing changes.
+    /// Takes a place for an open file into the hart's hand (xv6: `filealloc`). False where all are taken, and then nothing changes.
     pub fn take_place(&mut self, hart: u8) -> bool
         requires { hart < DESKS }
         ensures ran { take_place hart self.old ≡ Ran result self.new }
@@ -92,8 +92,8 @@ impl Tables {
         }
     }
 
-    /// Opens a file at the place in hand, by the lowest free descriptor. Where all are open the place is given back, and the
-    /// reference.
+    /// Opens a file at the place in hand, by the lowest free descriptor (xv6: `fdalloc`). Where all are open the place is given back, and
+    /// the reference.
     pub fn open(&mut self, hart: u8, reference: Reference, file: NewFile) -> Result<u8, Reference>
         requires { hart < DESKS }
         ensures ran { open_file hart reference file self.old ≡ Ran (opened_as result) self.new }
@@ -119,7 +119,7 @@ impl Tables {
         }
     }
 
-    /// The lowest free descriptor names what this one names.
+    /// The lowest free descriptor names what this one names (xv6: `fdalloc` and `filedup`).
     pub fn double(&mut self, hart: u8, fd: u32) -> Doubled
         requires { hart < DESKS }
         ensures ran { double_descriptor hart fd self.old ≡ Ran result self.new }
@@ -137,7 +137,8 @@ impl Tables {
         }
     }
 
-    /// The descriptor goes, and with the last one that names it the open file, whose reference is handed out.
+    /// The descriptor goes, and with the last one that names it the open file, whose reference is handed out (xv6: `fileclose`, without
+    /// its `iput`).
     pub fn shut(&mut self, hart: u8, fd: u32) -> Shut
         requires { hart < DESKS }
         ensures ran { shut_descriptor hart fd self.old ≡ Ran result self.new }

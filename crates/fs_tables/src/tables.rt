@@ -14,7 +14,8 @@ use sleep_lock::{Guard, RetiredSlots, Slots};
 use std::alloc::{AllocError, Global};
 use std::marker::Model;
 
-/// The tables. A contract sees the places of inodes in memory with their locks, the open files, and each hart's desk.
+/// The tables (xv6: `itable`, `ftable`, and each process's `ofile` and `cwd`). A contract sees the places of inodes in memory with their
+/// locks, the open files, and each hart's desk.
 #[derive(Drop)]
 pub struct Tables {
     pub(crate) entries: [Entry; MEMORY_INODES],
@@ -76,7 +77,7 @@ impl Tables {
         locks.retire()
     }
 
-    /// Takes the lock of an inode. None where it waits.
+    /// Takes the lock of an inode (xv6: the `acquiresleep` of `ilock`). None where it waits.
     pub fn lock(&mut self, hart: u8, number: u32) -> Option<Guard<Inode>>
         ensures ran { lock_inode hart number self.old ≡ locked_as result self.new }
         ensures still { IfNone result (self.new ≡ self.old) }
@@ -90,7 +91,7 @@ impl Tables {
         }
     }
 
-    /// Gives a lock back, with the inode as the guard has it.
+    /// Gives a lock back, with the inode as the guard has it (xv6: `iunlock`).
     pub fn unlock(&mut self, hart: u8, guard: Guard<Inode>)
         requires own { guard.hart ≡ hart }
         requires locked { IsLocked guard self.old }
@@ -112,7 +113,7 @@ impl Tables {
         }
     }
 
-    /// One reference more to an inode. None where each place is referred to, and then nothing changes.
+    /// One reference more to an inode (xv6: `iget`, `idup`). None where each place is referred to, and then nothing changes.
     pub fn up(&mut self, number: u32) -> Option<Reference>
         requires room { references_of number self.old + 1 < 2 ^ 32 }
         ensures ran { up_inode number self.old ≡ Ran result self.new }
@@ -134,7 +135,8 @@ impl Tables {
         }
     }
 
-    /// Drops a reference. Where it is the last one to a dead inode the inode's lock is taken in its place.
+    /// Drops a reference (xv6: `iput`, up to where it frees). Where it is the last one to a dead inode the inode's lock is taken in its
+    /// place.
     pub fn drop_reference(&mut self, hart: u8, reference: Reference) -> Dropped
         requires some { 0 < references_of reference self.old }
         requires last { references_of reference self.old ≡ 1 → holder_of reference self.old ≡ None }
@@ -159,7 +161,8 @@ impl Tables {
         }
     }
 
-    /// Drops a reference within a walk. Where it is the last one to a dead inode it is kept, and nothing changes.
+    /// Drops a reference within a walk (xv6: the `iput` of `namex`). Where it is the last one to a dead inode it is kept, and nothing
+    /// changes.
     pub fn drop_walked(&mut self, reference: Reference) -> Option<Reference>
         requires last { references_of reference self.old ≡ 1 → holder_of reference self.old ≡ None }
         ensures ran { drop_walked reference self.old ≡ Ran (kept_as result) self.new }

@@ -80,7 +80,7 @@ impl ToOpen {
 }
 
 /// Takes a place for an open file and a descriptor, empties the file where it is to be, and ends the call. Without a place or a descriptor
-/// the inode is given up, and its content stays.
+/// the inode is given up, and its content stays (xv6: the end of `sys_open`, from `filealloc` and `fdalloc` on).
 pub enum Install {
     /// A place is taken.
     Place(Opening, Txn, ToOpen),

@@ -2,6 +2,8 @@
 //!
 //! `specs/Opening`, `specs/Creating` and `specs/Mkdirs` say what a call does, operation by operation; its machine is a value whose
 //! `step` makes the next one in its place. A call under way takes no memory, and is handed back in its reply.
+//! A new inode has its link and its content before its name, and is taken back where its name finds no room. An open that finds no
+//! descriptor keeps neither place nor inode.
 #![tactic(auto)]
 
 mod in_place;

@@ -87,7 +87,8 @@ pub enum Named {
 }
 
 /// Makes an inode, and enters its name: the inode is stored with one link first, a directory gets "." and "..", and then comes the name.
-/// Where a step has no room, the inode is stored without links and given up. The name is told with each step.
+/// Where a step has no room, the inode is stored without links and given up. The name is told with each step
+/// (xv6: `create`, from `ialloc` on).
 pub enum Make {
     /// A free inode is claimed.
     Claiming(Making, Option<NewInode>),

@@ -50,7 +50,7 @@ use path_walk::{Element, Stop};
 use plain_tree::{Answer, Bytes, Call, Cause};
 use std::mem;
 
-/// A mkdir under way.
+/// A mkdir under way (xv6: `sys_mkdir`, `create`).
 pub enum Mkdir {
     /// A transaction is joined.
     Join(OnPath, Listed),

@@ -47,7 +47,7 @@ use path_walk::{Element, Stop};
 use plain_tree::{Answer, Bytes, Call, Cause, Full};
 use std::mem;
 
-/// An open with CREATE under way.
+/// An open with CREATE under way (xv6: `sys_open`, `create`).
 pub enum OpenNew {
     /// A transaction is joined.
     Join(Opening, Listed),

@@ -40,7 +40,7 @@ const TRUNCATE: u32 = 1024;
 // The majors of devices that have a driver are below this one.
 const MAJOR_LIMIT: i16 = 10;
 
-/// An open without CREATE under way.
+/// An open without CREATE under way (xv6: `sys_open`).
 pub enum OpenOld {
     /// A transaction is joined. The list is empty.
     Join(Opening, Listed),

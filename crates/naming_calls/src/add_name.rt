@@ -52,7 +52,7 @@ pub struct Linking {
 }
 
 /// The part of a link that follows its raise: the new name is entered, or the file is stored with one link less again. The file's lock
-/// isn't held while its name is entered.
+/// isn't held while its name is entered (xv6: `sys_link`, from `nameiparent` on).
 pub enum AddName {
     /// The new name is looked up in its directory.
     Seeking(Linking, Txn, Reference, Seek),

@@ -34,7 +34,7 @@ use path_walk::{Goal, Stop};
 use plain_tree::{Answer, Bytes, Call, Cause};
 use std::mem;
 
-/// A chdir under way.
+/// A chdir under way (xv6: `sys_chdir`).
 pub enum Chdir {
     /// A transaction is joined. The list is empty.
     Join(OnPath, Listed),

@@ -41,7 +41,7 @@ use path_walk::{Goal, Stop};
 use plain_tree::{Answer, Bytes, Call, Cause};
 use std::mem;
 
-/// A link under way. The file has its new count of links before it has its new name.
+/// A link under way (xv6: `sys_link`). The file has its new count of links before it has its new name.
 pub enum Link {
     /// A transaction is joined.
     Join(Linking, Listed),

@@ -30,7 +30,7 @@ use inode_table::StoreInode;
 use std::mem;
 
 /// Of a name that was cleared: its directory has a link less where what it named is one too, and is given up; then what it named has a
-/// link less, and is given up.
+/// link less, and is given up (xv6: the end of `sys_unlink`).
 pub enum Lower {
     /// The directory is stored, with a link less.
     Parent(Ending, Txn, Held, Held, Option<StoreInode>),

@@ -65,7 +65,7 @@ impl Removing {
     }
 }
 
-/// An unlink under way. A directory with entries stays. The counts of links go down once the name is gone.
+/// An unlink under way (xv6: `sys_unlink`). A directory with entries stays. The counts of links go down once the name is gone.
 pub enum Unlink {
     /// A transaction is joined.
     Join(OnPath, Listed),

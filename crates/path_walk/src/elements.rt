@@ -41,7 +41,7 @@ fn name_len(path: &[u8]) -> usize
 
 ghost use Rattle.path_walk.specs.Elements.{name_in, IsElement};
 
-/// The first element from a place of a path on.
+/// The first element from a place of a path on (xv6: `skipelem`).
 pub fn next_element(path: &[u8], from: usize) -> Option<Element>
     requires from { from ≤ length path.now }
     requires nonzero { All (λ b. b ≢ 0) path.now }

@@ -2,6 +2,7 @@
 //!
 //! `specs/Programs` says what is done, operation by operation; `Walk` is a machine that does it. A path stays the call's own bytes: a
 //! walk has the place in it that it has come to.
+//! The lock of one directory is had at a time. A walk frees nothing: a last reference to a dead inode goes on the call's list.
 #![tactic(auto)]
 
 mod elements;

@@ -77,7 +77,7 @@ impl Next {
 }
 
 /// Walks a path, which is told with each step. The lock of one directory is had at a time, and a reference to what is found taken
-/// before that directory is left.
+/// before that directory is left (xv6: `namex`).
 pub enum Walk {
     /// A reference to the path's start is taken.
     Start(u32, Goal, Listed),

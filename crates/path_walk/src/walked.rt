@@ -2,7 +2,7 @@
 use crate::elements::Element;
 use fs_tables::{Listed, Reference};
 
-/// What a walk is for.
+/// What a walk is for (xv6: `namei` or `nameiparent`).
 #[derive(Clone, Copy, PartialEq, Eq, Debug)]
 pub enum Goal {
     /// What the path names.

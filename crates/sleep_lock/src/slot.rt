@@ -6,7 +6,7 @@ ghost use Rattle.sleep_lock.specs.SleepLock.{guard_of, taken, filled, emptied};
 use crate::row::RetiredSlots;
 use std::marker::Model;
 
-/// A place for one value, which is either in it or out in a guard.
+/// A place for one value, which is either in it or out in a guard (xv6: `struct sleeplock`).
 ///
 /// The number tells the slots of a row apart.
 #[derive(Drop)]
@@ -69,7 +69,7 @@ impl<T> Slot<T> {
     }
 
     /// Takes the value out for a hart. There is no guard exactly where the value is out already, and then nothing
-    /// changes.
+    /// changes (xv6: `acquiresleep`, which sleeps there).
     pub fn try_take(&mut self, hart: u8) -> Option<Guard<T>>
         ensures guard { result ≡ guard_of self.old hart }
         ensures slot { self.new ≡ taken self.old hart }
@@ -88,7 +88,7 @@ impl<T> Slot<T> {
         }
     }
 
-    /// Puts back what was taken out of this slot. The slot has to be out in the hand that the guard names.
+    /// Puts back what was taken out of this slot (xv6: `releasesleep`). The slot has to be out in the hand that the guard names.
     pub fn put(&mut self, guard: Guard<T>)
         requires { self.old ≡ emptied guard }
         ensures { self.new ≡ filled guard.number guard.value }
