@@ -14,3 +14,4 @@ pub mod Counts
 pub mod Returning
 pub mod Storing
 pub mod Stopping
+pub mod Unfinished

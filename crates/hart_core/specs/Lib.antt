@@ -8,3 +8,4 @@ pub mod Events
 pub mod Runs
 pub mod Promised
 pub mod Stops
+pub mod Unfinished

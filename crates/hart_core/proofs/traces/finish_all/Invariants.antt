@@ -1,7 +1,10 @@
-use Rattle.std.proofs.Common.{◌≡◌, ◌++◌, map, take, drop}
+use Rattle.std.proofs.Common.{◌-◌, length}
 use Rattle.plain_tree.specs.Explains.{ends_at}
+use Rattle.hart_core.proofs.Unfinished.{Ending, keeps_finished}
 use Rattle.hart_core.proofs.traces.finish_all.Given as goal
 
--- the calls before this place have ended, where they were to end
-abbrev pub invariant-loop-place : goal.invariant-loop-place
-invariant-loop-place l = l.calls.items ≡ map (ends_at l.hart l.reply l.now) (take l.place l.fn.calls.items) ++ drop l.place l.fn.calls.items
+abbrev pub invariant-loop-kept : goal.invariant-loop-kept
+invariant-loop-kept l = Ending (ends_at l.hart l.reply l.now) (keeps_finished l.hart l.reply l.now) l.fn.calls.items l.calls.items l.unfinished.items l.kept
+
+abbrev pub decreases-loop-kept : goal.decreases-loop-kept
+decreases-loop-kept l = length l.unfinished.items - l.kept

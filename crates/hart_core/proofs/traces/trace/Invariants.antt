@@ -1,6 +1,10 @@
 use Rattle.std.proofs.Common.{◌≡◌, take}
 use Rattle.hart_core.specs.Runs.{trace_in}
+use Rattle.hart_core.specs.Unfinished.{AreUnfinished}
 use Rattle.hart_core.proofs.traces.trace.Given as goal
 
 abbrev pub invariant-loop-place : goal.invariant-loop-place
-invariant-loop-place l = trace_in (take l.place l.events) (take l.place l.outcomes) ≡ record { calls = l.calls.items; events = l.place }
+invariant-loop-place l = record {
+  calls : trace_in (take l.place l.events) (take l.place l.outcomes) ≡ record { calls = l.calls.items; events = l.place };
+  unfinished : AreUnfinished l.unfinished.items l.calls.items;
+}
