@@ -1,15 +1,16 @@
--- Why no history is told.
+-- A history is told, or why there is none.
 use Rattle.std.proofs.Common.{◌≡◌, ℕ, List, Option, Result, Ok, Err, refl, inl, inr}
 use Rattle.std.specs.Prelude.{OnOk}
 use Rattle.std.specs.Io.KnownBytes.{Appends}
 use Rattle.hart_core.specs.declared.events.Event.{Event}
-use Rattle.explain.specs.Explained.{IsRefusedSo}
+use Rattle.plain_tree.specs.declared.trace.Placed.{Placed}
+use Rattle.explain.specs.Explained.{ExplainsRun, IsRefusedSo}
 use Rattle.explain.specs.declared.refused.ExplainRefused.{ExplainRefused}
 use Rattle.explain.specs.declared.refused.ExplainRefused.TheVariants as refused
 use Rattle.console.specs.declared.fault.ConsoleFault.{ConsoleFault}
 use Rattle.console.specs.declared.fault.ConsoleFault.TheVariants as faults
 use Rattle.console.specs.Behaviours.{IsWritten}
-use Rattle.console.specs.Histories.{HasLine, TellsHistory, TellsWhy, why_line}
+use Rattle.console.specs.Histories.{HasLine, TellsHistory, TellsWhy, entries_text, why_line}
 
 has_line : (why : ExplainRefused) → (why ≡ refused.NoMemory → ⊥) → HasLine why
 has_line refused.NoMemory other = absurd (other refl)
@@ -34,3 +35,17 @@ why_told image events why result out out' so (inl told) = inl (record {
   printed = told.2;
 })
 why_told image events why result out out' so (inr untold) = inr untold
+
+pub list_told : (image : List ℕ) (events : List Event) (list : List Placed) (result : Result (Unit {0}) ConsoleFault) (out out' : Option (List ℕ)) → ExplainsRun image events list → IsWritten result → OnOk result (Appends out out' (entries_text list)) → TellsHistory image events result out out'
+list_told image events list (Ok u) out out' explains written lines = inl (record {
+  text = entries_text list;
+  is_history = inl (record { list = list; explains = explains; text_is = refl });
+  ends = refl;
+  printed = lines;
+})
+list_told image events list (Err (faults.Write e)) out out' explains written lines = inr tt
+list_told image events list (Err faults.Memory) out out' explains written lines = absurd written
+list_told image events list (Err (faults.Image f)) out out' explains written lines = absurd written
+list_told image events list (Err (faults.Read e)) out out' explains written lines = absurd written
+list_told image events list (Err (faults.Line n reason)) out out' explains written lines = absurd written
+list_told image events list (Err (faults.Stopped stop)) out out' explains written lines = absurd written

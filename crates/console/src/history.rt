@@ -23,9 +23,16 @@ pub fn write_history<W: Write>(
     ensures { TellsHistory image.now events.now result (W.contents out.old) (W.contents out.new) }
 {
     match explain(alloc, image, events) {
-        Ok(list) => write_entries(out, list.as_slice()).map_err(ConsoleFault::Write),
+        Ok(list) => tell_list(out, list.as_slice()),
         Err(why) => tell_why(out, why),
     }
+}
+
+fn tell_list<W: Write>(out: &mut W, list: &[Placed]) -> Result<(), ConsoleFault>
+    ensures written { IsWritten result }
+    ensures prints { OnOk result (Appends (W.contents out.old) (W.contents out.new) (entries_text list.now)) }
+{
+    write_entries(out, list).map_err(ConsoleFault::Write)
 }
 
 // A line an entry, in their order.
