@@ -1,23 +1,22 @@
 -- What a list has of one call, with one step more or one less.
-use Rattle.std.proofs.Common.{◌≡◌, ◌≢◌, ℕ, ◌+◌, ◌-◌, ◌/◌, ◌<◌, ◌≤◌, nat_lt, Bool, true, false, List, [], ◌∷◌, ◌++◌, length, ◌==◌, refl, sym, ◌∙◌, ap, subst, not, append_assoc, inl, inr, arith, Option, Some, None, if◌then◌else◌}
+use Rattle.std.proofs.Common.{◌≡◌, ◌≢◌, ℕ, ◌+◌, ◌-◌, ◌/◌, ◌<◌, nat_lt, true, false, List, [], ◌∷◌, ◌++◌, length, ◌==◌, refl, sym, ◌∙◌, ap, subst, append_assoc, inl, inr, arith, Option, Some, None, if◌then◌else◌}
 use Rattle.std.proofs.lemmas.List.{append-nil}
 use Rattle.std.proofs.lemmas.Bool.{cases_Bool}
 use Rattle.std.proofs.lemmas.Bool.Decides.{nat_tests}
-use Rattle.plain_tree.specs.declared.answer.Answer.{Answer}
 use Rattle.plain_tree.specs.declared.answer.Reply.{Reply}
 use Rattle.plain_tree.specs.declared.call.Call.{Call}
-use Rattle.plain_tree.specs.declared.call.Call.TheVariants.{Open, Read, Write, Link, Unlink, Mkdir, Chdir, Dup, Fstat, Close, Inherit}
+use Rattle.plain_tree.specs.declared.call.Call.TheVariants.{Write, Link}
 use Rattle.plain_tree.specs.declared.step.Action.{Action}
 use Rattle.plain_tree.specs.declared.step.StepAnswer.{StepAnswer}
 use Rattle.plain_tree.specs.declared.step.StepAnswer.TheVariants.{Opened, Bytes, Stat as Status, Fd as NewFd, Done, Failed, Full as NoRoom}
 use Rattle.plain_tree.specs.declared.trace.TracedCall.{TracedCall}
 use Rattle.plain_tree.specs.Steps.{is_nothing}
 use Rattle.plain_tree.specs.Checked.{is_full}
-use Rattle.plain_tree.specs.Calls.{Act, Follows, IsBeginning, IsWhole, counted, first_cause, had_room, last_cause, linked, next_of, piece_count, reply_of}
+use Rattle.plain_tree.specs.Calls.{Act, Follows, IsWhole, counted, first_cause, had_room, last_cause, linked, next_of, piece_count, reply_of}
 use Rattle.plain_tree.specs.Explains.{IsWritten}
 use Rattle.history_search.specs.declared.stand.Stand.{Stand}
-use Rattle.history_search.specs.Stands.{after, first_of, is_told, next_from, reply_at, stand_from, stand_of, start}
-use Rattle.history_search.specs.Searching.{Agrees, AgreesWith, Fits, IsOfCall, end_of, knows}
+use Rattle.history_search.specs.Stands.{after, is_told, next_from, reply_at, stand_from, stand_of, start}
+use Rattle.history_search.specs.Searching.{AgreesWith, Fits, IsOfCall, end_of, knows}
 use Rattle.history_search.proofs.StandLemmas.{equal_is, equal_not, next_is, stand_cause, stand_count, stand_push}
 
 pub follows_push : (c : Call) (before acts : List Act) (a : Act) → Follows c before acts → next_of c (before ++ acts) ≡ Some a.step → Follows c before (acts ++ a ∷ [])

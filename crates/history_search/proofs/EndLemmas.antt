@@ -1,22 +1,20 @@
 -- What can still come after a list.
-use Rattle.std.proofs.Common.{◌≡◌, ◌≢◌, ℕ, ◌+◌, ◌<◌, ◌≤◌, Bool, true, false, List, [], ◌∷◌, ◌++◌, length, ◌==◌, refl, sym, ◌∙◌, ap, subst, append_assoc, inl, inr, arith, Option, Some, None}
+use Rattle.std.proofs.Common.{◌≡◌, ◌≢◌, ℕ, ◌≤◌, true, List, [], ◌∷◌, ◌++◌, refl, sym, ◌∙◌, ap, subst, append_assoc, inl, inr, arith, Option, Some, None}
 use Rattle.std.specs.List.{slice_get}
 use Rattle.std.proofs.lemmas.List.{append-nil}
 use Rattle.std.proofs.lemmas.Bool.{cases_Bool, cases_eq}
-use Rattle.std.proofs.lemmas.Bool.Decides.{nat_tests}
 use Rattle.plain_tree.specs.declared.answer.Reply.{Reply}
 use Rattle.plain_tree.specs.declared.trace.Placed.{Placed}
 use Rattle.plain_tree.specs.declared.trace.Trace.{Trace}
 use Rattle.plain_tree.specs.declared.trace.TracedCall.{TracedCall}
 use Rattle.plain_tree.specs.Tree.{Tree}
 use Rattle.plain_tree.specs.Steps.{Step, is_nothing}
-use Rattle.plain_tree.specs.Calls.{Act, IsWhole, next_of}
+use Rattle.plain_tree.specs.Calls.{Act, next_of}
 use Rattle.plain_tree.specs.Checked.{Leads}
 use Rattle.plain_tree.specs.Explains.{AllBelong, Belongs, Chain, IsInTime, IsWritten, Rises, act_of, acts_of}
 use Rattle.history_search.specs.declared.stand.Stand.{Stand}
 use Rattle.history_search.specs.Searching.{CanEnd, IsOfCall, end_of}
 use Rattle.history_search.proofs.StandLemmas.{acts_none, acts_other, acts_own, push_other, push_own}
-use Rattle.history_search.proofs.CallLemmas.{nothing_is, some_not, written_next}
 
 rises_more : (low : ℕ) (e : Placed) (es : List Placed) → Rises low (e ∷ es) → (low ≤ e.event) × Rises e.event es
 unfolding Rises

@@ -1,24 +1,23 @@
 -- What a search finds, and what it rules out.
-use Rattle.std.proofs.Common.{◌≡◌, ◌≢◌, ℕ, ◌+◌, ◌<◌, ◌≤◌, Bool, true, false, List, [], ◌∷◌, ◌++◌, length, get_or, refl, sym, ◌∙◌, ap, subst, inl, inr, arith, Option, Some, None}
+use Rattle.std.proofs.Common.{◌≡◌, ◌≢◌, ℕ, ◌<◌, ◌≤◌, Bool, true, false, List, [], ◌∷◌, ◌++◌, length, get_or, refl, sym, ◌∙◌, ap, subst, inl, inr, arith, Some, None}
 use Rattle.std.specs.List.{slice_get}
 use Rattle.std.proofs.lemmas.List.{get_or_past}
 use Rattle.std.proofs.lemmas.Option.{slice_get_cases}
 use Rattle.plain_tree.specs.declared.trace.Placed.{Placed}
 use Rattle.plain_tree.specs.declared.trace.Trace.{Trace}
-use Rattle.plain_tree.specs.declared.trace.TracedCall.{TracedCall}
 use Rattle.plain_tree.specs.TreeData.{TreeData}
 use Rattle.plain_tree.specs.Tree.{Tree, tree_of}
-use Rattle.plain_tree.specs.Explains.{AllBelong, Chain, Explains, IsWritten, Rises, acts_of}
+use Rattle.plain_tree.specs.Explains.{Chain, Explains, IsWritten, acts_of}
 use Rattle.plain_tree.proofs.StepLaws.{chain_one}
 use Rattle.history_search.specs.declared.explore.Tried.{Tried}
 use Rattle.history_search.specs.declared.explore.Tried.TheVariants as tried
-use Rattle.history_search.specs.declared.position.Due.{Due}
+use Rattle.history_search.specs.declared.ends.Due.{Due}
 use Rattle.history_search.specs.declared.position.Placing.{Placing}
 use Rattle.history_search.specs.declared.position.Placing.TheVariants as placing
 use Rattle.history_search.specs.declared.position.Position.{Position}
-use Rattle.history_search.specs.declared.stand.Stand.{Stand}
 use Rattle.history_search.specs.Stands.{start}
-use Rattle.history_search.specs.Searching.{CallIsExplored, CanEnd, HasFound, IsExplored, IsPlaced, IsTried, IsAt, IsDead, IsDeadWith, IsDue, IsHopeless, IsKept, IsMade, IsMore, IsOfCall, IsSame, IsSteppedOn, IsThrough, IsUndone, NeedsNumber, last_event, left, steps_left}
+use Rattle.history_search.specs.Ordered.{IsDue}
+use Rattle.history_search.specs.Searching.{CallIsExplored, CanEnd, HasFound, IsExplored, IsPlaced, IsTried, IsAt, IsDead, IsDeadWith, IsHopeless, IsKept, IsMade, IsOfCall, IsSteppedOn, IsUndone, NeedsNumber, last_event, left, steps_left}
 use Rattle.history_search.proofs.StandLemmas.{acts_none}
 use Rattle.history_search.proofs.CallLemmas.{some_not, written_end}
 use Rattle.history_search.proofs.EndLemmas.{First, first, not_nothing}
@@ -46,21 +45,21 @@ pub left_on : (base : TreeData) (t : Trace) (p q : Position) → IsKept base t p
 left_on base t p q k = ap (λ l. left 0 t.calls l) k.same.list
 
 -- the ends of a position follow from its list
-ends_same : (base : TreeData) (t : Trace) (p q : Position) (id : ℕ) → IsAt base t p → IsKept base t p q → get_or q.ends.items id None ≡ get_or p.ends.items id None
+ends_same : (base : TreeData) (t : Trace) (p q : Position) (id : ℕ) → IsAt base t p → IsKept base t p q → get_or q.ends id None ≡ get_or p.ends id None
 ends_same base t p q id at k = elim (slice_get_cases t.calls id).1 [
   | inl x ↦ (
-      let a : IsOfCall x.0 (acts_of id p.list.items) (get_or p.stands.items id start) (get_or p.ends.items id None) = at.calls id x.0 x.2 in
-      let b : IsOfCall x.0 (acts_of id p.list.items) (get_or q.stands.items id start) (get_or q.ends.items id None) = subst (λ l. IsOfCall x.0 (acts_of id l) (get_or q.stands.items id start) (get_or q.ends.items id None)) k.same.list (k.at.calls id x.0 x.2) in
+      let a : IsOfCall x.0 (acts_of id p.list.items) (get_or p.stands.items id start) (get_or p.ends id None) = at.calls id x.0 x.2 in
+      let b : IsOfCall x.0 (acts_of id p.list.items) (get_or q.stands.items id start) (get_or q.ends id None) = subst (λ l. IsOfCall x.0 (acts_of id l) (get_or q.stands.items id start) (get_or q.ends id None)) k.same.list (k.at.calls id x.0 x.2) in
       b.end ∙ sym a.end
       )
   | inr x ↦ (
-      let le : length p.ends.items ≤ id = omega (arith, at.ends, x.0) in
-      let le' : length q.ends.items ≤ id = omega (arith, k.at.ends, x.0) in
-      get_or_past q.ends.items id None le' ∙ sym (get_or_past p.ends.items id None le)
+      let le : length p.ends ≤ id = omega (arith, at.ends, x.0) in
+      let le' : length q.ends ≤ id = omega (arith, k.at.ends, x.0) in
+      get_or_past q.ends id None le' ∙ sym (get_or_past p.ends id None le)
       )
 ]
 
-pub due_on : (base : TreeData) (t : Trace) (p q : Position) (d : Due) → IsAt base t p → IsKept base t p q → IsDue p.ends.items d → IsDue q.ends.items d
+pub due_on : (base : TreeData) (t : Trace) (p q : Position) (d : Due) → IsAt base t p → IsKept base t p q → IsDue p.ends d → IsDue q.ends d
 due_on base t p q d at k due = record {
   end = ends_same base t p q d.id at k ∙ due.end;
   least = λ id e h. due.least id e (sym (ends_same base t p q id at k) ∙ h);
@@ -88,9 +87,9 @@ dead_numbers t p id need all lo x rest low own can =
     all x.step.new n.0 n.1 lo x rest low own (λ ne. refl) can
 
 -- every call was tried
-pub all_dead : (base : TreeData) (t : Trace) (p : Position) (d : Due) → IsAt base t p → IsDue p.ends.items d → ((id : ℕ) → id < length t.calls → IsDead t p id) → IsHopeless t p
+pub all_dead : (base : TreeData) (t : Trace) (p : Position) (d : Due) → IsAt base t p → IsDue p.ends d → ((id : ℕ) → id < length t.calls → IsDead t p id) → IsHopeless t p
 all_dead base t p d at due dead lo [] low can =
-    let e : Ended t p.ends.items d.id d.limit = ended base t p d.id d.limit at due.end in
+    let e : Ended t p.ends d.id d.limit = ended base t p d.id d.limit at due.end in
     let of : IsOfCall e.call (acts_of d.id p.list.items) (get_or p.stands.items d.id start) (Some d.limit) = subst (λ z. IsOfCall e.call (acts_of d.id p.list.items) (get_or p.stands.items d.id start) z) due.end (at.calls d.id e.call e.is) in
     not_nothing t (tree_of p.tree) p.list.items lo d.id e.call (get_or p.stands.items d.id start) d.limit e.is of can
 all_dead base t p d at due dead lo (x ∷ rest) low can =
@@ -108,7 +107,7 @@ found_explains base t p found = record {
   end = tree_of p.tree;
   chain = found.at.chain;
   written = λ id c is. (
-      let of : IsOfCall c (acts_of id p.list.items) (get_or p.stands.items id start) (get_or p.ends.items id None) = found.at.calls id c is in
+      let of : IsOfCall c (acts_of id p.list.items) (get_or p.stands.items id start) (get_or p.ends id None) = found.at.calls id c is in
       written_end c (acts_of id p.list.items) (get_or p.stands.items id start) (subst (λ z. IsOfCall c (acts_of id p.list.items) (get_or p.stands.items id start) z) (found.through id) of)
       );
   belongs = found.at.belongs;

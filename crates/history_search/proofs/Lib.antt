@@ -6,3 +6,4 @@ pub mod ListLemmas
 pub mod PositionLemmas
 pub mod PlaceLemmas
 pub mod ExploreLemmas
+pub mod OrderLemmas

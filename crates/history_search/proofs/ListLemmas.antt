@@ -1,10 +1,9 @@
 -- A list with one entry more, or one less.
-use Rattle.std.proofs.Common.{◌≡◌, ◌≢◌, ℕ, zero, suc, ◌+◌, ◌-◌, ◌/◌, ◌<◌, ◌≤◌, ◌==◌, Bool, true, false, nat_lt, List, [], ◌∷◌, ◌++◌, take, length, get_or, refl, sym, ◌∙◌, ap, subst, append_assoc, inl, inr, arith, Option, Some, None, if◌then◌else◌, add-one}
+use Rattle.std.proofs.Common.{◌≡◌, ◌≢◌, ℕ, zero, suc, ◌+◌, ◌-◌, ◌<◌, ◌≤◌, ◌==◌, nat_lt, List, [], ◌∷◌, ◌++◌, take, length, get_or, refl, sym, ◌∙◌, ap, subst, inl, inr, arith, Option, Some, None, if◌then◌else◌}
 use Rattle.std.specs.List.{slice_get}
-use Rattle.std.proofs.Math.Seq.{get_or-append_seam}
-use Rattle.std.proofs.lemmas.List.{append-nil, length_push, nil_from_length, take_all, take_more}
-use Rattle.std.proofs.lemmas.Option.{get_or_from_slice_get, slice_get-get_or, slice_get_read, slice_get_within}
-use Rattle.std.proofs.lemmas.Bool.{cases_Bool, cases_eq}
+use Rattle.std.proofs.lemmas.List.{length_push, take_all, take_more}
+use Rattle.std.proofs.lemmas.Option.{get_or_from_slice_get, slice_get-get_or, slice_get_within}
+use Rattle.std.proofs.lemmas.Bool.{cases_Bool}
 use Rattle.std.proofs.lemmas.Bool.Decides.{nat_tests}
 use Rattle.plain_tree.specs.declared.call.Call.{Call}
 use Rattle.plain_tree.specs.declared.call.Call.TheVariants.{Open, Read, Write, Link, Unlink, Mkdir, Chdir, Dup, Fstat, Close, Inherit}
@@ -13,8 +12,8 @@ use Rattle.plain_tree.specs.declared.trace.Placed.{Placed}
 use Rattle.plain_tree.specs.declared.trace.Trace.{Trace}
 use Rattle.plain_tree.specs.declared.trace.TracedCall.{TracedCall}
 use Rattle.plain_tree.specs.Tree.{Tree}
-use Rattle.plain_tree.specs.Steps.{Step, has, empty_it}
-use Rattle.plain_tree.specs.Calls.{Act, piece_count}
+use Rattle.plain_tree.specs.Steps.{Step}
+use Rattle.plain_tree.specs.Calls.{piece_count}
 use Rattle.plain_tree.specs.Explains.{AllBelong, Belongs, Chain, Rises, act_of, acts_of}
 use Rattle.history_search.specs.declared.stand.Stand.{Stand}
 use Rattle.history_search.specs.Stands.{next_from}

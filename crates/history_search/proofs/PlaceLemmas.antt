@@ -1,17 +1,15 @@
 -- A step that is placed, and one that is taken back.
-use Rattle.std.proofs.Common.{◌≡◌, ◌≢◌, ℕ, ◌+◌, ◌-◌, ◌<◌, ◌≤◌, Bool, true, false, nat_lt, max, List, [], ◌∷◌, ◌++◌, take, drop, length, get_or, set, refl, sym, ◌∙◌, ap, subst, inl, inr, arith, Option, Some, None}
+use Rattle.std.proofs.Common.{◌≡◌, ◌≢◌, ℕ, ◌+◌, ◌<◌, ◌≤◌, Bool, true, false, nat_lt, max, List, [], ◌∷◌, ◌++◌, take, drop, length, get_or, set, refl, sym, ◌∙◌, ap, subst, inl, inr, arith, Option, Some, None}
 use Rattle.std.specs.List.{slice_get}
-use Rattle.std.specs.Prelude.{MatchOption}
 use Rattle.std.proofs.Math.ListN.{get_or-append}
 use Rattle.std.proofs.Math.Seq.{get_or-append_seam}
 use Rattle.std.proofs.lemmas.Bool.Decides.{nat_tests}
-use Rattle.std.proofs.lemmas.List.{append-nil, get_or-set_other, get_or-set_same, get_or_past, length-set, length_push, take-append-drop, take_more, take_all}
-use Rattle.std.proofs.lemmas.Option.{get_or_from_slice_get, slice_get-get_or, slice_get_past, slice_get_read, slice_get_within}
+use Rattle.std.proofs.lemmas.List.{get_or-set_other, get_or-set_same, get_or_past, length-set, length_push, take-append-drop, take_more}
+use Rattle.std.proofs.lemmas.Option.{get_or_from_slice_get, slice_get_past, slice_get_read, slice_get_within}
 use Rattle.std.proofs.lemmas.Bool.{cases_Bool, cases_eq}
 use Rattle.plain_tree.specs.declared.answer.Reply.{Reply}
 use Rattle.plain_tree.specs.declared.step.Action.{Action}
 use Rattle.plain_tree.specs.declared.step.StepAnswer.{StepAnswer}
-use Rattle.plain_tree.specs.declared.step.TreeStep.{TreeStep}
 use Rattle.plain_tree.specs.declared.trace.Placed.{Placed}
 use Rattle.plain_tree.specs.declared.trace.Trace.{Trace}
 use Rattle.plain_tree.specs.declared.trace.TracedCall.{TracedCall}
@@ -24,19 +22,27 @@ use Rattle.plain_tree.specs.Checked.{Leads}
 use Rattle.plain_tree.specs.Explains.{AllBelong, Belongs, Chain, IsInTime, Rises, act_of, acts_of}
 use Rattle.plain_tree.proofs.LeadLemmas.{step_placed}
 use Rattle.plain_tree.proofs.StepLaws.{applied_step, chain_one, step_one}
-use Rattle.history_search.specs.declared.position.Due.{Due}
+use Rattle.history_search.specs.declared.ends.Due.{Due}
 use Rattle.history_search.specs.declared.position.Position.{Position}
 use Rattle.history_search.specs.declared.stand.Stand.{Stand}
 use Rattle.history_search.specs.Stands.{after, next_from, stand_from, stand_of, start}
-use Rattle.history_search.specs.Searching.{AreOfCalls, CanEnd, Fits, IsAt, IsDeadWith, IsDue, IsHopeless, IsKept, IsMade, IsMore, IsOfCall, IsSame, IsThrough, IsTimely, IsUndone, Precedes, end_at, end_of, last_event, left, most, steps_left}
+use Rattle.history_search.specs.Ordered.{IsDue}
+use Rattle.history_search.specs.Searching.{AreOfCalls, CanEnd, Fits, IsAt, IsDeadWith, IsHopeless, IsKept, IsMade, IsOfCall, IsTimely, Precedes, end_at, end_of, last_event, left, most, steps_left}
 use Rattle.history_search.proofs.StandLemmas.{next_is, stand_count, stand_push, push_own, push_other, acts_none}
-use Rattle.history_search.proofs.CallLemmas.{call_front, call_push, call_start, some_not}
+use Rattle.history_search.proofs.CallLemmas.{call_front, call_push, call_start}
 use Rattle.history_search.proofs.EndLemmas.{can_swap}
 use Rattle.history_search.proofs.ListLemmas.{belong_front, belong_push, below_most, chain_first, chain_none, chain_push, chain_split, last_front, last_push, left_less, rises_front, rises_push}
 use Rattle.history_search.proofs.PositionLemmas.{Applied, Coming, applied, calls_back, calls_push, coming}
 
 pub same_kept : (base : TreeData) (t : Trace) (p : Position) → IsAt base t p → IsKept base t p p
 same_kept base t p at = record { at = at; same = record { list = refl; tree = refl } }
+
+-- A call of which a step comes next has its end still.
+pub end_still : (base : TreeData) (t : Trace) (p : Position) (id : ℕ) (c : TracedCall) (a : Action) → IsAt base t p → slice_get t.calls id ≡ Some c → next_from c.call (get_or p.stands.items id start) ≡ Some a → get_or p.ends id None ≡ end_of c false
+end_still base t p id c a at is next =
+    let of : IsOfCall c (acts_of id p.list.items) (get_or p.stands.items id start) (get_or p.ends id None) = at.calls id c is in
+    let n : next_of c.call (acts_of id p.list.items) ≡ Some a = next_is c.call (acts_of id p.list.items) ∙ (ap (λ (s : Stand). next_from c.call s) (sym of.stand) ∙ next) in
+    of.end ∙ ap (λ o. end_of c (is_nothing o)) n
 
 -- ---- one entry more
 
@@ -47,14 +53,14 @@ not_through : (c : TracedCall) (r : ℕ × Reply) (a : Action) (n : Option Actio
 not_through c r a n is fin = ap (λ (x : Option Action). end_of c (is_nothing x)) is ∙ ap end_at fin
 
 -- an event that is timely is in the call's time
-in_time : (base : TreeData) (t : Trace) (p : Position) (id event : ℕ) (c : TracedCall) (a : Action) (d : Due) → IsAt base t p → slice_get t.calls id ≡ Some c → IsDue p.ends.items d → next_from c.call (get_or p.stands.items id start) ≡ Some a → IsTimely c.finished event d.limit t.events → IsInTime t.events event c.finished
+in_time : (base : TreeData) (t : Trace) (p : Position) (id event : ℕ) (c : TracedCall) (a : Action) (d : Due) → IsAt base t p → slice_get t.calls id ≡ Some c → IsDue p.ends d → next_from c.call (get_or p.stands.items id start) ≡ Some a → IsTimely c.finished event d.limit t.events → IsInTime t.events event c.finished
 in_time base t p id event c a d at is due next timely = go c.finished refl timely where
   go : (f : Option (ℕ × Reply)) → c.finished ≡ f → IsTimely f event d.limit t.events → IsInTime t.events event f
   go None e w = w.1
   go (Some r) e w =
-      let of : IsOfCall c (acts_of id p.list.items) (get_or p.stands.items id start) (get_or p.ends.items id None) = at.calls id c is in
+      let of : IsOfCall c (acts_of id p.list.items) (get_or p.stands.items id start) (get_or p.ends id None) = at.calls id c is in
       let n : next_of c.call (acts_of id p.list.items) ≡ Some a = next_is c.call (acts_of id p.list.items) ∙ (ap (λ (s : Stand). next_from c.call s) (sym of.stand) ∙ next) in
-      let end : get_or p.ends.items id None ≡ Some r.0 = of.end ∙ not_through c r a (next_of c.call (acts_of id p.list.items)) n e in
+      let end : get_or p.ends id None ≡ Some r.0 = of.end ∙ not_through c r a (next_of c.call (acts_of id p.list.items)) n e in
       let le : d.limit ≤ r.0 = due.least id r.0 end in
       let lt : event ≤ d.limit = w in
       omega arith
@@ -74,17 +80,17 @@ end_some c false e h = go c.finished refl h where
 in_time_at : (events event : ℕ) (f : Option (ℕ × Reply)) (r : ℕ × Reply) → f ≡ Some r → IsInTime events event f → event ≤ r.0
 in_time_at events event f r e h = subst (λ g. IsInTime events event g) e h
 
-precedes_push : (p : Position) (id event : ℕ) (c : TracedCall) (x : Placed) (d : Due) (e : Option ℕ) (through : Bool) (events : ℕ) → IsDue p.ends.items d → id < length p.ends.items → x.event ≡ event → event ≤ d.limit → e ≡ end_of c through → IsInTime events event c.finished
-    → Precedes (p.list.items ++ x ∷ []) (set p.ends.items id e)
+precedes_push : (p : Position) (id event : ℕ) (c : TracedCall) (x : Placed) (d : Due) (e : Option ℕ) (through : Bool) (events : ℕ) → IsDue p.ends d → id < length p.ends → x.event ≡ event → event ≤ d.limit → e ≡ end_of c through → IsInTime events event c.finished
+    → Precedes (p.list.items ++ x ∷ []) (set p.ends id e)
 precedes_push p id event c x d e through events due lt at le end time k n h = elim (cases_eq k id) [
   | inl y ↦ (
-      let own : e ≡ Some n = sym (get_or-set_same p.ends.items id e None lt) ∙ (ap (λ j. get_or (set p.ends.items id e) j None) (sym y) ∙ h) in
+      let own : e ≡ Some n = sym (get_or-set_same p.ends id e None lt) ∙ (ap (λ j. get_or (set p.ends id e) j None) (sym y) ∙ h) in
       let r = end_some c through n (sym end ∙ own) in
       let until : event ≤ r.0.0 = in_time_at events event c.finished r.0 r.1 time in
       omega (arith, last_push p.list.items x, r.2)
       )
   | inr ne ↦ (
-      let other : get_or p.ends.items k None ≡ Some n = sym (get_or-set_other p.ends.items id k e None ne) ∙ h in
+      let other : get_or p.ends k None ≡ Some n = sym (get_or-set_other p.ends id k e None ne) ∙ h in
       omega (arith, last_push p.list.items x, due.least k n other)
       )
 ]
@@ -92,7 +98,7 @@ precedes_push p id event c x d e through events due lt at le end time k n h = el
 pub record Placing (base : TreeData) (t : Trace) (p : Position) (id new event : ℕ) (c : TracedCall) (d : Due) (a : Action) (b : StepAnswer) (u : Tree) (s : Stand) (e : Option ℕ) (q : Position) : Type 0 where
   pub at : IsAt base t p
   pub is : slice_get t.calls id ≡ Some c
-  pub due : IsDue p.ends.items d
+  pub due : IsDue p.ends d
   pub low : last_event p.list.items ≤ event
   pub started : c.start ≤ event
   pub least : (n : ℕ) → last_event p.list.items ≤ n → c.start ≤ n → event ≤ n
@@ -106,27 +112,27 @@ pub record Placing (base : TreeData) (t : Trace) (p : Position) (id new event : 
   pub tree : tree_of q.tree ≡ u
   pub list : q.list.items ≡ p.list.items ++ entry c event id new a b ∷ []
   pub stands : q.stands.items ≡ set p.stands.items id s
-  pub ends : q.ends.items ≡ set p.ends.items id e
+  pub ends : q.ends ≡ set p.ends id e
 
 placed_at : (base : TreeData) (t : Trace) (p : Position) (id new event : ℕ) (c : TracedCall) (d : Due) (a : Action) (b : StepAnswer) (u : Tree) (s : Stand) (e : Option ℕ) (q : Position) → Placing base t p id new event c d a b u s e q → IsAt base t q
 placed_at base t p id new event c d a b u s e q w =
     let y : Placed = entry c event id new a b in
     let lt : id < length t.calls = slice_get_within t.calls id c w.is in
     let lts : id < length p.stands.items = omega (arith, w.at.stands) in
-    let lte : id < length p.ends.items = omega (arith, w.at.ends) in
+    let lte : id < length p.ends = omega (arith, w.at.ends) in
     let step : Step (tree_of p.tree) y.step y.answer u = applied_step (tree_of p.tree) y.step w.made.id b u w.place w.made.least w.made.made in
     let time : IsInTime t.events event c.finished = in_time base t p id event c a d w.at w.is w.due w.next w.timely in
     let belong : Belongs t y = record { traced = c; is = w.is; hart = refl; after_start = w.started; before_return = time } in
-    let of : IsOfCall c (acts_of id p.list.items ++ act_of y ∷ []) s e = call_push c (acts_of id p.list.items) (act_of y) (get_or p.stands.items id start) s (get_or p.ends.items id None) e (w.at.calls id c w.is) w.next w.stand w.end w.fits in
-    let calls : AreOfCalls t.calls (p.list.items ++ y ∷ []) (set p.stands.items id s) (set p.ends.items id e) = calls_push t.calls p.list.items p.stands.items p.ends.items id y c s e w.at.calls w.is refl lts lte of in
-    let before : Precedes (p.list.items ++ y ∷ []) (set p.ends.items id e) = precedes_push p id event c y d e (is_nothing (next_from c.call s)) t.events w.due lte refl (limit_of c.finished event d.limit t.events w.timely) w.end time in record {
+    let of : IsOfCall c (acts_of id p.list.items ++ act_of y ∷ []) s e = call_push c (acts_of id p.list.items) (act_of y) (get_or p.stands.items id start) s (get_or p.ends id None) e (w.at.calls id c w.is) w.next w.stand w.end w.fits in
+    let calls : AreOfCalls t.calls (p.list.items ++ y ∷ []) (set p.stands.items id s) (set p.ends id e) = calls_push t.calls p.list.items p.stands.items p.ends id y c s e w.at.calls w.is refl lts lte of in
+    let before : Precedes (p.list.items ++ y ∷ []) (set p.ends id e) = precedes_push p id event c y d e (is_nothing (next_from c.call s)) t.events w.due lte refl (limit_of c.finished event d.limit t.events w.timely) w.end time in record {
       chain = subst (λ (z : Tree). Chain (tree_of base) q.list.items z) (sym w.tree) (subst (λ l. Chain (tree_of base) l u) (sym w.list) (chain_push (tree_of base) (tree_of p.tree) u p.list.items y w.at.chain step));
       rises = subst (λ l. Rises 0 l) (sym w.list) (rises_push p.list.items y w.at.rises w.low);
       belongs = subst (λ l. AllBelong t l) (sym w.list) (belong_push t p.list.items y w.at.belongs belong);
-      calls = subst (λ l. AreOfCalls t.calls l q.stands.items q.ends.items) (sym w.list) (subst (λ z. AreOfCalls t.calls (p.list.items ++ y ∷ []) z q.ends.items) (sym w.stands) (subst (λ z. AreOfCalls t.calls (p.list.items ++ y ∷ []) (set p.stands.items id s) z) (sym w.ends) calls));
+      calls = subst (λ l. AreOfCalls t.calls l q.stands.items q.ends) (sym w.list) (subst (λ z. AreOfCalls t.calls (p.list.items ++ y ∷ []) z q.ends) (sym w.stands) (subst (λ z. AreOfCalls t.calls (p.list.items ++ y ∷ []) (set p.stands.items id s) z) (sym w.ends) calls));
       stands = ap length w.stands ∙ (length-set p.stands.items id s ∙ w.at.stands);
-      ends = ap length w.ends ∙ (length-set p.ends.items id e ∙ w.at.ends);
-      precedes = subst (λ l. Precedes l q.ends.items) (sym w.list) (subst (λ z. Precedes (p.list.items ++ y ∷ []) z) (sym w.ends) before);
+      ends = ap length w.ends ∙ (length-set p.ends id e ∙ w.at.ends);
+      precedes = subst (λ l. Precedes l q.ends) (sym w.list) (subst (λ z. Precedes (p.list.items ++ y ∷ []) z) (sym w.ends) before);
     }
 
 act_is : (s t : Action) (a b : StepAnswer) → s ≡ t → a ≡ b → let x : Act = record { step = s; answer = a } in x ≡ record { step = t; answer = b }
@@ -145,7 +151,7 @@ placed_rules_out base t p id new event c d a b u s e q w hopeless lo x rest low 
 placed_fewer : (base : TreeData) (t : Trace) (p : Position) (id new event : ℕ) (c : TracedCall) (d : Due) (a : Action) (b : StepAnswer) (u : Tree) (s : Stand) (e : Option ℕ) (q : Position) → Placing base t p id new event c d a b u s e q → steps_left t q < steps_left t p
 placed_fewer base t p id new event c d a b u s e q w =
     let y : Placed = entry c event id new a b in
-    let of : IsOfCall c (acts_of id p.list.items) (get_or p.stands.items id start) (get_or p.ends.items id None) = w.at.calls id c w.is in
+    let of : IsOfCall c (acts_of id p.list.items) (get_or p.stands.items id start) (get_or p.ends id None) = w.at.calls id c w.is in
     let n : (get_or p.stands.items id start).count ≡ length (acts_of id p.list.items) = ap (λ (z : Stand). z.count) of.stand ∙ (stand_count start (acts_of id p.list.items) ∙ omega arith) in
     let m : (get_or p.stands.items id start).count < most c.call = below_most c.call (get_or p.stands.items id start) a w.next in
     let less : left 0 t.calls (p.list.items ++ y ∷ []) < left 0 t.calls p.list.items = left_less id 0 t.calls p.list.items y c (omega arith) w.is (omega arith) in
@@ -161,16 +167,16 @@ placed base t p id new event c d a b u s e q w = record {
 
 -- ---- the tree again
 
-pub retree : (base : TreeData) (t : Trace) (p q : Position) → IsAt base t p → q.list.items ≡ p.list.items → q.stands.items ≡ p.stands.items → q.ends.items ≡ p.ends.items → Chain (tree_of base) p.list.items (tree_of q.tree) → IsKept base t p q
+pub retree : (base : TreeData) (t : Trace) (p q : Position) → IsAt base t p → q.list.items ≡ p.list.items → q.stands.items ≡ p.stands.items → q.ends ≡ p.ends → Chain (tree_of base) p.list.items (tree_of q.tree) → IsKept base t p q
 retree base t p q at list stands ends chain = record {
   at = record {
     chain = subst (λ l. Chain (tree_of base) l (tree_of q.tree)) (sym list) chain;
     rises = subst (λ l. Rises 0 l) (sym list) at.rises;
     belongs = subst (λ l. AllBelong t l) (sym list) at.belongs;
-    calls = subst (λ l. AreOfCalls t.calls l q.stands.items q.ends.items) (sym list) (subst (λ z. AreOfCalls t.calls p.list.items z q.ends.items) (sym stands) (subst (λ z. AreOfCalls t.calls p.list.items p.stands.items z) (sym ends) at.calls));
+    calls = subst (λ l. AreOfCalls t.calls l q.stands.items q.ends) (sym list) (subst (λ z. AreOfCalls t.calls p.list.items z q.ends) (sym stands) (subst (λ z. AreOfCalls t.calls p.list.items p.stands.items z) (sym ends) at.calls));
     stands = ap length stands ∙ at.stands;
     ends = ap length ends ∙ at.ends;
-    precedes = subst (λ l. Precedes l q.ends.items) (sym list) (subst (λ z. Precedes p.list.items z) (sym ends) at.precedes);
+    precedes = subst (λ l. Precedes l q.ends) (sym list) (subst (λ z. Precedes p.list.items z) (sym ends) at.precedes);
   };
   same = record { list = list; tree = chain_one (tree_of base) p.list.items (tree_of q.tree) (tree_of p.tree) chain at.chain };
 }
@@ -185,7 +191,7 @@ pub record Undoing (base : TreeData) (t : Trace) (p : Position) (front : List Pl
   pub end : e ≡ end_of c (is_nothing (next_from c.call s))
   pub list : q.list.items ≡ front
   pub stands : q.stands.items ≡ set p.stands.items x.call s
-  pub ends : q.ends.items ≡ set p.ends.items x.call e
+  pub ends : q.ends ≡ set p.ends x.call e
   pub chain : Chain (tree_of base) front (tree_of q.tree)
 
 precedes_back : (front : List Placed) (x : Placed) (ends : List (Option ℕ)) (c : TracedCall) (e : Option ℕ) (through : Bool) (events : ℕ) → Rises 0 (front ++ x ∷ []) → Precedes (front ++ x ∷ []) ends → x.call < length ends → e ≡ end_of c through → IsInTime events x.event c.finished → Precedes front (set ends x.call e)
@@ -211,23 +217,23 @@ undone_at : (base : TreeData) (t : Trace) (p : Position) (front : List Placed) (
 undone_at base t p front x c s e q w =
     let lt : x.call < length t.calls = slice_get_within t.calls x.call c w.is in
     let lts : x.call < length p.stands.items = omega (arith, w.at.stands) in
-    let lte : x.call < length p.ends.items = omega (arith, w.at.ends) in
+    let lte : x.call < length p.ends = omega (arith, w.at.ends) in
     let rises : Rises 0 (front ++ x ∷ []) = subst (λ l. Rises 0 l) w.was w.at.rises in
     let belongs : AllBelong t front × Belongs t x = belong_front t front x (subst (λ l. AllBelong t l) w.was w.at.belongs) in
-    let calls : AreOfCalls t.calls (front ++ x ∷ []) p.stands.items p.ends.items = subst (λ l. AreOfCalls t.calls l p.stands.items p.ends.items) w.was w.at.calls in
-    let old : IsOfCall c (acts_of x.call front ++ act_of x ∷ []) (get_or p.stands.items x.call start) (get_or p.ends.items x.call None) = subst (λ acts. IsOfCall c acts (get_or p.stands.items x.call start) (get_or p.ends.items x.call None)) (push_own x.call front x refl) (calls x.call c w.is) in
-    let of : IsOfCall c (acts_of x.call front) s e = call_front c (acts_of x.call front) (act_of x) (get_or p.stands.items x.call start) s (get_or p.ends.items x.call None) e old w.stand w.end in
-    let back : AreOfCalls t.calls front (set p.stands.items x.call s) (set p.ends.items x.call e) = calls_back t.calls front p.stands.items p.ends.items x.call x c s e calls w.is refl lts lte of in
+    let calls : AreOfCalls t.calls (front ++ x ∷ []) p.stands.items p.ends = subst (λ l. AreOfCalls t.calls l p.stands.items p.ends) w.was w.at.calls in
+    let old : IsOfCall c (acts_of x.call front ++ act_of x ∷ []) (get_or p.stands.items x.call start) (get_or p.ends x.call None) = subst (λ acts. IsOfCall c acts (get_or p.stands.items x.call start) (get_or p.ends x.call None)) (push_own x.call front x refl) (calls x.call c w.is) in
+    let of : IsOfCall c (acts_of x.call front) s e = call_front c (acts_of x.call front) (act_of x) (get_or p.stands.items x.call start) s (get_or p.ends x.call None) e old w.stand w.end in
+    let back : AreOfCalls t.calls front (set p.stands.items x.call s) (set p.ends x.call e) = calls_back t.calls front p.stands.items p.ends x.call x c s e calls w.is refl lts lte of in
     let same : belongs.1.traced ≡ c = one_some (slice_get t.calls x.call) belongs.1.traced c belongs.1.is w.is in
     let time : IsInTime t.events x.event c.finished = subst (λ (d : TracedCall). IsInTime t.events x.event d.finished) same belongs.1.before_return in
-    let before : Precedes front (set p.ends.items x.call e) = precedes_back front x p.ends.items c e (is_nothing (next_from c.call s)) t.events rises (subst (λ l. Precedes l p.ends.items) w.was w.at.precedes) lte w.end time in record {
+    let before : Precedes front (set p.ends x.call e) = precedes_back front x p.ends c e (is_nothing (next_from c.call s)) t.events rises (subst (λ l. Precedes l p.ends) w.was w.at.precedes) lte w.end time in record {
       chain = subst (λ l. Chain (tree_of base) l (tree_of q.tree)) (sym w.list) w.chain;
       rises = subst (λ l. Rises 0 l) (sym w.list) (rises_front front x rises);
       belongs = subst (λ l. AllBelong t l) (sym w.list) belongs.0;
-      calls = subst (λ l. AreOfCalls t.calls l q.stands.items q.ends.items) (sym w.list) (subst (λ z. AreOfCalls t.calls front z q.ends.items) (sym w.stands) (subst (λ z. AreOfCalls t.calls front (set p.stands.items x.call s) z) (sym w.ends) back));
+      calls = subst (λ l. AreOfCalls t.calls l q.stands.items q.ends) (sym w.list) (subst (λ z. AreOfCalls t.calls front z q.ends) (sym w.stands) (subst (λ z. AreOfCalls t.calls front (set p.stands.items x.call s) z) (sym w.ends) back));
       stands = ap length w.stands ∙ (length-set p.stands.items x.call s ∙ w.at.stands);
-      ends = ap length w.ends ∙ (length-set p.ends.items x.call e ∙ w.at.ends);
-      precedes = subst (λ l. Precedes l q.ends.items) (sym w.list) (subst (λ z. Precedes front z) (sym w.ends) before);
+      ends = ap length w.ends ∙ (length-set p.ends x.call e ∙ w.at.ends);
+      precedes = subst (λ l. Precedes l q.ends) (sym w.list) (subst (λ z. Precedes front z) (sym w.ends) before);
     }
 
 pub undone : (base : TreeData) (t : Trace) (p : Position) (front : List Placed) (x : Placed) (c : TracedCall) (s : Stand) (e : Option ℕ) (q : Position) → Undoing base t p front x c s e q → IsAt base t q
@@ -302,38 +308,19 @@ none_last : last_event [] ≡ 0
 unfolding last_event
 none_last = refl
 
-pub begin_at : (base : TreeData) (t : Trace) (p : Position) → p.tree ≡ base → p.list.items ≡ [] → length p.stands.items ≡ length t.calls → length p.ends.items ≡ length t.calls → ((k : ℕ) → get_or p.stands.items k start ≡ start) → EndsAt t.calls p.ends.items (length t.calls) → IsAt base t p
+pub begin_at : (base : TreeData) (t : Trace) (p : Position) → p.tree ≡ base → p.list.items ≡ [] → length p.stands.items ≡ length t.calls → length p.ends ≡ length t.calls → ((k : ℕ) → get_or p.stands.items k start ≡ start) → EndsAt t.calls p.ends (length t.calls) → IsAt base t p
 begin_at base t p tree list stands ends all_start all_end = record {
   chain = subst (λ l. Chain (tree_of base) l (tree_of p.tree)) (sym list) (subst (λ (d : TreeData). Chain (tree_of base) [] (tree_of d)) (sym tree) (chain_none (tree_of base)));
   rises = subst (λ l. Rises 0 l) (sym list) none_rises;
   belongs = subst (λ l. AllBelong t l) (sym list) (none_belong t);
   calls = λ id c is. (
       let lt : id < length t.calls = slice_get_within t.calls id c is in
-      let of : IsOfCall c [] start (get_or p.ends.items id None) = call_start c (get_or p.ends.items id None) (all_end id c lt is) in
-      subst (λ l. IsOfCall c (acts_of id l) (get_or p.stands.items id start) (get_or p.ends.items id None)) (sym list) (subst (λ acts. IsOfCall c acts (get_or p.stands.items id start) (get_or p.ends.items id None)) (sym (acts_none id)) (subst (λ (s : Stand). IsOfCall c [] s (get_or p.ends.items id None)) (sym (all_start id)) of))
+      let of : IsOfCall c [] start (get_or p.ends id None) = call_start c (get_or p.ends id None) (all_end id c lt is) in
+      subst (λ l. IsOfCall c (acts_of id l) (get_or p.stands.items id start) (get_or p.ends id None)) (sym list) (subst (λ acts. IsOfCall c acts (get_or p.stands.items id start) (get_or p.ends id None)) (sym (acts_none id)) (subst (λ (s : Stand). IsOfCall c [] s (get_or p.ends id None)) (sym (all_start id)) of))
       );
   stands = stands;
   ends = ends;
   precedes = λ id e h. (let z : last_event p.list.items ≡ 0 = ap last_event list ∙ none_last in omega arith);
-}
-
--- ---- the call that has to return first
-
-abbrev pub LeastBelow : List (Option ℕ) → ℕ → Option Due → Type 0
-LeastBelow ends n None = (k : ℕ) → k < n → get_or ends k None ≡ None
-LeastBelow ends n (Some d) = (get_or ends d.id None ≡ Some d.limit) × ((k e : ℕ) → k < n → get_or ends k None ≡ Some e → d.limit ≤ e)
-
-pub due_end : (p : Position) (n : ℕ) (due : Option Due) → length p.ends.items ≤ n → LeastBelow p.ends.items n due → MatchOption due (IsThrough p) (λ d. IsDue p.ends.items d)
-due_end p n None le inv = λ k. elim (cases_Bool (nat_lt k n)) [
-  | inl y ↦ inv k (grind (arith, nat_tests))
-  | inr y ↦ get_or_past p.ends.items k None (let ge : n ≤ k = grind (arith, nat_tests) in omega arith)
-]
-due_end p n (Some d) le inv = record {
-  end = inv.0;
-  least = λ k e h. elim (cases_Bool (nat_lt k n)) [
-    | inl y ↦ inv.1 k e (grind (arith, nat_tests)) h
-    | inr y ↦ absurd (let ge : length p.ends.items ≤ k = (let g : n ≤ k = grind (arith, nat_tests) in omega arith) in let z : None ≡ Some e = sym (get_or_past p.ends.items k None ge) ∙ h in cc)
-  ];
 }
 
 -- ---- what is read

@@ -1,34 +1,33 @@
 -- A list that begins to explain a trace: with one entry more, with one less, and what it rules out.
-use Rattle.std.proofs.Common.{◌≡◌, ◌≢◌, ℕ, ◌+◌, ◌-◌, ◌<◌, ◌≤◌, Bool, true, false, List, [], ◌∷◌, ◌++◌, take, length, get_or, set, refl, sym, ◌∙◌, ap, subst, inl, inr, arith, Option, Some, None}
+use Rattle.std.proofs.Common.{◌≡◌, ◌≢◌, ℕ, ◌<◌, ◌≤◌, List, [], ◌∷◌, ◌++◌, length, get_or, set, sym, ◌∙◌, ap, subst, inl, inr, arith, Option, Some, None}
 use Rattle.std.specs.List.{slice_get}
 use Rattle.std.proofs.lemmas.List.{get_or-set_other, get_or-set_same, get_or_past}
-use Rattle.std.proofs.lemmas.Option.{slice_get-get_or, slice_get_cases, slice_get_within}
-use Rattle.std.proofs.lemmas.Bool.{cases_Bool, cases_eq}
+use Rattle.std.proofs.lemmas.Option.{slice_get_cases}
+use Rattle.std.proofs.lemmas.Bool.{cases_eq}
 use Rattle.plain_tree.specs.declared.answer.Reply.{Reply}
 use Rattle.plain_tree.specs.declared.step.Action.{Action}
 use Rattle.plain_tree.specs.declared.step.StepAnswer.{StepAnswer}
-use Rattle.plain_tree.specs.declared.step.TreeStep.{TreeStep}
 use Rattle.plain_tree.specs.declared.trace.Placed.{Placed}
 use Rattle.plain_tree.specs.declared.trace.Trace.{Trace}
 use Rattle.plain_tree.specs.declared.trace.TracedCall.{TracedCall}
 use Rattle.plain_tree.specs.TreeData.{TreeData}
 use Rattle.plain_tree.specs.Tree.{Tree, tree_of}
-use Rattle.plain_tree.specs.Steps.{IsInPlace, IsNewNode, Step, is_nothing}
+use Rattle.plain_tree.specs.Steps.{IsInPlace, IsNewNode, Step}
 use Rattle.plain_tree.specs.Applied.{IsApplied, IsBadChoice}
 use Rattle.plain_tree.specs.Calls.{Act, next_of}
-use Rattle.plain_tree.specs.Explains.{Belongs, Chain, Explains, IsInTime, IsWritten, Rises, act_of, acts_of}
+use Rattle.plain_tree.specs.Explains.{IsInTime, IsWritten, act_of, acts_of}
 use Rattle.plain_tree.proofs.LeadLemmas.{step_placed}
-use Rattle.plain_tree.proofs.StepLaws.{applied_step, chain_one}
-use Rattle.history_search.specs.declared.position.Due.{Due}
+use Rattle.history_search.specs.declared.ends.Due.{Due}
 use Rattle.history_search.specs.declared.position.Position.{Position}
 use Rattle.history_search.specs.declared.stand.Stand.{Stand}
-use Rattle.history_search.specs.Stands.{after, next_from, stand_of, start}
-use Rattle.history_search.specs.Searching.{AreOfCalls, CanEnd, Fits, IsAt, IsDead, IsDeadWith, IsDue, IsHopeless, IsKept, IsMade, IsMore, IsOfCall, IsSame, IsThrough, IsTimely, IsUndone, NeedsNumber, Precedes, end_at, end_of, last_event, left, most, steps_left}
-use Rattle.history_search.proofs.StandLemmas.{acts_none, next_is, push_other, push_own, stand_count}
-use Rattle.history_search.proofs.CallLemmas.{call_front, call_push, call_start, nothing_is, some_not, written_end, written_fits, written_next}
+use Rattle.history_search.specs.Stands.{after, next_from, start}
+use Rattle.history_search.specs.Ordered.{IsDue}
+use Rattle.history_search.specs.Searching.{AreOfCalls, CanEnd, Fits, IsAt, IsDeadWith, IsOfCall, IsTimely, NeedsNumber, last_event, most}
+use Rattle.history_search.proofs.StandLemmas.{next_is, push_other, push_own}
+use Rattle.history_search.proofs.CallLemmas.{some_not, written_fits, written_next}
 use Rattle.history_search.proofs.StepLemmas.{applied_is, numbered}
-use Rattle.history_search.proofs.EndLemmas.{First, begins_by, can_swap, first, first_written, not_nothing}
-use Rattle.history_search.proofs.ListLemmas.{belong_front, belong_push, below_most, chain_first, chain_none, chain_push, chain_split, last_front, last_push, left_less, rises_cons, rises_front, rises_push}
+use Rattle.history_search.proofs.EndLemmas.{First, begins_by, first, first_written}
+use Rattle.history_search.proofs.ListLemmas.{rises_cons}
 
 one_some : {A : Type 0} (o : Option A) (x y : A) → o ≡ Some x → o ≡ Some y → x ≡ y
 one_some o x y e f = cc
@@ -78,10 +77,10 @@ pub record Ended (t : Trace) (ends : List (Option ℕ)) (id e : ℕ) : Type 0 wh
   pub call : TracedCall
   pub is : slice_get t.calls id ≡ Some call
 
-pub ended : (base : TreeData) (t : Trace) (p : Position) (id e : ℕ) → IsAt base t p → get_or p.ends.items id None ≡ Some e → Ended t p.ends.items id e
+pub ended : (base : TreeData) (t : Trace) (p : Position) (id e : ℕ) → IsAt base t p → get_or p.ends id None ≡ Some e → Ended t p.ends id e
 ended base t p id e at h = elim (slice_get_cases t.calls id).1 [
   | inl x ↦ record { call = x.0; is = x.2 }
-  | inr x ↦ absurd (let le : length p.ends.items ≤ id = omega (arith, at.ends, x.0) in let z : None ≡ Some e = sym (get_or_past p.ends.items id None le) ∙ h in cc)
+  | inr x ↦ absurd (let le : length p.ends ≤ id = omega (arith, at.ends, x.0) in let z : None ≡ Some e = sym (get_or_past p.ends id None le) ∙ h in cc)
 ]
 
 -- ---- what may come next
@@ -109,7 +108,7 @@ coming base t p id lo c x rest at is low own can =
     let hart : x.step.hart ≡ c.hart = b.belongs.hart ∙ ap (λ (d : TracedCall). d.hart) same in
     let here : slice_get t.calls x.call ≡ Some c = ap (λ j. slice_get t.calls j) own ∙ is in
     let w : IsWritten c.call (acts_of id p.list.items ++ act_of x ∷ acts_of id rest) c.finished = subst (λ j. IsWritten c.call (acts_of j p.list.items ++ act_of x ∷ acts_of j rest) c.finished) own (first_written t (tree_of p.tree) p.list.items lo x rest c here can) in
-    let of : IsOfCall c (acts_of id p.list.items) (get_or p.stands.items id start) (get_or p.ends.items id None) = at.calls id c is in
+    let of : IsOfCall c (acts_of id p.list.items) (get_or p.stands.items id start) (get_or p.ends id None) = at.calls id c is in
     let n : next_of c.call (acts_of id p.list.items) ≡ Some x.step.action = written_next c.finished c.call (acts_of id p.list.items) (act_of x) (acts_of id rest) w in
     let le : c.start ≤ x.event = subst (λ (d : TracedCall). d.start ≤ x.event) same b.belongs.after_start in
     let first_low : lo ≤ x.event = b.low in record {
@@ -126,9 +125,9 @@ coming base t p id lo c x rest at is low own can =
     }
 
 -- It may be numbered by any event between the last one and its own.
-pub timely : (base : TreeData) (t : Trace) (p : Position) (id event : ℕ) (d : Due) (c : TracedCall) (x : Placed) (rest : List Placed) → IsAt base t p → IsDue p.ends.items d → event ≤ x.event → Coming t p id c x rest → IsTimely c.finished event d.limit t.events
+pub timely : (base : TreeData) (t : Trace) (p : Position) (id event : ℕ) (d : Due) (c : TracedCall) (x : Placed) (rest : List Placed) → IsAt base t p → IsDue p.ends d → event ≤ x.event → Coming t p id c x rest → IsTimely c.finished event d.limit t.events
 timely base t p id event d c x rest at due le come =
-    let end : Ended t p.ends.items d.id d.limit = ended base t p d.id d.limit at due.end in
+    let end : Ended t p.ends d.id d.limit = ended base t p d.id d.limit at due.end in
     let of : IsOfCall end.call (acts_of d.id p.list.items) (get_or p.stands.items d.id start) (Some d.limit) = subst (λ e. IsOfCall end.call (acts_of d.id p.list.items) (get_or p.stands.items d.id start) e) due.end (at.calls d.id end.call end.is) in
     let by : x.event ≤ d.limit = begins_by t (tree_of p.tree) p.list.items x.event (x ∷ rest) d.id end.call (get_or p.stands.items d.id start) d.limit end.is of come.again in
     go c.finished come.until by where
@@ -139,7 +138,7 @@ timely base t p id event d c x rest at due le come =
 -- ---- what is ruled out
 
 -- with an event between
-pub not_timely : (base : TreeData) (t : Trace) (p : Position) (id new event : ℕ) (d : Due) (c : TracedCall) → IsAt base t p → IsDue p.ends.items d → slice_get t.calls id ≡ Some c
+pub not_timely : (base : TreeData) (t : Trace) (p : Position) (id new event : ℕ) (d : Due) (c : TracedCall) → IsAt base t p → IsDue p.ends d → slice_get t.calls id ≡ Some c
     → ((n : ℕ) → last_event p.list.items ≤ n → c.start ≤ n → event ≤ n) → (IsTimely c.finished event d.limit t.events → ⊥) → IsDeadWith t p id new
 not_timely base t p id new event d c at due is most not lo x rest low own same can =
     let come : Coming t p id c x rest = coming base t p id lo c x rest at is low own can in

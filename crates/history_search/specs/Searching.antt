@@ -1,9 +1,8 @@
 -- What the search keeps, and what it has ruled out.
-use Rattle.std.specs.Prelude.{◌≡◌, ◌≢◌, ℕ, ◌+◌, ◌-◌, ◌≤◌, ◌<◌, Bool, true, false, List, [], ◌∷◌, ◌++◌, map, length, if◌then◌else◌, Option, Some, None, slice_get, slice_index_or, MatchOption}
+use Rattle.std.specs.Prelude.{◌≡◌, ◌≢◌, ℕ, ◌+◌, ◌-◌, ◌≤◌, ◌<◌, Bool, true, false, List, [], ◌∷◌, ◌++◌, length, if◌then◌else◌, Option, Some, None, slice_get, slice_index_or}
 use Rattle.plain_tree.specs.declared.answer.Reply.{Reply}
 use Rattle.plain_tree.specs.declared.call.Call.{Call}
-use Rattle.plain_tree.specs.declared.call.Call.TheVariants.{Open, Read, Write, Link, Unlink, Mkdir, Chdir, Dup, Fstat, Close, Inherit}
-use Rattle.plain_tree.specs.declared.step.Action.{Action}
+use Rattle.plain_tree.specs.declared.call.Call.TheVariants.{Open, Write, Link}
 use Rattle.plain_tree.specs.declared.step.StepAnswer.{StepAnswer}
 use Rattle.plain_tree.specs.declared.trace.Placed.{Placed}
 use Rattle.plain_tree.specs.declared.trace.Trace.{Trace}
@@ -16,7 +15,6 @@ use Rattle.plain_tree.specs.Checked.{Leads, is_full}
 use Rattle.plain_tree.specs.Explains.{AllBelong, Chain, IsWritten, Rises, acts_of}
 use Rattle.history_search.specs.declared.explore.Tried.{Tried}
 use Rattle.history_search.specs.declared.explore.Tried.TheVariants as tried
-use Rattle.history_search.specs.declared.position.Due.{Due}
 use Rattle.history_search.specs.declared.position.Placing.{Placing}
 use Rattle.history_search.specs.declared.position.Placing.TheVariants as placing
 use Rattle.history_search.specs.declared.position.Position.{Position}
@@ -71,19 +69,14 @@ pub record IsAt (base : TreeData) (t : Trace) (p : Position) : Type 0 where
   pub chain : Chain (tree_of base) p.list.items (tree_of p.tree)
   pub rises : Rises 0 p.list.items
   pub belongs : AllBelong t p.list.items
-  pub calls : AreOfCalls t.calls p.list.items p.stands.items p.ends.items
+  pub calls : AreOfCalls t.calls p.list.items p.stands.items p.ends
   pub stands : length p.stands.items ≡ length t.calls
-  pub ends : length p.ends.items ≡ length t.calls
-  pub precedes : Precedes p.list.items p.ends.items
+  pub ends : length p.ends ≡ length t.calls
+  pub precedes : Precedes p.list.items p.ends
 
 -- Nothing has to come after the list.
 abbrev pub IsThrough : Position → Type 0
-IsThrough p = (id : ℕ) → slice_index_or p.ends.items id None ≡ None
-
--- the call has to go on, and none has to end before it
-pub record IsDue (ends : List (Option ℕ)) (d : Due) : Type 0 where
-  pub end : slice_index_or ends d.id None ≡ Some d.limit
-  pub least : (id e : ℕ) → slice_index_or ends id None ≡ Some e → d.limit ≤ e
+IsThrough p = (id : ℕ) → slice_index_or p.ends id None ≡ None
 
 -- A rest that makes the list explain the trace, where the tree is t after the list; its numbers may begin at lo.
 pub record CanEnd (trace : Trace) (t : Tree) (list : List Placed) (lo : ℕ) (rest : List Placed) : Type 0 where

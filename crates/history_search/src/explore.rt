@@ -2,10 +2,12 @@
 ghost use Rattle.std.specs.Prelude.{◌≡◌, ◌<◌, ◌++◌, ◌∷◌, [], List, IfOk, MatchOption};
 ghost use Rattle.plain_tree.specs.Explains.{Explains};
 ghost use Rattle.plain_tree.specs.declared.trace.Placed.{Placed};
-ghost use Rattle.history_search.specs.Searching.{CallIsExplored, IsAt, IsDue, IsExplored, IsTried, NeedsNumber};
+ghost use Rattle.history_search.specs.Ordered.{IsDue};
+ghost use Rattle.history_search.specs.Searching.{CallIsExplored, IsAt, IsExplored, IsTried, NeedsNumber};
 
+use crate::ends::Due;
 use crate::next::Attempt;
-use crate::position::{Due, Placing, Position};
+use crate::position::{Placing, Position};
 use plain_tree::{NoMemory, Placed, Trace, Tree};
 use std::alloc::Global;
 
@@ -58,7 +60,7 @@ impl Position {
         due: Due,
     ) -> Attempt<Tried>
         requires at { IsAt base.now trace.now self.old }
-        requires due { IsDue self.old.ends.items due }
+        requires due { IsDue self.old.ends due }
         ensures { IfOk result (λ r. IsTried base.now trace.now self.old id new r self.new) }
     {
         match self.place(alloc, base, trace, id, new, due)? {
@@ -88,7 +90,7 @@ impl Position {
         due: Due,
     ) -> Attempt<bool>
         requires at { IsAt base.now trace.now self.old }
-        requires due { IsDue self.old.ends.items due }
+        requires due { IsDue self.old.ends due }
         requires numbered { NeedsNumber trace.now self.old id }
         ensures { IfOk result (λ b. CallIsExplored base.now trace.now self.old id b self.new) }
     {
@@ -126,7 +128,7 @@ impl Position {
         due: Due,
     ) -> Attempt<bool>
         requires at { IsAt base.now trace.now self.old }
-        requires due { IsDue self.old.ends.items due }
+        requires due { IsDue self.old.ends due }
         ensures { IfOk result (λ b. CallIsExplored base.now trace.now self.old id b self.new) }
     {
         match self.explore_step(alloc, base, trace, hints, from, id, 0, due)? {

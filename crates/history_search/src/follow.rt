@@ -1,10 +1,12 @@
 //! A first way: on from step to step, and never back.
-ghost use Rattle.history_search.specs.Searching.{IsAt, IsDue, IsSteppedOn};
+ghost use Rattle.history_search.specs.Ordered.{IsDue};
+ghost use Rattle.history_search.specs.Searching.{IsAt, IsSteppedOn};
 ghost use Rattle.std.specs.Prelude.{IfOk};
 
+use crate::ends::Due;
 use crate::explore::{Hint, next_hint};
 use crate::next::Attempt;
-use crate::position::{Due, Placing, Position};
+use crate::position::{Placing, Position};
 use plain_tree::{Trace, Tree};
 use std::alloc::Global;
 
@@ -19,7 +21,7 @@ impl Position {
         due: Due,
     ) -> Attempt<bool>
         requires at { IsAt base.now trace.now self.old }
-        requires due { IsDue self.old.ends.items due }
+        requires due { IsDue self.old.ends due }
         ensures { IfOk result (λ b. IsSteppedOn base.now trace.now self.old b self.new) }
     {
         let ninodes = self.tree.ninodes().min(65536);
@@ -44,7 +46,7 @@ impl Position {
         due: Due,
     ) -> Attempt<bool>
         requires at { IsAt base.now trace.now self.old }
-        requires due { IsDue self.old.ends.items due }
+        requires due { IsDue self.old.ends due }
         ensures { IfOk result (λ b. IsSteppedOn base.now trace.now self.old b self.new) }
     {
         match self.place(alloc, base, trace, id, preferred, due)? {
@@ -64,7 +66,7 @@ impl Position {
         due: Due,
     ) -> Attempt<bool>
         requires at { IsAt base.now trace.now self.old }
-        requires due { IsDue self.old.ends.items due }
+        requires due { IsDue self.old.ends due }
         ensures { IfOk result (λ b. IsSteppedOn base.now trace.now self.old b self.new) }
     {
         let (first, preferred) = match hint {

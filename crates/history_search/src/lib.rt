@@ -5,6 +5,7 @@
 //! table of more than 65,536 numbers.
 #![tactic(auto)]
 
+mod ends;
 mod explore;
 mod follow;
 mod next;

@@ -1,12 +1,14 @@
 //! A list that begins to explain a trace, with the tree to which it leads and how far it has each call.
-ghost use Rattle.std.specs.Prelude.{◌≡◌, ◌<◌, ◌≤◌, ◌++◌, ◌∷◌, [], ℕ, IfOk, IfSome, IsTrue, ◌↔◌, MatchOption, None, Some, length, slice_get, slice_index_or};
+ghost use Rattle.std.specs.Prelude.{◌≡◌, ◌<◌, ◌≤◌, ◌++◌, ◌∷◌, [], ℕ, IfOk, IfSome, IsTrue, ◌↔◌, MatchOption, None, Some, false, length, slice_get, slice_index_or, slice_set};
 ghost use Rattle.plain_tree.specs.Checked.{Leads};
 ghost use Rattle.plain_tree.specs.Explains.{Chain, acts_of};
 ghost use Rattle.plain_tree.specs.Tree.{tree_of};
-ghost use Rattle.history_search.specs.Searching.{Fits, IsAt, IsDue, IsKept, IsMore, IsPlaced, IsThrough, IsTimely, IsUndone, end_of, last_event};
+ghost use Rattle.history_search.specs.Ordered.{IsDue};
+ghost use Rattle.history_search.specs.Searching.{Fits, IsAt, IsKept, IsMore, IsPlaced, IsThrough, IsTimely, IsUndone, end_of, last_event};
 ghost use Rattle.history_search.specs.Stands.{next_from, stand_of};
 ghost use Rattle.plain_tree.specs.Steps.{is_nothing};
 
+use crate::ends::{Due, Ends};
 use crate::next::{Attempt, is_through, next_action};
 use crate::place::is_in_place;
 use crate::reply::{is_full, is_reply, is_told};
@@ -20,8 +22,7 @@ pub(crate) struct Position {
     pub(crate) list: Vec<Placed>,
     /// By call, how far the list has it.
     stands: Vec<Stand>,
-    /// By call, the event of its reply, while it isn't through.
-    ends: Vec<Option<u64>>,
+    ends: Ends,
 }
 
 /// What came of a try to place a step.
@@ -31,13 +32,6 @@ pub(crate) enum Placing {
     Refused,
     /// It makes a node, and can't take this number for it.
     BadChoice,
-}
-
-/// The call that has to return first, and the event at which it does.
-#[derive(Clone, Copy)]
-pub(crate) struct Due {
-    pub(crate) id: usize,
-    pub(crate) limit: u64,
 }
 
 /// The event of the call's reply, where it isn't through.
@@ -50,6 +44,17 @@ fn end_of(traced: &TracedCall, stand: Stand) -> Option<u64>
     match &traced.finished {
         Some((end, _)) => Some(*end),
         None => None,
+    }
+}
+
+/// The call, which wasn't through, has come so far.
+fn note_end(ends: &mut Ends, id: usize, traced: &TracedCall, stand: Stand)
+    requires within { id < length ends.old }
+    requires end { slice_index_or ends.old id None ≡ end_of traced.now false }
+    ensures { ends.new ≡ slice_set ends.old id (end_of traced.now (is_nothing (next_from traced.now.call stand))) }
+{
+    if is_through(&traced.call, stand) {
+        ends.pass(id);
     }
 }
 
@@ -129,24 +134,15 @@ impl Position {
             tree,
             list: Vec::new(alloc),
             stands,
-            ends,
+            ends: Ends::new(alloc, ends)?,
         })
     }
 
     /// The call that has to return first.
     pub(crate) fn due(&self) -> Option<Due>
-        ensures { MatchOption result (IsThrough self.now) (λ d. IsDue self.now.ends.items d) }
+        ensures { MatchOption result (IsThrough self.now) (λ d. IsDue self.now.ends d) }
     {
-        let mut due: Option<Due> = None;
-        for (id, end) in self.ends.iter().enumerate() {
-            if let Some(limit) = end {
-                match due {
-                    Some(least) if least.limit <= *limit => {}
-                    _ => due = Some(Due { id, limit: *limit }),
-                }
-            }
-        }
-        due
+        self.ends.due()
     }
 
     /// The list has no more than so many steps of the call, which goes on.
@@ -170,7 +166,7 @@ impl Position {
         due: Due,
     ) -> Attempt<Placing>
         requires at { IsAt base.now trace.now self.old }
-        requires due { IsDue self.old.ends.items due }
+        requires due { IsDue self.old.ends due }
         ensures { IfOk result (λ r. IsPlaced base.now trace.now self.old id new r self.new) }
     {
         let Some(traced) = trace.calls.as_slice().get(id) else {
@@ -209,7 +205,7 @@ impl Position {
             answer,
         })?;
         self.stands[id] = then;
-        self.ends[id] = end_of(traced, then);
+        note_end(&mut self.ends, id, traced, then);
         Ok(Placing::Made)
     }
 
@@ -227,7 +223,7 @@ impl Position {
         };
         let stand = stand_in(id, &self.list);
         self.stands[id] = stand;
-        self.ends[id] = end_of(traced, stand);
+        self.ends.restore(alloc, id, end_of(traced, stand))?;
         self.tree = tree_after(alloc, base, &self.list)?;
         Ok(())
     }

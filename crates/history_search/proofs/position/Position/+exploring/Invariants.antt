@@ -1,4 +1,4 @@
-use Rattle.std.proofs.Common.{◌≡◌, ◌<◌, ◌≤◌, ℕ, ◌+◌, ◌*◌}
+use Rattle.std.proofs.Common.{◌<◌, ◌≤◌, ℕ, ◌+◌, ◌*◌}
 use Rattle.history_search.specs.Searching.{IsDead, IsDeadWith, IsKept, steps_left}
 use Rattle.history_search.proofs.position.Position.+exploring.Given as goal
 

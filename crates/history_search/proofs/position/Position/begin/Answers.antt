@@ -1,8 +1,7 @@
-use Rattle.std.proofs.Common.{◌≡◌, ◌<◌, ◌+◌, ◌≤◌, ℕ, length, refl, sym, ◌∙◌, ap, subst, arith, get_or, Some, None}
+use Rattle.std.proofs.Common.{◌≡◌, ◌+◌, ◌≤◌, length, refl, sym, ◌∙◌, ap, subst, arith, get_or, Some}
 use Rattle.std.specs.List.{slice_get}
 use Rattle.std.proofs.lemmas.List.{length_push}
 use Rattle.history_search.specs.Stands.{start}
-use Rattle.plain_tree.specs.declared.trace.TracedCall.{TracedCall}
 use Rattle.history_search.proofs.PlaceLemmas.{EndsAt, begin_at, ends_push, got, start_push}
 use Rattle.history_search.proofs.position.Position.begin.Goals as goal
 
@@ -28,4 +27,6 @@ returns-clause-at c =
     let end : length c.as_slice-traced-items.result.now ≤ c.loop-traced.traced-index = c.loop-traced-test.false in
     let most : c.loop-traced.traced-index ≤ length c.as_slice-traced-items.result.now = c.loop-traced.auto.traced-index-end in
     let n : c.loop-traced.traced-index ≡ length calls = omega (arith, ap length c.as_slice-traced-items.ensures) in
-    begin_at c.args.base.now c.args.trace.now _ c.in_ok-tree.ensures c.new.ensures.items (c.loop-traced.invariant.stands ∙ n) (c.loop-traced.invariant.ends ∙ n) c.loop-traced.invariant.all_start (subst (λ i. EndsAt calls c.loop-traced.ends.items i) n c.loop-traced.invariant.all_end)
+    let ends = c.in_ok-new.ensures in
+    begin_at c.args.base.now c.args.trace.now _ (c.tree.view_is ∙ c.in_ok-tree.ensures) c.new.ensures.items (c.loop-traced.invariant.stands ∙ n) (ap length ends ∙ c.loop-traced.invariant.ends ∙ n) c.loop-traced.invariant.all_start
+    (subst (λ xs. EndsAt calls xs (length calls)) (sym ends) (subst (λ i. EndsAt calls c.loop-traced.ends.items i) n c.loop-traced.invariant.all_end))

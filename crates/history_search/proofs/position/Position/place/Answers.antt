@@ -1,5 +1,4 @@
-use Rattle.std.proofs.Common.{◌≡◌, ◌<◌, ◌≤◌, ◌+◌, ◌++◌, ◌∷◌, [], length, refl, sym, ◌∙◌, ap, subst, arith, get_or, Some, None, max}
-use Rattle.std.specs.List.{slice_get}
+use Rattle.std.proofs.Common.{◌≡◌, ◌<◌, length, refl, sym, ◌∙◌, ap, subst, arith, get_or, max}
 use Rattle.std.proofs.lemmas.Option.{slice_get_within}
 use Rattle.plain_tree.specs.TreeData.{TreeData}
 use Rattle.plain_tree.specs.Tree.{tree_of}
@@ -11,7 +10,7 @@ use Rattle.history_search.specs.declared.stand.Stand.{Stand}
 use Rattle.history_search.specs.Stands.{after, next_from, start}
 use Rattle.history_search.specs.Searching.{Fits, end_of, last_event}
 use Rattle.history_search.proofs.PositionLemmas.{bad_dead, bad_numbers, no_call, no_fit, no_next, no_place, not_timely}
-use Rattle.history_search.proofs.PlaceLemmas.{between, gone, got, placed, read_at, retree, same_kept}
+use Rattle.history_search.proofs.PlaceLemmas.{between, end_still, gone, got, placed, read_at, retree, same_kept}
 use Rattle.history_search.proofs.position.Position.place.Goals as goal
 
 pub returns-in_default : goal.returns-in_default
@@ -73,6 +72,16 @@ returns-then-not-fits c =
       no_fit c.args.base.now c.args.trace.now c.args.self.now c.args.id c.args.new c.in-Some.traced.now c.in-Some-2.action c.in-Ok.answer (tree_of c.apply.new.self) c.after-then.result c.requires.at is next place c.in-Ok.ensures later (λ w. (let y = c.fits.ensures.1 (subst (λ (s : Stand). Fits c.in-Some.traced.now.finished c.in-Some.traced.now.call s c.after-then.result c.in-Ok.answer) (sym stand) w) in let n = c.if-not-fits.true in cc)),
     )
 
+pub note_end-requires : goal.note_end-requires
+note_end-requires c =
+    let is = got c.args.trace.now.calls c.as_slice.result.now c.args.id c.in-Some.traced.now c.as_slice.ensures c.in-Some.ensures.lookup.3.0 c.in-Some.ensures.lookup.1 in
+    let lt : c.args.id < length c.args.trace.now.calls = slice_get_within c.args.trace.now.calls c.args.id c.in-Some.traced.now is in
+    let stand : c.index-stand.result.now ≡ get_or c.args.self.now.stands.items c.args.id start = read_at c.args.self.now.stands.items c.args.id c.index-stand.result.now start (omega (arith, c.requires.at.stands)) c.index-stand.ensures in
+    let next = ap (λ (s : Stand). next_from c.in-Some.traced.now.call s) (sym stand) ∙ (sym c.in_ok-action.ensures.next ∙ c.in-Some-2.is) in record {
+      within = omega (arith, c.requires.at.ends);
+      end = end_still c.args.base.now c.args.trace.now c.args.self.now c.args.id c.in-Some.traced.now c.in-Some-2.action c.requires.at is next;
+    }
+
 pub returns : goal.returns
 returns c =
     let is = got c.args.trace.now.calls c.as_slice.result.now c.args.id c.in-Some.traced.now c.as_slice.ensures c.in-Some.ensures.lookup.3.0 c.in-Some.ensures.lookup.1 in
@@ -83,7 +92,7 @@ returns c =
     let next = ap (λ (s : Stand). next_from c.in-Some.traced.now.call s) (sym stand) ∙ (sym c.in_ok-action.ensures.next ∙ c.in-Some-2.is) in
     let place = c.is_in_place.ensures.0 c.if-not-is_in_place.false in
     let later = c.after-then.ensures ∙ ap (λ (s : Stand). after s c.in-Ok.answer) stand in
-    placed c.args.base.now c.args.trace.now c.args.self.now c.args.id c.args.new c.max-event.result c.in-Some.traced.now c.args.due c.in-Some-2.action c.in-Ok.answer (tree_of c.apply.new.self) c.after-then.result c.end_of.result _ (record {
+    placed c.args.base.now c.args.trace.now c.args.self.now c.args.id c.args.new c.max-event.result c.in-Some.traced.now c.args.due c.in-Some-2.action c.in-Ok.answer (tree_of c.apply.new.self) c.after-then.result (end_of c.in-Some.traced.now (is_nothing (next_from c.in-Some.traced.now.call c.after-then.result))) _ (record {
       at = c.requires.at;
       is = is;
       due = c.requires.due;
@@ -96,9 +105,9 @@ returns c =
       made = c.in-Ok.ensures;
       stand = later;
       fits = subst (λ (s : Stand). Fits c.in-Some.traced.now.finished c.in-Some.traced.now.call s c.after-then.result c.in-Ok.answer) stand (c.fits.ensures.0 c.if-not-fits.false);
-      end = c.end_of.ensures;
+      end = refl;
       tree = refl;
       list = c.in_ok-push.ensures.items;
       stands = refl;
-      ends = refl;
+      ends = c.note_end.ensures;
     })

@@ -1,4 +1,4 @@
-use Rattle.std.proofs.Common.{◌≡◌, refl, sym, ◌∙◌, ap, subst}
+use Rattle.std.proofs.Common.{refl, sym, ◌∙◌, ap, subst}
 use Rattle.plain_tree.specs.Tree.{tree_of}
 use Rattle.plain_tree.specs.Checked.{Leads}
 use Rattle.plain_tree.specs.Explains.{Chain, acts_of}
@@ -19,7 +19,7 @@ returns c = record {
     end = c.end_of.ensures;
     list = refl;
     stands = refl;
-    ends = refl;
+    ends = c.in_ok-restore.ensures;
     chain = subst (λ l. Chain (tree_of c.args.base.now) l (tree_of c.in_ok-self.field-0)) c.deref-2.ensures.value c.in_ok-self.ensures;
   });
   list = λ front e h. snoc_front c.pop.new.self.items front c.in-Some.entry e (sym c.in-Some.ensures.items ∙ h);
