@@ -8,7 +8,10 @@ use crate::rows::Says::{Done, Failed, Idle, Refused};
 use crate::rows::{Ask, LONG, READ, READ_AND_WRITE, TRUNCATE, call};
 use fs_machine::Kind;
 use hart_core::{Came, Event, Outcome, Run, StartRefused};
-use plain_tree::{Action, Bytes, Cause, Placed, StepAnswer, Trace, TracedCall, TreeStep};
+use history_search::find_history;
+use plain_tree::{
+    Action, Answer, Bytes, Call, Cause, Placed, Reply, StepAnswer, Trace, TracedCall, TreeStep,
+};
 use std::alloc::{AllocError, Global};
 use std::test::Fail;
 
@@ -116,6 +119,46 @@ fn a_run_goes_on(rt: HostRuntime) -> Result<(), Fail> {
 
 fn path(alloc: Global, bytes: &[u8]) -> Result<Bytes, AllocError> {
     Ok(Bytes::new(Vec::from_slice(alloc, bytes)?))
+}
+
+const MANY: usize = 20_000;
+
+// A hart asks for a second descriptor of a file that isn't open, so many times.
+fn many_calls(alloc: Global) -> Result<Made, AllocError> {
+    let mut events = Vec::new(alloc);
+    let mut outcomes = Vec::new(alloc);
+    for _ in 0..MANY {
+        let call = Call::Dup { fd: 0 };
+        let answer = Answer::Failed(Cause::BadDescriptor);
+        events.push(Event::Start {
+            hart: 0,
+            call: call.clone()?,
+        })?;
+        outcomes.push(Came::Started)?;
+        events.push(Event::Step { hart: 0 })?;
+        outcomes.push(Came::Stepped(Outcome::Done(Reply { answer, call })))?;
+    }
+    Ok(Made { events, outcomes })
+}
+
+/// Many calls are traced, and their history is found, in a time that grows as their number does.
+#[test]
+fn many_calls_are_explained(rt: HostRuntime) -> Result<(), Fail> {
+    let alloc = rt.alloc();
+    let base = tree_in(alloc, &mut disk_of(alloc, SMALL)?)?;
+    let trace = traced(alloc, &many_calls(alloc)?)?;
+    let calls = trace.calls.as_slice();
+    assert!(rt; calls.len() == MANY);
+    assert!(rt;
+        calls
+            .iter()
+            .all(|call| end_of(call) == Some(call.start + 1))
+    );
+    let Ok(Some(list)) = find_history(alloc, &base, &trace, &[]) else {
+        return Err(Fail::from(AllocError));
+    };
+    assert!(rt; list.len() == MANY);
+    Ok(())
 }
 
 /// A walk that finds the directory that it has reached removed is explained by a step behind the unlinks, and by none before them.
