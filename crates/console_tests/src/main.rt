@@ -1,13 +1,16 @@
-//! Tests of the console: what scripts print, and how they end. They stand here, above the crate that they run, and beside the tests of
-//! images, so that the gate proves both at once.
+//! Tests of the console that no stored script can be: a device, a script or answers that fail, images that no maker makes, the bytes of an
+//! image, and short memory. What scripts print is shown by examples/rows/. They stand here, above the crate that they run, and beside the
+//! tests of images, so that the gate proves both at once.
 #![tactic(auto)]
 
 #[cfg(test)]
-mod full;
+mod commits;
 #[cfg(test)]
-mod histories;
+mod faults;
 #[cfg(test)]
-mod rows;
+mod images;
+#[cfg(test)]
+mod parts;
 #[cfg(test)]
 mod scripts;
 #[cfg(test)]
