@@ -1,7 +1,7 @@
 //! New files and directories.
-use crate::images::{Image, SMALL, counts, disk_of, names_up_to};
+use crate::images::{Image, SMALL, disk_of};
 use crate::lists::{are_run, play};
-use crate::rows::Ask::{Chdir, Close, Dup, Fill, Fstat, Mkdir, Open, Read, Unlink, Write};
+use crate::rows::Ask::{Chdir, Close, Dup, Fstat, Mkdir, Open, Read, Unlink, Write};
 use crate::rows::Line::{All, Do, Start};
 use crate::rows::Says::{Bytes, Count, Done, Failed, Fd, NoRoom, State};
 use crate::rows::{CREATE, Line, READ, READ_AND_WRITE, Row, TRUNCATE, WRITE};
@@ -144,26 +144,4 @@ fn new_inodes_have_no_device_numbers(rt: HostRuntime) -> Result<(), Fail> {
 #[test]
 fn rows_are_run(rt: HostRuntime) -> Result<(), Fail> {
     are_run(&rt, rt.alloc(), ROWS)
-}
-
-/// Where no inode is free nothing is made; nor where no block is, and then the inode is free again.
-#[test]
-fn inodes_and_blocks_run_out(rt: HostRuntime) -> Result<(), Fail> {
-    let names = names_up_to(rt.alloc(), 13)?;
-    let mut lines = Vec::new(rt.alloc());
-    for name in names.as_slice() {
-        lines.push(Do(0, Open(name, CREATE), Fd(0)))?;
-        lines.push(Do(0, Close(0), Done))?;
-    }
-    lines.push(Do(0, Open(b"/x", CREATE), NoRoom(Full::DiskInodes)))?;
-    lines.push(Do(0, Mkdir(b"/x"), NoRoom(Full::DiskInodes)))?;
-    lines.push(Do(0, Unlink(b"/aaaa"), Done))?;
-    lines.push(Do(0, Open(b"/f", WRITE), Fd(0)))?;
-    lines.push(Do(0, Fill(0, 0, 22_528), Count(22_528)))?;
-    lines.push(Do(0, Mkdir(b"/x"), NoRoom(Full::Blocks)))?;
-    lines.push(Do(0, Open(b"/x", CREATE), Fd(1)))?;
-    let disk = disk_of(rt.alloc(), Image::WithFile(60, b""))?;
-    let (_made, disk) = play(&rt, rt.alloc(), disk, lines.as_slice())?;
-    assert_eq!(rt; counts(rt.alloc(), disk)?, (15, 0, 24));
-    Ok(())
 }

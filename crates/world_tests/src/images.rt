@@ -177,15 +177,6 @@ pub fn name(number: u32) -> [u8; 4] {
     ]
 }
 
-/// The names of the numbers below this one.
-pub fn names_up_to(alloc: Global, count: u32) -> Result<Vec<[u8; 4]>, AllocError> {
-    let mut names = Vec::new(alloc);
-    for number in 0..count {
-        names.push(name(number))?;
-    }
-    Ok(names)
-}
-
 /// The tree of an image that is in order.
 pub fn tree_in(alloc: Global, disk: &mut MemoryDisk) -> Result<Tree, AllocError> {
     match tree_of(alloc, disk) {

@@ -1,10 +1,10 @@
 //! Links of files under other names.
-use crate::images::{Image, counts, disk_of, names_up_to};
-use crate::lists::{are_run, play};
-use crate::rows::Ask::{Chdir, Fill, Fstat, Link, Open, Read, Unlink};
+use crate::images::Image;
+use crate::lists::are_run;
+use crate::rows::Ask::{Chdir, Fstat, Link, Open, Read, Unlink};
 use crate::rows::Line::{All, Do, End, Start, Upto};
-use crate::rows::Says::{Bytes, Count, Done, Failed, Fd, NoRoom, State};
-use crate::rows::{READ, READ_AND_WRITE, Row, TRUNCATE, WRITE};
+use crate::rows::Says::{Bytes, Done, Failed, Fd, NoRoom, State};
+use crate::rows::{READ, READ_AND_WRITE, Row};
 use fs_machine::Kind;
 use plain_tree::{Cause, Full, NodeType};
 use std::test::Fail;
@@ -125,33 +125,4 @@ const ROWS: &[Row] = &[
 #[test]
 fn rows_are_run(rt: HostRuntime) -> Result<(), Fail> {
     are_run(&rt, rt.alloc(), ROWS)
-}
-
-/// Where no block is free a directory takes names up to the end of its block, and then the count of the file goes down again; where
-/// one is, the directory grows into it.
-#[test]
-fn a_directory_grows(rt: HostRuntime) -> Result<(), Fail> {
-    let names = names_up_to(rt.alloc(), 61)?;
-    let mut lines = Vec::new(rt.alloc());
-    lines.push(Do(0, Open(b"/f", WRITE), Fd(0)))?;
-    lines.push(Do(0, Fill(0, 0, 22_528), Count(22_528)))?;
-    for name in names.as_slice() {
-        lines.push(Do(0, Link(b"/f", name), Done))?;
-    }
-    lines.append(&mut Vec::from_array(
-        rt.alloc(),
-        [
-            Do(0, Link(b"/f", b"/x"), NoRoom(Full::Blocks)),
-            Do(0, Fstat(0), State(2, NodeType::File, 62, 22_528)),
-            Do(1, Open(b"/f", TRUNCATE), Fd(0)),
-            Do(0, Link(b"/f", b"/x"), Done),
-            Do(0, Fstat(0), State(2, NodeType::File, 63, 0)),
-            Do(0, Open(b"/", READ), Fd(1)),
-            Do(0, Fstat(1), State(1, NodeType::Directory, 1, 1040)),
-        ],
-    )?)?;
-    let disk = disk_of(rt.alloc(), Image::WithFile(60, b""))?;
-    let (_made, disk) = play(&rt, rt.alloc(), disk, lines.as_slice())?;
-    assert_eq!(rt; counts(rt.alloc(), disk)?, (2, 0, 2));
-    Ok(())
 }

@@ -1,13 +1,13 @@
 //! Opens, changes of directory, and calls on descriptors.
-use crate::images::{Image, SMALL, disk_of, names_up_to};
-use crate::lists::{are_run, play};
+use crate::images::{Image, SMALL};
+use crate::lists::are_run;
 use crate::rows::Ask::{Chdir, Close, Dup, Fstat, Link, Mkdir, Open, Read, Unlink, Write};
 use crate::rows::Line::{All, Do, End, Start, Upto};
-use crate::rows::Says::{Bytes, Count, Done, Failed, Fd, Idle, NoRoom, Refused, State, Waits};
-use crate::rows::{CREATE, LONG, LONGEST, READ, READ_AND_WRITE, Row, TRUNCATE, WRITE};
+use crate::rows::Says::{Bytes, Count, Done, Failed, Fd, Idle, Refused, State, Waits};
+use crate::rows::{LONG, LONGEST, READ, READ_AND_WRITE, Row, TRUNCATE, WRITE};
 use fs_machine::Kind;
 use hart_core::StartRefused;
-use plain_tree::{Cause, Full, NodeType};
+use plain_tree::{Cause, NodeType};
 use std::test::Fail;
 
 const ROWS: &[Row] = &[
@@ -196,48 +196,4 @@ const ROWS: &[Row] = &[
 #[test]
 fn rows_are_run(rt: HostRuntime) -> Result<(), Fail> {
     are_run(&rt, rt.alloc(), ROWS)
-}
-
-/// A hart has sixteen descriptors, and all harts together a hundred open files.
-#[test]
-fn descriptors_and_files_run_out(rt: HostRuntime) -> Result<(), Fail> {
-    let mut lines = Vec::new(rt.alloc());
-    for opened in 0..99 {
-        lines.push(Do((opened / 16) as u8, Open(b"/", READ), Fd(opened % 16)))?;
-    }
-    lines.push(Do(0, Open(b"/", READ), NoRoom(Full::Descriptors)))?;
-    lines.push(Do(0, Dup(0), NoRoom(Full::Descriptors)))?;
-    lines.push(Do(6, Open(b"/", READ), Fd(3)))?;
-    lines.push(Do(6, Open(b"/", READ), NoRoom(Full::OpenFiles)))?;
-    lines.push(Do(0, Close(0), Done))?;
-    lines.push(Do(6, Open(b"/", READ), Fd(4)))?;
-    let _played = play(
-        &rt,
-        rt.alloc(),
-        disk_of(rt.alloc(), SMALL)?,
-        lines.as_slice(),
-    )?;
-    Ok(())
-}
-
-/// With the root and 49 files of 49 inodes open, a fiftieth file isn't, until one of them is closed.
-#[test]
-fn inodes_in_memory_run_out(rt: HostRuntime) -> Result<(), Fail> {
-    let names = names_up_to(rt.alloc(), 49)?;
-    let mut lines = Vec::new(rt.alloc());
-    lines.push(Do(7, Open(b"/x", CREATE), Fd(0)))?;
-    lines.push(Do(7, Close(0), Done))?;
-    let mut opened = 0u8;
-    for name in names.as_slice() {
-        let (hart, fd) = (opened / 16, u32::from(opened % 16));
-        lines.push(Do(hart, Open(name, CREATE), Fd(fd)))?;
-        opened = opened.saturating_add(1);
-    }
-    lines.push(Do(7, Open(b"/", READ), Fd(0)))?;
-    lines.push(Do(7, Open(b"/x", READ), NoRoom(Full::MemInodes)))?;
-    lines.push(Do(0, Close(5), Done))?;
-    lines.push(Do(7, Open(b"/x", READ), Fd(1)))?;
-    let disk = disk_of(rt.alloc(), Image::Made(120, 64))?;
-    let _played = play(&rt, rt.alloc(), disk, lines.as_slice())?;
-    Ok(())
 }
