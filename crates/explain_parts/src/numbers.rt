@@ -134,7 +134,7 @@ fn naming(
     }
 }
 
-// The calls that made nodes.
+// The calls that made nodes, in the order in which they made them.
 fn makers(
     alloc: Global,
     calls: &[TracedCall],
@@ -149,6 +149,7 @@ fn makers(
             }
         }
     }
+    makers.sort_by_key(|maker: &Maker| maker.event)?;
     Ok(makers)
 }
 
@@ -169,10 +170,10 @@ fn maker_of(makers: &[Maker], named: &Maker) -> Option<usize> {
     }
 }
 
-// The numbers that are free at first and that no reply tells, the greatest first.
+// The numbers that are free at first and that no reply tells, the lowest first, as a disk gives them.
 fn spare_numbers(alloc: Global, base: &Tree, told: &[Told]) -> Result<Vec<u16>, NoMemory> {
     let mut spare = Vec::new(alloc);
-    for number in (1..base.ninodes().min(65536)).rev() {
+    for number in 1..base.ninodes().min(65536) {
         let is_told = told.iter().any(|one| usize::from(one.number) == number);
         if !is_told && base.node(number).is_none() {
             spare.push(number as u16)?;
@@ -186,9 +187,11 @@ fn give_spare(numbers: &mut [u16], makers: &[Maker], spare: &[u16]) {
     if spare.is_empty() {
         return;
     }
-    for (place, maker) in makers.iter().enumerate() {
+    let mut given: usize = 0;
+    for maker in makers {
         if maker.call < numbers.len() && numbers[maker.call] == 0 {
-            numbers[maker.call] = spare[place % spare.len()];
+            numbers[maker.call] = spare[given % spare.len()];
+            given = given.saturating_add(1);
         }
     }
 }

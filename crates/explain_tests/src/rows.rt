@@ -41,6 +41,9 @@ const REMOVED: &str =
 const MEETINGS: &str =
     "do 0 mkdir /p\ndo 1 mkdir /q\ndo 2 mkdir /r\ndo 3 mkdir /s\ndo 0 chdir /p\ndo 1 chdir /q\ndo 2 chdir /r\ndo 3 chdir /s\n0 mkdir d\n1 open n 0x202\n2 mkdir d\n3 open n 0x202\nall\n0 open d 0\n1 fstat 0\n2 open d 0\n3 fstat 0\nall\n0 fstat 0\n1 close 0\n2 fstat 0\n3 unlink n\nall\n0 close 0\n1 unlink n\n2 unlink d\n3 close 0\nall\n0 mkdir e\n1 open o 0x202\n2 mkdir e\n3 open o 0x202\nall\n0 open e 0\n1 fstat 0\n2 open e 0\n3 fstat 0\nall\n0 fstat 0\n1 close 0\n2 fstat 0\n3 unlink o\nall\n0 close 0\n1 unlink o\n2 unlink e\n3 close 0\nall\n0 mkdir f\n1 open n 0x202\n2 mkdir f\n3 open n 0x202\nall\n0 open f 0\n1 fstat 0\n2 open f 0\n3 fstat 0\nall\n0 fstat 0\n1 close 0\n2 fstat 0\n3 unlink n\nall\n0 close 0\n1 unlink n\n2 unlink f\n3 close 0\nall";
 
+const LISTED: &str =
+    "do 0 mkdir /a\ndo 1 mkdir /b\ndo 0 mkdir /c\ndo 0 mkdir /c/d\ndo 1 open / 0\ndo 1 read 0 80\ndo 0 open /c 0\ndo 0 read 0 48";
+
 const LINKED: &str =
     "do 1 open /f 0x201\ndo 1 write 0 A\n0 link /f /g\nupto 0 unlock 2\ndo 1 unlink /f\nend 0\ndo 0 open /g 0\ndo 0 fstat 0\ndo 0 read 0 9";
 
@@ -227,10 +230,11 @@ fn lists_explain_meetings(rt: HostRuntime) -> Result<(), Fail> {
     explain_all(&rt, rt.alloc(), &texts)
 }
 
-/// The numbers of nodes that harts make in directories of their own are those which later calls tell, in whatever order the nodes were entered.
+/// The numbers of nodes that harts make in directories of their own are those which later calls tell, in whatever order the nodes were entered;
+/// and those of directories of which only reads of their parents tell.
 #[test]
 fn lists_explain_numbers(rt: HostRuntime) -> Result<(), Fail> {
-    explain_all(&rt, rt.alloc(), &[MEETINGS])
+    explain_all(&rt, rt.alloc(), &[MEETINGS, LISTED])
 }
 
 /// And that of a write in ninety pieces, the last of which is refused or finds its place.
