@@ -1,7 +1,12 @@
 //! Buffers over a disk in memory.
+ghost use Rattle.std.specs.Prelude.{◌≡◌, ◌<◌, IfOk, IfSome, length};
+ghost use Rattle.buffer_cache.specs.Seats.{IsHeld, seen};
+ghost use Rattle.bench.specs.InHand.{HasNone, HasOne};
+
 use crate::workload::WorkloadError;
 use block_device::{BLOCK_LEN, Device, MemoryDisk};
-use buffer_cache::{BUFFERS, BUFFERS_OF_A_HART, Buffer, Buffers, Cache, Got};
+use buffer_cache::{BUFFERS, Buffer, Buffers, Cache, Got};
+use sleep_lock::Guard;
 use std::alloc::Global;
 
 const ROUNDS: u32 = 20_000;
@@ -44,7 +49,9 @@ pub fn get_most_recent(alloc: Global) -> Result<u64, WorkloadError> {
 }
 
 // A cache that has each block of its disk, the last one most recently given back. Each block begins with a 1.
-fn full(alloc: Global) -> Result<Cache<MemoryDisk>, WorkloadError> {
+fn full(alloc: Global) -> Result<Cache<MemoryDisk>, WorkloadError>
+    ensures { IfOk result (λ cache. HasNone cache.seats) }
+{
     let disk = MemoryDisk::new(vec![in alloc; 1; BUFFERS * BLOCK_LEN]?);
     let mut cache = Cache::new(Buffers::new(alloc)?, disk);
     let mut sum = 0u64;
@@ -60,23 +67,46 @@ fn full(alloc: Global) -> Result<Cache<MemoryDisk>, WorkloadError> {
 }
 
 // Gets a block and gives it back: a byte of it, or 0 where it was not had.
-fn touch<D: Device>(cache: &mut Cache<D>, b: u32) -> u64 {
-    if cache.device().blocks() <= b || BUFFERS_OF_A_HART <= cache.held_by(HART) {
+fn touch<D: Device>(cache: &mut Cache<D>, b: u32) -> u64
+    requires { HasNone cache.old.seats }
+    ensures { HasNone cache.new.seats }
+{
+    if cache.device().blocks() <= b {
         return 0;
     }
     match cache.get(HART, b) {
         Got::Waits => 0,
-        Got::Held(mut guard) => {
-            let is_read = guard.value().is_valid() || cache.fill(&mut guard).is_ok();
-            let byte = if is_read {
-                first_byte(guard.value())
-            } else {
-                0
-            };
-            cache.release(guard);
-            byte
-        }
+        Got::Held(guard) => read_and_release(cache, guard),
     }
+}
+
+fn read_and_release<D: Device>(cache: &mut Cache<D>, mut guard: Guard<Buffer>) -> u64
+    requires one { HasOne cache.old.seats guard }
+    requires held { IsHeld cache.old.seats guard }
+    requires bytes { IfSome guard.value.content (λ bytes. bytes ≡ seen D.contents cache.old guard.value.block) }
+    requires within { guard.value.block < length (D.contents cache.old.device) }
+    ensures { HasNone cache.new.seats }
+{
+    read(cache, &mut guard);
+    let byte = first_byte(guard.value());
+    cache.release(guard);
+    byte
+}
+
+// Reads the block into its buffer, where that isn't valid. After a fault it isn't valid either.
+fn read<D: Device>(cache: &mut Cache<D>, guard: &mut Guard<Buffer>)
+    requires one { HasOne cache.old.seats guard.old }
+    requires held { IsHeld cache.old.seats guard.old }
+    requires bytes { IfSome guard.old.value.content (λ bytes. bytes ≡ seen D.contents cache.old guard.old.value.block) }
+    requires within { guard.old.value.block < length (D.contents cache.old.device) }
+    ensures one { HasOne cache.new.seats guard.new }
+    ensures held { IsHeld cache.new.seats guard.new }
+    ensures bytes { IfSome guard.new.value.content (λ bytes. bytes ≡ seen D.contents cache.new guard.new.value.block) }
+{
+    if guard.value().is_valid() {
+        return;
+    }
+    let _ = cache.fill(guard);
 }
 
 fn first_byte(buffer: &Buffer) -> u64 {

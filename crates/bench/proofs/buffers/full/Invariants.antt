@@ -1,0 +1,5 @@
+use Rattle.bench.specs.InHand.{HasNone}
+use Rattle.bench.proofs.buffers.full.Given as goal
+
+abbrev pub invariant-loop-b : goal.invariant-loop-b
+invariant-loop-b l = HasNone l.cache.seats
