@@ -152,7 +152,7 @@ fn many_calls_are_explained(rt: HostRuntime) -> Result<(), Fail> {
     assert!(rt;
         calls
             .iter()
-            .all(|call| end_of(call) == Some(call.start + 1))
+            .all(|call| end_of(call) == call.start.checked_add(1))
     );
     let Ok(Some(list)) = find_history(alloc, &base, &trace, &[]) else {
         return Err(Fail::from(AllocError));
