@@ -4,6 +4,7 @@
 use crate::scripts::disk;
 use console::{ConsoleFault, run_script, status};
 use console_parts::{Mode, Schedule};
+use std::alloc::Global;
 use std::test::Fail;
 
 // The answer of a script that was refused memory, and that of one that wasn't.
@@ -27,28 +28,38 @@ const MODE: Mode = Mode {
     check: false,
 };
 
+fn answer_of(alloc: Global, image: Vec<u8>, out: &mut Vec<u8>) -> u8 {
+    match run_script(alloc, Some(image), MODE, SCRIPT, out).err() {
+        None => ANSWERED,
+        Some(fault) => number_of(&fault),
+    }
+}
+
+fn number_of(fault: &ConsoleFault) -> u8 {
+    match fault {
+        ConsoleFault::Memory => NO_MEMORY,
+        fault => status(fault),
+    }
+}
+
 #[test]
 fn of_run_script(rt: HostRuntime) -> Result<(), Fail> {
     let alloc = rt.alloc();
     let image = disk(alloc, 60, 16)?.into_bytes();
     let mut wanted = Vec::new(alloc);
-    let whole = run_script(alloc, Some(image.clone()?), MODE, SCRIPT, &mut wanted);
-    assert!(rt; whole.is_ok() && wanted.starts_with(LINES));
+    let copy = image.clone()?;
+    assert!(rt; answer_of(alloc, copy, &mut wanted) == ANSWERED);
+    assert!(rt; wanted.starts_with(LINES));
     let mut out = Vec::with_capacity(alloc, ROOM)?;
     let copy = image.clone()?;
     let _ = println!(rt; "call");
-    let came = run_script(alloc, Some(copy), MODE, SCRIPT, &mut out);
+    let answer = answer_of(alloc, copy, &mut out);
     let _ = println!(rt; "done");
-    let answer = match came {
-        Ok(_) => ANSWERED,
-        Err(ConsoleFault::Memory) => NO_MEMORY,
-        Err(fault) => status(&fault),
-    };
     println!(rt; "answer {answer}")?;
     assert!(rt; answer == ANSWERED && out.len() == wanted.len() || answer == NO_MEMORY);
     assert!(rt; wanted.starts_with(out.as_slice()));
     out.clear();
-    let again = run_script(alloc, Some(image), MODE, SCRIPT, &mut out);
-    assert!(rt; again.is_ok() && out.as_slice() == wanted.as_slice());
+    assert!(rt; answer_of(alloc, image, &mut out) == ANSWERED);
+    assert!(rt; out.as_slice() == wanted.as_slice());
     Ok(())
 }
