@@ -1,6 +1,7 @@
 mod Lines
 mod Numbers
 mod Pairs
+mod Prompting
 mod Saying
 mod Scripts
 mod Standing

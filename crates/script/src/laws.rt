@@ -1,8 +1,14 @@
-//! What is read is what docs/SCRIPT.md says. The function does nothing: it carries a law.
+//! What is read is what docs/SCRIPT.md says. The functions do nothing: each carries a law.
+ghost use Rattle.script.specs.Asking.{PromptsRunScripts};
 ghost use Rattle.script.specs.Grammar.{LinesAreRead};
 
 /// A line is read as that which its words say in the grammar, and as nothing where they stand nowhere in it: so each line says
 /// one thing at most.
 pub fn lines_are_read()
     ensures { LinesAreRead }
+{}
+
+/// A line that says something in a script asks the same at a prompt, and no other line is run there.
+pub fn prompts_run_scripts()
+    ensures { PromptsRunScripts }
 {}

@@ -33,8 +33,8 @@ pub fn parse(alloc: Global, text: &[u8]) -> Result<Vec<ScriptLine>, ScriptFault>
     Ok(lines)
 }
 
-// What is wrong with a bad line, seen from without: how it ends, its spaces, or else the reason that was found.
-fn plainest(line: &[u8], reason: Reason) -> Reason {
+/// What is wrong with a bad line, seen from without: how it ends, its spaces, or else the reason that was found.
+pub fn plainest(line: &[u8], reason: Reason) -> Reason {
     if reason == Reason::CarriageReturn {
         reason
     } else if line.split(|b| *b == b' ').any(|word| word.is_empty()) {
@@ -44,8 +44,8 @@ fn plainest(line: &[u8], reason: Reason) -> Reason {
     }
 }
 
-// An empty line, or a comment.
-fn is_passed_over(line: &[u8]) -> bool
+/// An empty line, or a comment.
+pub fn is_passed_over(line: &[u8]) -> bool
     ensures { result ≡ is_passed_over line.now }
 {
     line.is_empty() || line.starts_with(b"#")

@@ -1,0 +1,68 @@
+-- A line that says something in a script is none of those that only a prompt has.
+use Rattle.std.proofs.Common.{◌≡◌, ℕ, Bool, true, false, ◌||◌, List, cond, Option, Some, None, refl, ap, sym, ◌∙◌}
+use Rattle.std.proofs.lemmas.Option.{none-some, same_Some}
+use Rattle.std.proofs.lemmas.Slice.Eq.{bytes_eq-Decides}
+use Rattle.std.specs.Str.{bytes_eq}
+use Rattle.std.specs.Prelude.{codes}
+use Rattle.script.specs.Asking.{Asked, Nothing, Help, State, Quit, Run, asked_in, ends_input}
+use Rattle.script.specs.Said.{Line}
+use Rattle.script.specs.Reading.{is_passed_over, line_in, call_in, said_in, with_one}
+use Rattle.script.specs.Words.{value_after}
+
+is_other : (line text : List ℕ) (said : Line) → said_in text ≡ None → said_in line ≡ Some said → bytes_eq line text ≡ false
+is_other line text said none some = by (bytes_eq line text) refl
+  where
+    by : (b : Bool) → bytes_eq line text ≡ b → b ≡ false
+    by false same = refl
+    by true same = absurd (none-some said (sym none ∙ sym (ap said_in ((bytes_eq-Decides line text).0 same)) ∙ some))
+
+help_says_nothing : said_in (codes "help") ≡ None
+unfolding line_in call_in value_after
+help_says_nothing = refl
+
+state_says_nothing : said_in (codes "state") ≡ None
+unfolding line_in call_in value_after
+state_says_nothing = refl
+
+quit_says_nothing : said_in (codes "quit") ≡ None
+unfolding line_in call_in value_after
+quit_says_nothing = refl
+
+exit_says_nothing : said_in (codes "exit") ≡ None
+unfolding line_in call_in value_after
+exit_says_nothing = refl
+
+-- none of them
+abbrev other : Bool → Bool → Bool → Option Asked → Option Asked
+other help state quit run = cond help (Some Help) (cond state (Some State) (cond quit (Some Quit) run))
+
+pub is_run : (said : Line) (line : List ℕ) → is_passed_over line ≡ false → said_in line ≡ Some said → asked_in line ≡ Some (Run said)
+is_run said line read says =
+    let help = is_other line (codes "help") said help_says_nothing says in
+    let state = is_other line (codes "state") said state_says_nothing says in
+    let quit = is_other line (codes "quit") said quit_says_nothing says in
+    let exit = is_other line (codes "exit") said exit_says_nothing says in
+    ap (λ b. cond b (Some Nothing) (other (bytes_eq line (codes "help")) (bytes_eq line (codes "state")) (ends_input line) (with_one Run (said_in line)))) read
+    ∙ ap (λ b. other b (bytes_eq line (codes "state")) (ends_input line) (with_one Run (said_in line))) help
+    ∙ ap (λ b. other false b (ends_input line) (with_one Run (said_in line))) state
+    ∙ ap (λ b. other false false (b || bytes_eq line (codes "exit")) (with_one Run (said_in line))) quit
+    ∙ ap (λ b. other false false b (with_one Run (said_in line))) exit
+    ∙ ap (with_one Run) says
+
+run_says : (o : Option Line) (said : Line) → with_one Run o ≡ Some (Run said) → o ≡ Some said
+run_says None said is = absurd (none-some (Run said) is)
+run_says (Some l) said is = by (same_Some _ _ is)
+  where
+    by : Run l ≡ Run said → Some l ≡ Some said
+    by same = cc
+
+says_so : (help state quit : Bool) (o : Option Line) (said : Line) → other help state quit (with_one Run o) ≡ Some (Run said) → o ≡ Some said
+says_so true state quit o said is = cc
+says_so false true quit o said is = cc
+says_so false false true o said is = cc
+says_so false false false o said is = run_says o said is
+
+pub run_is_said : (said : Line) (line : List ℕ) → is_passed_over line ≡ false → asked_in line ≡ Some (Run said) → said_in line ≡ Some said
+run_is_said said line read is =
+    says_so (bytes_eq line (codes "help")) (bytes_eq line (codes "state")) (ends_input line) (said_in line) said
+    (sym (ap (λ b. cond b (Some Nothing) (other (bytes_eq line (codes "help")) (bytes_eq line (codes "state")) (ends_input line) (with_one Run (said_in line)))) read) ∙ is)

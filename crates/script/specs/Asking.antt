@@ -1,0 +1,55 @@
+-- What the lines ask that are typed at a prompt: those of a script, and a few that only tell something.
+use Rattle.std.specs.Prelude.{◌≡◌, ◌↔◌, ℕ, ◌==◌, Bool, ◌||◌, false, List, [], ◌∷◌, if◌then◌else◌, Option, Some, None, codes, Result, Ok, Err}
+use Rattle.std.specs.Str.{bytes_eq}
+use Rattle.script.specs.declared.asked.Asked.{Asked as AskedOf}
+use Rattle.script.specs.declared.asked.Asked.TheVariants as asks
+use Rattle.script.specs.declared.command.ScriptFault.{ScriptFault}
+use Rattle.script.specs.declared.command.ScriptFault.TheVariants as faults
+use Rattle.script.specs.Said.{Line, line_said}
+use Rattle.script.specs.Reading.{is_passed_over, said_in, with_one}
+
+pub data Asked : Type 0 where
+  Nothing : Asked
+  Help : Asked
+  State : Asked
+  Quit : Asked
+  Run : Line → Asked
+
+abbrev pub asked_by : AskedOf → Asked
+asked_by asks.Nothing = Nothing
+asked_by asks.Help = Help
+asked_by asks.State = State
+asked_by asks.Quit = Quit
+asked_by (asks.Run command) = Run (line_said command)
+
+abbrev pub ends_input : List ℕ → Bool
+ends_input line = bytes_eq line (codes "quit") || bytes_eq line (codes "exit")
+
+-- an empty line and a comment ask nothing
+abbrev pub asked_in : List ℕ → Option Asked
+asked_in line =
+    if is_passed_over line then Some Nothing
+    else if bytes_eq line (codes "help") then Some Help
+    else if bytes_eq line (codes "state") then Some State
+    else if ends_input line then Some Quit
+    else with_one Run (said_in line)
+
+-- what reading the line of this number answers: what it asks, or that it asks nothing that there is, unless memory was refused
+abbrev pub GivesAsked : ℕ → Result AskedOf ScriptFault → Option Asked → Type 0
+GivesAsked number (Ok a) asked = asked ≡ Some (asked_by a)
+GivesAsked number (Err (faults.Line n reason)) asked = (n ≡ number) × (asked ≡ None)
+GivesAsked number (Err faults.Memory) asked = Unit {0}
+
+-- a line of a script, but an empty one or a comment, is run at a prompt as what it says, and no other line is run
+abbrev pub PromptsRunScripts : Type 0
+PromptsRunScripts = (said : Line) (line : List ℕ) → is_passed_over line ≡ false → (said_in line ≡ Some said) ↔ (asked_in line ≡ Some (Run said))
+
+-- ---- the lines that are typed: each up to its byte 10, and the last one also without
+
+abbrev pub with_byte : ℕ → List (List ℕ) → List (List ℕ)
+with_byte b [] = (b ∷ []) ∷ []
+with_byte b (line ∷ lines) = (b ∷ line) ∷ lines
+
+unfoldable pub typed_lines : List ℕ → List (List ℕ)
+typed_lines [] = []
+typed_lines (b ∷ bs) = if b == 10 then [] ∷ typed_lines bs else with_byte b (typed_lines bs)
