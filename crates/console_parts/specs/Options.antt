@@ -1,4 +1,4 @@
--- The command line: [IMAGE] [--schedule listed|round] [--threads] [--last N] [--timeline] [--explain] [--check] [--save FILE].
+-- The command line: [IMAGE] [--schedule listed|round] [--prompt] [--threads] [--last N] [--timeline] [--explain] [--check] [--save FILE].
 use Rattle.std.specs.Prelude.{◌-◌, ◌^◌, [], ◌∷◌, Some, true, codes, pos}
 use Rattle.clap.specs.Words.{App, Rule, new_app, new_rule, with_rule}
 use Rattle.clap.specs.declared.builder.action.ArgAction.TheVariants.{Set, SetTrue}
@@ -11,6 +11,10 @@ image_rule = record (new_rule (codes "image")) { action = Some Set; value_names 
 -- in which order the lines are run, by a word that is looked at later
 abbrev pub schedule_rule : Rule
 schedule_rule = record (new_rule (codes "schedule")) { long = Some (codes "schedule"); action = Some Set; value_names = 1 }
+
+-- each line is answered when it is typed
+abbrev pub prompt_rule : Rule
+prompt_rule = record (new_rule (codes "prompt")) { long = Some (codes "prompt"); action = Some SetTrue }
 
 -- each hart has a thread
 abbrev pub threads_rule : Rule
@@ -44,9 +48,13 @@ console_app = let app = new_app (codes "console") in record app { top = record a
 abbrev pub scheduled_app : App
 scheduled_app = with_rule (with_rule console_app image_rule) schedule_rule
 
+-- and when
+abbrev pub prompted_app : App
+prompted_app = with_rule scheduled_app prompt_rule
+
 -- and how
 abbrev pub running_app : App
-running_app = with_rule (with_rule scheduled_app threads_rule) last_rule
+running_app = with_rule (with_rule prompted_app threads_rule) last_rule
 
 -- and with what is printed after all answers
 abbrev pub printing_app : App

@@ -2,7 +2,7 @@
 ghost use Rattle.std.specs.Prelude.{◌≡◌, codes, false, map, option_map, string_bytes, IfOk, Some};
 ghost use Rattle.clap.specs.Words.{app_of, fault_of, found_of, matches_of, one_text, rows_of, rule_of, FailsBy};
 ghost use Rattle.console_parts.specs.Modes.{schedule_named, HasMode, IsFlag, IsNumber};
-ghost use Rattle.console_parts.specs.Options.{check_rule, console_app, console_line, explain_rule, image_rule, last_rule, printing_app, running_app, save_rule, schedule_rule, scheduled_app, threads_rule, timeline_rule};
+ghost use Rattle.console_parts.specs.Options.{check_rule, console_app, console_line, explain_rule, image_rule, last_rule, printing_app, prompt_rule, prompted_app, running_app, save_rule, schedule_rule, scheduled_app, threads_rule, timeline_rule};
 
 use crate::mode::{Mode, Schedule};
 use clap::{Arg, ArgAction, ArgMatches, Command, Error};
@@ -37,6 +37,9 @@ pub const SCHEDULE: &str = "schedule";
 
 /// Each hart has a thread.
 pub const THREADS: &str = "threads";
+
+/// Lines are typed, and each is answered before the next is read.
+pub const PROMPT: &str = "prompt";
 
 /// How many of the last events are printed.
 pub const LAST: &str = "last";
@@ -113,6 +116,16 @@ fn threads<'a>(alloc: Global) -> Arg<'a>
         .help("Runs each hart's lines by a thread of its own, in no schedule")
 }
 
+fn prompt<'a>(alloc: Global) -> Arg<'a>
+    ensures rule { rule_of result ≡ prompt_rule }
+    ensures local { result.global ≡ false }
+{
+    Arg::new(alloc, PROMPT)
+        .long(PROMPT)
+        .action(ArgAction::SetTrue)
+        .help("Answers each line when it is typed; the line help tells which there are")
+}
+
 fn last<'a>(alloc: Global) -> Arg<'a>
     ensures rule { rule_of result ≡ last_rule }
     ensures local { result.global ≡ false }
@@ -153,12 +166,20 @@ fn scheduled<'a>(alloc: Global) -> Result<Command<'a>, AllocError>
     named.arg(image(alloc))?.arg(schedule(alloc))
 }
 
+// And when.
+fn prompted<'a>(alloc: Global) -> Result<Command<'a>, AllocError>
+    ensures { IfOk result (λ command. app_of command ≡ prompted_app) }
+{
+    let scheduled = scheduled(alloc)?;
+    scheduled.arg(prompt(alloc))
+}
+
 // And how.
 fn running<'a>(alloc: Global) -> Result<Command<'a>, AllocError>
     ensures { IfOk result (λ command. app_of command ≡ running_app) }
 {
-    let scheduled = scheduled(alloc)?;
-    scheduled.arg(threads(alloc))?.arg(last(alloc))
+    let prompted = prompted(alloc)?;
+    prompted.arg(threads(alloc))?.arg(last(alloc))
 }
 
 // And with what is printed after all answers.
@@ -235,6 +256,13 @@ pub fn has_threads(matches: &ArgMatches) -> bool
     ensures { IsFlag (one_text (found_of matches.now) (codes "threads")) result }
 {
     flag_in(matches, THREADS)
+}
+
+/// Whether lines are typed at a prompt.
+pub fn has_prompt(matches: &ArgMatches) -> bool
+    ensures { IsFlag (one_text (found_of matches.now) (codes "prompt")) result }
+{
+    flag_in(matches, PROMPT)
 }
 
 /// Reads a command line, the program's name first. After an `Ok` the values are those that the words give; an error

@@ -8,7 +8,7 @@ mod mode;
 mod tail;
 mod text;
 
-pub use crate::command_line::{IMAGE, SAVE, has_threads, mode_of, options};
+pub use crate::command_line::{IMAGE, SAVE, has_prompt, has_threads, mode_of, options};
 pub use crate::entries::write_entry;
 pub use crate::mode::{Mode, Schedule};
 pub use crate::tail::{Tail, tails_hold_the_last};
