@@ -8,3 +8,6 @@ pub mod Failing
 pub mod Calm
 pub mod Stopping
 pub mod Telling
+pub mod Typing
+pub mod Answering
+pub mod Prompting

@@ -7,6 +7,7 @@ pub mod Images
 pub mod Lines
 pub mod Notes
 pub mod Numbers
+pub mod Prompts
 pub mod Queues
 pub mod Runs
 pub mod Scripts

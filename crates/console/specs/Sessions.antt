@@ -1,5 +1,5 @@
 -- A mounted file system that a console runs, and what happens to it.
-use Rattle.std.specs.Prelude.{◌≡◌, ℕ, ◌+◌, min, List, replicate, set, get_or, Option, Some, None}
+use Rattle.std.specs.Prelude.{◌≡◌, ℕ, ◌+◌, min, true, false, List, replicate, set, get_or, Option, Some, None}
 use Rattle.fs_machine.specs.declared.kind.Kind.{Kind}
 use Rattle.atomic_programs.specs.Calls.{with_answer}
 use Rattle.hart_core.specs.declared.events.Event.{Event}
@@ -15,25 +15,28 @@ use Rattle.console.specs.declared.verb.Verb.{Verb}
 use Rattle.console.specs.declared.doing.Doing.{Doing}
 use Rattle.console.specs.Numbers.{kind_place}
 
--- ---- what a hart's call has done so far: which call it is, and how many of its steps of each kind have run
+-- ---- what a hart's call has done so far: which call it is, how many of its steps of each kind have run, which was the last, and whether one waited since
 
 -- counted up to the greatest u32
 abbrev pub one_more : ℕ → ℕ
 one_more n = min (n + 1) 4294967295
 
 abbrev pub begun : Verb → Doing
-begun verb = record { verb = verb; ran = replicate 12 0 }
+begun verb = record { verb = verb; ran = replicate 12 0; last = None; waits = false }
 
 abbrev pub count_of : Kind → Doing → ℕ
 count_of kind d = get_or d.ran (kind_place kind) 0
 
 abbrev pub with_step : Kind → Doing → Doing
-with_step kind d = record d { ran = set d.ran (kind_place kind) (one_more (count_of kind d)) }
+with_step kind d = record d { ran = set d.ran (kind_place kind) (one_more (count_of kind d)); last = Some kind; waits = false }
+
+abbrev pub with_wait : Doing → Doing
+with_wait d = record d { waits = true }
 
 abbrev pub stepped : Outcome → Option Doing → Option Doing
 stepped came None = None
 stepped outcome.Idle (Some d) = Some d
-stepped outcome.Waits (Some d) = Some d
+stepped outcome.Waits (Some d) = Some (with_wait d)
 stepped (outcome.Ran kind) (Some d) = Some (with_step kind d)
 stepped (outcome.Done reply) (Some d) = None
 stepped (outcome.Stopped stop) (Some d) = Some d

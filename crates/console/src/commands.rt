@@ -25,7 +25,7 @@ use std::alloc::Global;
 use std::io::Write;
 
 /// The harts, in the order of a turn.
-const ALL_HARTS: [u8; 8] = [0, 1, 2, 3, 4, 5, 6, 7];
+pub const ALL_HARTS: [u8; 8] = [0, 1, 2, 3, 4, 5, 6, 7];
 
 /// What stands beside a file system while a script is run: the calls that harts are still to start, and what is noted.
 #[derive(Drop)]
@@ -183,8 +183,8 @@ fn settle<D: Device, W: Write>(
     }
 }
 
-// Runs a line.
-fn run_line<D: Device, W: Write>(
+/// Runs a line.
+pub fn run_line<D: Device, W: Write>(
     alloc: Global,
     session: &mut Session<D>,
     desk: &mut Desk,

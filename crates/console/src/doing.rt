@@ -1,6 +1,6 @@
 //! What a hart's call has done so far.
 ghost use Rattle.std.specs.Prelude.{◌≡◌};
-ghost use Rattle.console.specs.Sessions.{begun, count_of, done_after, stepped, with_step};
+ghost use Rattle.console.specs.Sessions.{begun, count_of, done_after, stepped, with_step, with_wait};
 
 use crate::numbers::{KINDS, kind_place};
 use crate::verb::Verb;
@@ -12,6 +12,10 @@ use hart_core::{Came, Outcome};
 pub struct Doing {
     pub verb: Verb,
     ran: [u32; KINDS],
+    /// The kind of the last step that ran.
+    pub last: Option<Kind>,
+    /// Whether it was tried to make a step since, which waited.
+    pub waits: bool,
 }
 
 impl Doing {
@@ -22,6 +26,8 @@ impl Doing {
         Doing {
             verb,
             ran: [0; KINDS],
+            last: None,
+            waits: false,
         }
     }
 
@@ -41,6 +47,20 @@ impl Doing {
         Doing {
             verb: self.verb,
             ran,
+            last: Some(kind),
+            waits: false,
+        }
+    }
+
+    fn with_wait(self) -> Doing
+        ensures { result ≡ with_wait self }
+    {
+        let ran = self.ran;
+        Doing {
+            verb: self.verb,
+            ran,
+            last: self.last,
+            waits: true,
         }
     }
 }
@@ -63,6 +83,7 @@ fn stepped(outcome: &Outcome, doing: Doing) -> Option<Doing>
     match outcome {
         Outcome::Ran(kind) => Some(doing.with_step(*kind)),
         Outcome::Done(_) => None,
-        Outcome::Idle | Outcome::Waits | Outcome::Stopped(_) => Some(doing),
+        Outcome::Waits => Some(doing.with_wait()),
+        Outcome::Idle | Outcome::Stopped(_) => Some(doing),
     }
 }

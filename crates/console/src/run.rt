@@ -56,15 +56,15 @@ pub fn image_disk(alloc: Global, image: Option<Vec<u8>>) -> Result<MemoryDisk, C
     }
 }
 
-// A disk, and a copy of its bytes.
+/// A disk, and a copy of its bytes.
 #[derive(Drop)]
-struct Loaded {
-    image: Vec<u8>,
-    disk: MemoryDisk,
+pub struct Loaded {
+    pub image: Vec<u8>,
+    pub disk: MemoryDisk,
 }
 
-// A copy of a disk's bytes, where it is wanted.
-fn with_copy(alloc: Global, wanted: bool, disk: MemoryDisk) -> Result<Loaded, ConsoleFault>
+/// A copy of a disk's bytes, where it is wanted.
+pub fn with_copy(alloc: Global, wanted: bool, disk: MemoryDisk) -> Result<Loaded, ConsoleFault>
     ensures disk { IfOk result (λ c. c.disk ≡ disk) }
     ensures image { IfOk result (λ c. WhereSet wanted (c.image.items ≡ disk) (Unit {0})) }
     ensures memory { IfErr result (λ fault. fault ≡ Memory) }
@@ -163,7 +163,8 @@ pub fn read_script<R: Read + Drop>(
     Ok(text)
 }
 
-fn read_fault(fault: io::Error) -> ConsoleFault
+/// Why nothing was read.
+pub fn read_fault(fault: io::Error) -> ConsoleFault
     ensures { FailsUnread result }
 {
     if fault.kind() == io::ErrorKind::OutOfMemory {

@@ -1,0 +1,44 @@
+-- Lines that were typed on a file system that is mounted.
+use Rattle.std.proofs.Common.{◌≡◌, ℕ, ◌+◌, ◌<◌, ◌≤◌, List, [], ◌∷◌, length, drop, get_or, Option, Result, ap, sym, ◌∙◌, subst, inl}
+use Rattle.std.proofs.lemmas.List.{at_drop_all, at_drop_more}
+use Rattle.std.specs.Io.KnownBytes.{Appends}
+use Rattle.console_parts.specs.declared.mode.Mode.{Mode}
+use Rattle.console_parts.proofs.Appending.{appends_nothing, appends_both}
+use Rattle.console.specs.declared.doing.Doing.{Doing}
+use Rattle.console.specs.declared.fault.ConsoleFault.{ConsoleFault}
+use Rattle.console.specs.Commands.{state}
+use Rattle.console.specs.Notes.{NotesOf, no_notes}
+use Rattle.console.specs.Prompts.{PromptsAll, PromptsReader, doing_text, state_text}
+use Rattle.console.specs.Queues.{Left, none_left}
+use Rattle.console.specs.Runs.{EndsSo, most_noted}
+use Rattle.console.specs.Sessions.{SessionOf, doing_at}
+
+-- ---- the state
+
+pub state_more : (known next end : Option (List ℕ)) (harts : List ℕ) (doing : List (Option Doing)) (i hart : ℕ) → i < length harts → hart ≡ get_or harts i 0 → Appends known next (doing_text hart (doing_at hart doing))
+    → Appends next end (state_text (drop (i + 1) harts) doing) → Appends known end (state_text (drop i harts) doing)
+unfolding state_text
+state_more known next end harts doing i hart lt is line rest =
+    let split : drop i harts ≡ hart ∷ drop (i + 1) harts = at_drop_more (λ hs. hs) harts i 0 lt ∙ ap (λ h. h ∷ drop (i + 1) harts) (sym is) in
+    subst (λ hs. Appends known end (state_text hs doing)) (sym split) (appends_both known next end (doing_text hart (doing_at hart doing)) (state_text (drop (i + 1) harts) doing) line rest)
+
+pub state_end : (known : Option (List ℕ)) (harts : List ℕ) (doing : List (Option Doing)) (i : ℕ) → length harts ≤ i → Appends known known (state_text (drop i harts) doing)
+unfolding state_text
+state_end known harts doing i le = subst (λ hs. Appends known known (state_text hs doing)) (sym (at_drop_all (λ hs. hs) harts i le)) (appends_nothing known)
+
+-- ---- all lines, and what stands behind them
+
+module _ {D : Type 0} (contents : D → List (List ℕ)) (failures : D → ℕ) (help : List ℕ) where
+  pub lines_answered : (mode : Mode) (image : List ℕ) (s t : SessionOf D) (typed : Option (List ℕ)) (queues left : Left) (ends result : Result (Unit {0}) ConsoleFault) (out between out' : Option (List ℕ)) (first notes : NotesOf) (most : ℕ) → queues ≡ none_left
+      → first ≡ no_notes most mode.explain → most ≡ most_noted mode → PromptsAll contents failures help 1 typed (state s queues) out first ends (state t left) between notes → EndsSo mode image notes ends between result out'
+      → PromptsReader contents failures help mode image s typed result t out out'
+  lines_answered mode image s t typed queues left ends result out between out' first notes most none is many answers end =
+      let from_none = subst (λ q. PromptsAll contents failures help 1 typed (state s q) out first ends (state t left) between notes) none answers in
+      inl (record {
+        left = left;
+        ends = ends;
+        between = between;
+        notes = notes;
+        answers = subst (λ n. PromptsAll contents failures help 1 typed (state s none_left) out n ends (state t left) between notes) (is ∙ ap (λ k. no_notes k mode.explain) many) from_none;
+        end = end;
+      })

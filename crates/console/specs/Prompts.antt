@@ -1,0 +1,174 @@
+-- What comes of lines that are typed at a prompt (docs/SCRIPT.md): each is answered before the next is read.
+use Rattle.std.specs.Prelude.{◌≡◌, ◌⊎◌, ℕ, ◌+◌, Bool, true, false, List, [], ◌∷◌, ◌++◌, replicate, Option, Some, None, IfSome, Result, Ok, Err, Vec, codes, decimal}
+use Rattle.std.specs.Io.KnownBytes.{Appends}
+use Rattle.std.specs.declared.alloc.Global.{Global}
+use Rattle.block_device.specs.Blocks.{blocks_of}
+use Rattle.fs_machine.specs.declared.kind.Kind.{Kind}
+use Rattle.hart_core.specs.Mounting.{Rests}
+use Rattle.script.specs.Asking.{Asked, Nothing, Help, State, Quit, Run, asked_in, typed_lines}
+use Rattle.script.specs.Grammar.{kind_word}
+use Rattle.console_parts.specs.declared.mode.Mode.{Mode}
+use Rattle.console.specs.declared.doing.Doing.{Doing}
+use Rattle.console.specs.declared.fault.ConsoleFault.{ConsoleFault}
+use Rattle.console.specs.declared.fault.ConsoleFault.TheVariants as faults
+use Rattle.console.specs.Behaviours.{Behaviour, DoesNothing, IsWritten, Runs, followed_by, gives, in_case, prints, takes_memory}
+use Rattle.console.specs.Commands.{RunOf, all_harts, line, state}
+use Rattle.console.specs.Histories.{WhereSet}
+use Rattle.console.specs.Images.{bytes_for}
+use Rattle.console.specs.Notes.{NotesOf, no_notes}
+use Rattle.console.specs.Queues.{Left, none_left}
+use Rattle.console.specs.Runs.{EndsSo, RunsNone, most_noted}
+use Rattle.console.specs.Scripts.{HandsOut, TakesNoImage}
+use Rattle.console.specs.Sessions.{SessionOf, doing_at}
+use Rattle.console.specs.Verbs.{word_of}
+
+-- ---- what is told
+
+-- what stands before each line
+abbrev pub mark : List ℕ
+mark = codes "> "
+
+-- how far a call has come
+abbrev pub step_text : Option Kind → List ℕ
+step_text None = codes " started"
+step_text (Some kind) = codes " after " ++ kind_word kind
+
+abbrev pub waits_text : Bool → List ℕ
+waits_text true = codes ", waits\n"
+waits_text false = codes "\n"
+
+-- a hart that has a call: which, its last step, and whether the step that was tried since waited
+abbrev pub doing_text : ℕ → Option Doing → List ℕ
+doing_text hart None = []
+doing_text hart (Some d) = decimal hart ++ codes " " ++ word_of d.verb ++ step_text d.last ++ waits_text d.waits
+
+-- of each of these harts
+unfoldable pub state_text : List ℕ → List (Option Doing) → List ℕ
+state_text [] doing = []
+state_text (hart ∷ harts) doing = doing_text hart (doing_at hart doing) ++ state_text harts doing
+
+-- a bad line, and why it is bad
+abbrev pub bad_text : ℕ → List ℕ → List ℕ
+bad_text n why = codes "line " ++ decimal n ++ codes ": bad command\n" ++ why ++ codes "\n"
+
+-- ---- what is done
+
+-- the next line, or the end of the input, is read, or reading fails; nothing happens
+abbrev pub IsReadOrFails : Result (Unit {0}) ConsoleFault → Type 0
+IsReadOrFails (Ok u) = Unit {0}
+IsReadOrFails (Err (faults.Read e)) = Unit {0}
+IsReadOrFails (Err faults.Memory) = Unit {0}
+IsReadOrFails (Err (faults.Image f)) = ⊥
+IsReadOrFails (Err (faults.Write e)) = ⊥
+IsReadOrFails (Err (faults.Line n why)) = ⊥
+IsReadOrFails (Err (faults.Stopped stop)) = ⊥
+
+unfoldable pub reads : {S : Type 0} → Behaviour S (Unit {0})
+reads s events text result t = DoesNothing s events text t × IsReadOrFails result
+
+-- a line that asks nothing that there is is told, with why, and changes nothing
+unfoldable pub tells_bad : {S : Type 0} → ℕ → Behaviour S (Unit {0})
+tells_bad n s events text result t = (why : List ℕ) × prints (λ u. bad_text n why) s events text result t
+
+-- a bad line is told, or that isn't written, or there is no memory to say why
+abbrev pub TellsBad : ℕ → Result (Unit {0}) ConsoleFault → Option (List ℕ) → Option (List ℕ) → Type 0
+TellsBad n (Ok u) out out' = (why : List ℕ) × Appends out out' (bad_text n why)
+TellsBad n (Err (faults.Write e)) out out' = Unit {0}
+TellsBad n (Err faults.Memory) out out' = Unit {0}
+TellsBad n (Err (faults.Image f)) out out' = ⊥
+TellsBad n (Err (faults.Read e)) out out' = ⊥
+TellsBad n (Err (faults.Line m why)) out out' = ⊥
+TellsBad n (Err (faults.Stopped stop)) out out' = ⊥
+
+-- ---- lines of a reader, of which may be known what it gives
+
+-- this is the first line that is typed, and the others are left
+abbrev pub IsFirst : Option (List ℕ) → List ℕ → Option (List ℕ) → Type 0
+IsFirst old line new = IfSome old (λ bytes. (more : List ℕ) × (new ≡ Some more) × (typed_lines bytes ≡ line ∷ typed_lines more))
+
+-- at the input's end there is no line; else the first is read
+abbrev pub ReadsLine : Option (List ℕ) → Bool → List ℕ → Option (List ℕ) → Type 0
+ReadsLine old false line new = IfSome old (λ bytes. typed_lines bytes ≡ [])
+ReadsLine old true line new = IsFirst old line new
+
+abbrev pub first_of : List (List ℕ) → Option (List ℕ)
+first_of [] = None
+first_of (line ∷ lines) = Some line
+
+-- where more lines are read, one was
+abbrev pub Follows : Result Bool ConsoleFault → Option (List ℕ) → Option (List ℕ) → Option (List ℕ) → Type 0
+Follows (Ok true) old None new = ⊥
+Follows (Ok true) old (Some line) new = IsFirst old line new
+Follows (Ok false) old next new = Unit {0}
+Follows (Err fault) old next new = Unit {0}
+
+module _ {D : Type 0} (contents : D → List (List ℕ)) (failures : D → ℕ) (help : List ℕ) where
+  -- What is asked is done; a line of a script does what it does there. It comes to whether more lines are read.
+  abbrev pub does : Asked → Behaviour (RunOf D) Bool
+  does Nothing = gives true
+  does Help = followed_by (prints (λ s. help)) (λ u. gives true)
+  does State = followed_by (prints (λ s. state_text all_harts s.session.doing)) (λ u. gives true)
+  does Quit = gives false
+  does (Run l) = followed_by (line contents failures l) (λ u. gives true)
+
+  abbrev pub does_or_tells : ℕ → Option Asked → Behaviour (RunOf D) Bool
+  does_or_tells n None = followed_by (tells_bad n) (λ u. gives true)
+  does_or_tells n (Some asked) = does asked
+
+  -- the line of this number is answered
+  unfoldable pub answers : ℕ → List ℕ → Behaviour (RunOf D) Bool
+  answers n line = followed_by (takes_memory {A = Unit {0}} tt) (λ u. does_or_tells n (asked_in line))
+
+  -- the mark, and then the line of this number is read and answered; or the input's end
+  abbrev pub answers_next : ℕ → Option (List ℕ) → Behaviour (RunOf D) Bool
+  answers_next n None = followed_by (prints (λ s. codes "\n")) (λ u. gives false)
+  answers_next n (Some line) = answers n line
+
+  unfoldable pub prompts : ℕ → Option (List ℕ) → Behaviour (RunOf D) Bool
+  prompts n next = followed_by (prints (λ s. mark)) (λ u. followed_by reads (λ v. answers_next n next))
+
+  -- line after line, the first of number n, up to a fault, a line that ends the input, or the input's end
+  unfoldable pub prompts_all : ℕ → List (List ℕ) → Behaviour (RunOf D) (Unit {0})
+  prompts_all n [] = followed_by (prompts n None) (λ more. gives tt)
+  prompts_all n (line ∷ lines) = followed_by (prompts n (Some line)) (λ more. in_case more (prompts_all (n + 1) lines) (gives tt))
+
+  -- the next line of a reader is answered, or its end
+  pub record PromptsLine (n : ℕ) (old new : Option (List ℕ)) (s : RunOf D) (out : Option (List ℕ)) (notes : NotesOf) (result : Result Bool ConsoleFault) (t : RunOf D) (out' : Option (List ℕ)) (notes' : NotesOf) : Type 0 where
+    pub next : Option (List ℕ)
+    pub is_next : IfSome old (λ bytes. next ≡ first_of (typed_lines bytes))
+    pub follows : Follows result old next new
+    pub runs : Runs (prompts n next) s out notes result t out' notes'
+
+  -- all lines of a reader, the first of number n
+  pub record PromptsAll (n : ℕ) (typed : Option (List ℕ)) (s : RunOf D) (out : Option (List ℕ)) (notes : NotesOf) (result : Result (Unit {0}) ConsoleFault) (t : RunOf D) (out' : Option (List ℕ)) (notes' : NotesOf) : Type 0 where
+    pub lines : List (List ℕ)
+    pub are_typed : IfSome typed (λ bytes. lines ≡ typed_lines bytes)
+    pub runs : Runs (prompts_all n lines) s out notes result t out' notes'
+
+  -- the lines are answered, and then the last events are told, and the history on this image
+  pub record PromptsLines (mode : Mode) (image : List ℕ) (s : SessionOf D) (typed : Option (List ℕ)) (result : Result (Unit {0}) ConsoleFault) (t : SessionOf D) (out out' : Option (List ℕ)) : Type 0 where
+    pub left : Left
+    pub ends : Result (Unit {0}) ConsoleFault
+    pub between : Option (List ℕ)
+    pub notes : NotesOf
+    pub answers : PromptsAll 1 typed (state s none_left) out (no_notes (most_noted mode) mode.explain) ends (state t left) between notes
+    pub end : EndsSo mode image notes ends between result out'
+
+  abbrev pub PromptsReader : Mode → List ℕ → SessionOf D → Option (List ℕ) → Result (Unit {0}) ConsoleFault → SessionOf D → Option (List ℕ) → Option (List ℕ) → Type 0
+  PromptsReader mode image s typed result t out out' = PromptsLines mode image s typed result t out out' ⊎ RunsNone contents failures s result t out out'
+
+  -- From a file system that is mounted on this disk, in which no hart has a call, the lines make another; the disk as it is there is handed out.
+  pub record PromptsOn (mode : Mode) (bytes : List ℕ) (disk : D) (typed : Option (List ℕ)) (result : Result D ConsoleFault) (out out' : Option (List ℕ)) : Type 0 where
+    pub first : SessionOf D
+    pub last : SessionOf D
+    pub ended : Result (Unit {0}) ConsoleFault
+    pub rests : Rests contents failures disk first.world.harts
+    pub idle : first.doing ≡ replicate 8 None
+    pub image : List ℕ
+    pub image_is : WhereSet mode.explain (image ≡ bytes) (Unit {0})
+    pub runs : PromptsReader mode image first typed ended last out out'
+    pub hands : HandsOut last.world.harts.core.log.cache.device ended result
+
+-- on a disk in memory, or the image isn't taken
+abbrev pub PromptsImage : List ℕ → Mode → Option (Vec ℕ Global) → Option (List ℕ) → Result (List ℕ) ConsoleFault → Option (List ℕ) → Option (List ℕ) → Type 0
+PromptsImage help mode image typed result out out' = PromptsOn blocks_of (λ d. 0) help mode (bytes_for image) (bytes_for image) typed result out out' ⊎ TakesNoImage result out out'
