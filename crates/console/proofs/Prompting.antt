@@ -1,5 +1,5 @@
 -- Lines that were typed on a file system that is mounted.
-use Rattle.std.proofs.Common.{◌≡◌, ℕ, ◌+◌, ◌<◌, ◌≤◌, List, [], ◌∷◌, length, drop, get_or, Option, Result, ap, sym, ◌∙◌, subst, inl}
+use Rattle.std.proofs.Common.{◌≡◌, ℕ, ◌+◌, ◌<◌, ◌≤◌, List, ◌∷◌, length, drop, get_or, Option, Result, ap, sym, ◌∙◌, subst, inl}
 use Rattle.std.proofs.lemmas.List.{at_drop_all, at_drop_more}
 use Rattle.std.specs.Io.KnownBytes.{Appends}
 use Rattle.console_parts.specs.declared.mode.Mode.{Mode}

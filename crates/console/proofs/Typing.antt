@@ -1,7 +1,6 @@
 -- The first of the lines that are typed is what is read up to a byte 10.
 use Rattle.std.proofs.lemmas.Bool.{eqb-true}
-use Rattle.std.proofs.Common.{◌≡◌, ℕ, Bool, true, false, eqb, eq-eqb, List, [], ◌∷◌, ◌++◌, cond, length, take, ◌-◌, Option, Some, None, IfSome, refl, ap, sym, ◌∙◌, subst, arith, length-append}
-use Rattle.std.proofs.lemmas.Slice.Eq.{ends_is}
+use Rattle.std.proofs.Common.{◌≡◌, ℕ, Bool, true, false, eqb, eq-eqb, List, [], ◌∷◌, ◌++◌, cond, length, Option, Some, None, IfSome, refl, ap, sym, ◌∙◌, subst, arith, length-append}
 use Rattle.std.specs.Io.KnownBytes.{IsAtEnd}
 use Rattle.std.specs.Io.BufRead.{take_through, drop_through, DropsThrough}
 use Rattle.script.specs.Asking.{typed_lines, with_byte}

@@ -11,7 +11,7 @@ use Rattle.console_parts.specs.declared.mode.Mode.{Mode}
 use Rattle.console.specs.declared.doing.Doing.{Doing}
 use Rattle.console.specs.declared.fault.ConsoleFault.{ConsoleFault}
 use Rattle.console.specs.declared.fault.ConsoleFault.TheVariants as faults
-use Rattle.console.specs.Behaviours.{Behaviour, DoesNothing, IsWritten, Runs, followed_by, gives, in_case, prints, takes_memory}
+use Rattle.console.specs.Behaviours.{Behaviour, DoesNothing, Runs, followed_by, gives, in_case, prints, takes_memory}
 use Rattle.console.specs.Commands.{RunOf, all_harts, line, state}
 use Rattle.console.specs.Histories.{WhereSet}
 use Rattle.console.specs.Images.{bytes_for}

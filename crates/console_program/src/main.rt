@@ -1,4 +1,5 @@
-//! `console [IMAGE] [--schedule listed|round] [--threads] [--last N] [--timeline] [--explain] [--check] [--save FILE]`: runs a script from standard input on a file system, and prints its answers.
+//! `console [IMAGE] [--schedule listed|round] [--prompt] [--threads] [--last N] [--timeline] [--explain] [--check] [--save FILE]`: runs a script from standard input on a file system, and prints its answers;
+//! with `--prompt` each line is answered when it is typed.
 //!
 //! Faults are told in this order: the command line (status 2), an IMAGE file that can't be read, a FILE that can't be
 //! written, an image that isn't taken (status 1), the script (status 1 or 2), and what only writing FILE shows (status 1).
@@ -7,8 +8,8 @@
 
 use clap::ArgMatches;
 use clap::error::ErrorKind;
-use console::{ConsoleFault, run_script, status};
-use console_parts::{IMAGE, SAVE, has_threads, mode_of, options};
+use console::{ConsoleFault, run_prompt, run_script, status};
+use console_parts::{IMAGE, Mode, SAVE, Schedule, has_prompt, has_threads, mode_of, options};
 use console_threads::{ThreadsFault, run_threads};
 use image_files::{ImageRefused, SaveRefused, read_image, save, shown, try_to_save};
 use std::alloc::AllocError;
@@ -31,6 +32,9 @@ enum Fault<'a> {
     /// An image that is only examined isn't changed, so there is nothing to be saved.
     #[error("error: '--check' examines the image, and has nothing for '--save <FILE>' to write")]
     CheckAndSave,
+    /// What is asked for goes by a whole script, and typed lines are none.
+    #[error("error: '--prompt' answers each line when it is typed, and goes with no '--check', '--explain', '--threads' or '--schedule round'")]
+    Prompt,
     /// The image's file can't be read, or is too large.
     #[error("{0}: {1}")]
     Image(&'a str, ImageRefused),
@@ -102,7 +106,7 @@ impl<'a> Fault<'a> {
     // The program's exit status.
     fn status(&self) -> u8 {
         match self {
-            Fault::Words(_) | Fault::Schedule | Fault::CheckAndSave => 2,
+            Fault::Words(_) | Fault::Schedule | Fault::CheckAndSave | Fault::Prompt => 2,
             Fault::Image(..) | Fault::Save(_) => 1,
             Fault::Run(fault) => status(fault),
             Fault::Threads(fault) => console_threads::status(fault),
@@ -127,19 +131,33 @@ fn words(rt: &HostRuntime) -> Result<Vec<String>, Fault<'static>> {
     }
 }
 
+// Whether this mode is one of a whole script, or of none.
+fn is_of_script(mode: &Mode) -> bool {
+    mode.check || mode.explain || mode.schedule == Schedule::Round
+}
+
+// How to run, where what is asked for goes together.
+fn mode_in(matches: &ArgMatches) -> Result<Mode, Fault<'static>> {
+    let Some(mode) = mode_of(matches) else {
+        return Err(Fault::Schedule);
+    };
+    if mode.check && matches.get_str(SAVE).is_some() {
+        return Err(Fault::CheckAndSave);
+    }
+    if has_prompt(matches) && (has_threads(matches) || is_of_script(&mode)) {
+        return Err(Fault::Prompt);
+    }
+    Ok(mode)
+}
+
 // Runs what the command line asks for. What was answered before a fault is printed.
 fn run<'a, R: Threads + Wait + Sync>(
     rt: &HostRuntime,
     threads: &R,
     matches: &'a ArgMatches,
 ) -> Result<(), Fault<'a>> {
-    let Some(mode) = mode_of(matches) else {
-        return Err(Fault::Schedule);
-    };
+    let mode = mode_in(matches)?;
     let place = matches.get_str(SAVE);
-    if mode.check && place.is_some() {
-        return Err(Fault::CheckAndSave);
-    }
     let (image, rest) = match matches.get_str(IMAGE) {
         Some(path) => {
             let file = read_image(rt, path).map_err(|refused| Fault::of_image(path, refused))?;
@@ -155,11 +173,12 @@ fn run<'a, R: Threads + Wait + Sync>(
     ))?;
     let ran = if has_threads(matches) && !mode.check {
         run_threads(threads, rt.alloc(), image, mode, rt.reader(), &mut out)
+    } else if has_prompt(matches) {
+        run_prompt(rt.alloc(), image, mode, &mut rt.reader(), &mut out).map_err(
+            ThreadsFault::Console,
+        )
     } else {
-        match run_script(rt.alloc(), image, mode, rt.reader(), &mut out) {
-            Ok(disk) => Ok(disk),
-            Err(fault) => Err(ThreadsFault::Console(fault)),
-        }
+        run_script(rt.alloc(), image, mode, rt.reader(), &mut out).map_err(ThreadsFault::Console)
     };
     out.flush().map_err(|error| Fault::of_answers(error))?;
     let disk = ran?;

@@ -12,6 +12,8 @@ mod images;
 #[cfg(test)]
 mod parts;
 #[cfg(test)]
+mod prompts;
+#[cfg(test)]
 mod scripts;
 #[cfg(test)]
 mod short;

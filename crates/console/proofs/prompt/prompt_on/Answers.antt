@@ -10,5 +10,5 @@ returns-in_err-notes g c =
 
 pub returns : goal.returns
 returns g c =
-    lines_answered g.D.Device.contents g.D.Device.failures _ c.args.mode c.args.image.now c.args.session.now c.prompt_all-ended.new.session _ c.new-queues.result c.prompt_all-ended.new.desk.queues c.prompt_all-ended.result c.finish.result _ _ _ _ _ c.most_noted.result
-    c.new-queues.ensures c.in_ok-notes.ensures c.most_noted.ensures c.prompt_all-ended.ensures c.finish.ensures
+    lines_answered g.D.Device.contents g.D.Device.failures _ c.args.mode c.args.image.now c.args.session.now c.prompt_all-ended.new.session _ c.new-2.result c.prompt_all-ended.new.desk.queues c.prompt_all-ended.result c.finish.result _ _ _ _ _ c.most_noted.result
+    c.new-2.ensures c.in_ok-notes.ensures c.most_noted.ensures c.prompt_all-ended.ensures c.finish.ensures

@@ -1,4 +1,4 @@
-use Rattle.std.proofs.Common.{rules, arith, List, ℕ, false, true≢false, ◌≡◌, ◌++◌, ◌∷◌, [], ◌-◌, take, length, sym, ◌∙◌, eqb}
+use Rattle.std.proofs.Common.{rules, arith, List, ℕ, false, true≢false, ◌≡◌, ◌++◌, ◌∷◌, [], sym, ◌∙◌}
 use Rattle.std.proofs.lemmas.Bool.Decides.{Decides-eqb}
 use Rattle.std.proofs.lemmas.Slice.Eq.{ends_is}
 use Rattle.console.proofs.Typing.{read_ended, read_endless, read_none}
@@ -7,15 +7,15 @@ use Rattle.console.proofs.prompt.read_line.Goals as goal
 pub returns-in-Ok-eq0-clause-line : goal.returns-in-Ok-eq0-clause-line
 returns-in-Ok-eq0-clause-line g c = read_none (g.R.Read.remaining c.args.typed.now) (c.in-Ok-eq0.ensures.end c.in-Ok-eq0.field-0-test)
 
-pub returns-then-ends_with-clause-line : goal.returns-then-ends_with-clause-line
-returns-then-ends_with-clause-line g c =
+pub returns-in-Ok-clause-line : goal.returns-in-Ok-clause-line
+returns-in-Ok-clause-line g c =
     let all : c.deref.result.now ≡ c.read_until.new.buf.items = search rules in
     let ends = (ends_is Decides-eqb c.deref.result.now (10 ∷ []) c.ends_with.result c.ends_with.ensures.value).0 c.if-ends_with.true in
     let items : c.read_until.new.buf.items ≡ c.pop.new.self.items ++ 10 ∷ [] = search rules in
     read_ended (g.R.Read.remaining c.args.typed.now) (g.R.Read.remaining c.read_until.new.self) c.clear.new.self.items c.read_until.new.buf.items c.pop.new.self.items c.clear.ensures.items c.in-Ok.ensures.bytes c.in-Ok.ensures.rest items
 
-pub returns-else-ends_with-clause-line : goal.returns-else-ends_with-clause-line
-returns-else-ends_with-clause-line g c =
+pub returns-in-Ok-2-clause-line : goal.returns-in-Ok-2-clause-line
+returns-in-Ok-2-clause-line g c =
     let all : c.deref.result.now ≡ c.read_until.new.buf.items = search rules in
     let none : c.ends_with.result ≡ false = c.if-ends_with.false in
     let without : (body : List ℕ) → c.read_until.new.buf.items ≡ body ++ 10 ∷ [] → ⊥ = λ body e. true≢false (sym ((ends_is Decides-eqb c.deref.result.now (10 ∷ []) c.ends_with.result c.ends_with.ensures.value).1 body (all ∙ e)) ∙ none) in
