@@ -1,5 +1,5 @@
 -- What an operation on whole inodes is below, where it is one operation.
-use Rattle.std.proofs.Common.{◌≡◌, ℕ, zero, suc, List, Bool, true, false, Option, Some, None, refl, sym, ap, ◌∙◌, subst}
+use Rattle.std.proofs.Common.{◌≡◌, ◌≢◌, ℕ, zero, suc, List, Bool, true, false, Option, Some, None, refl, sym, ap, ◌∙◌, subst}
 use Rattle.std.specs.Prelude.{if◌then◌else◌, is_some, IsSome}
 use Rattle.std.specs.Option.{MatchOption, option_map_or, unwrap_or}
 use Rattle.plain_tree.specs.Tree.{put}
@@ -25,15 +25,22 @@ use Rattle.inode_machine.specs.World as above
 use Rattle.inodes_on_tables.specs.Shown.{new_file}
 use Rattle.inodes_on_blocks.specs.Handlers.{Acts, joining_to, lent_to, with_dying, is_listed, is_dying}
 use Rattle.inodes_on_blocks.specs.Lowering.{Carry, Had, Apart, record_had}
-use Rattle.whole_calls.specs.Asks.{joined_in, loan_in}
+use Rattle.whole_calls.specs.Asks.{joined_in, loan_in, op_in}
+use Rattle.whole_calls.specs.declared.asks.Ask.{Ask}
+use Rattle.whole_calls.specs.declared.asks.Ask.TheVariants as ask
+use Rattle.whole_calls.specs.declared.elements.Element.{Element}
+use Rattle.whole_calls.specs.declared.asks.Query.{Query}
+use Rattle.whole_calls.specs.declared.asks.Sort.{Sort}
 use Rattle.whole_calls.specs.declared.asks.Heard.TheVariants as heard
 use Rattle.inode_parts.specs.Carries.{carry_in, had_at, had_of}
 use Rattle.inode_parts.specs.Parts.{IsPart, one}
 use Rattle.inode_parts.specs.OneSteps.{Begins, HasReference, IsAlone, joining_heard, loan_heard, locks, seat_of_lock, seat_of_reference, still}
-use Rattle.inode_parts.specs.InodeParts.{ends_with, part_for, part_left, PartReady}
+use Rattle.inode_parts.specs.Enters.{AskStands}
+use Rattle.inode_parts.specs.InodeParts.{ends_with, part_for, part_left, PartBegins, PartReady, one_or_leave, AskTold, PartTold}
 use Rattle.inode_parts.specs.declared.note.Note.{Note}
 use Rattle.inode_parts.specs.declared.note.Note.TheVariants as note
 use Rattle.inode_parts.specs.declared.note.Notes.{Notes}
+use Rattle.inode_parts.specs.declared.one_step.OneStep.{OneStep}
 
 joins_so : (a : steps.JoinResult) → joining_to a ≡ joined_in (joining_heard a)
 joins_so (steps.RefusesJoin why) = refl
@@ -67,7 +74,7 @@ elsewhere : (path : List ℕ) (l : Note) (n : ℕ) (o : Option (GuardState Inode
 elsewhere path l n None x e = refl
 elsewhere path l n (Some g) x e = ap (λ (b : Bool). if b then had_of path l g.value.content else x) e
 
-lock_is : (path : List ℕ) (m : Notes) (n : ℕ) (h : Hand) → locks n (inode_at (seat_of_lock n h) h) ≡ true
+pub lock_is : (path : List ℕ) (m : Notes) (n : ℕ) (h : Hand) → locks n (inode_at (seat_of_lock n h) h) ≡ true
     → let v : Inode = record { number = n; content = record_had (carry_in path m h n) } in v ≡ inode_in (seat_of_lock n h) h
 lock_is path m n h e = at (locks n h.one) refl e
   where
@@ -132,13 +139,66 @@ module _ (sizes : Super) (path : List ℕ) (m : Notes) (h : Hand) where
   is_part above.Leave has = λ mark i. Do steps.Leave unmarked (λ left. leaves_so path m h left i)
   is_part op has = absurd has
 
+-- ---- what is asked
+
+pub may_begin : (sizes : Super) (path : List ℕ) (m : Notes) (op : above.Op) (h : Hand) → Begins op h → PartBegins sizes path m op h
+may_begin sizes path m (above.Store n count) h has = absurd has
+may_begin sizes path m (above.Empty n) h has = absurd has
+may_begin sizes path m (above.Enter d e n) h has = absurd has
+may_begin sizes path m (above.Clear d e) h has = absurd has
+may_begin sizes path m (above.Fill n d) h has = absurd has
+may_begin sizes path m (above.Free n) h has = absurd has
+may_begin sizes path m (above.Claim sort) h has = absurd has
+may_begin sizes path m (above.LockOpen fd n) h has = absurd has
+may_begin sizes path m (above.LockFile fd) h has = absurd has
+may_begin sizes path m (above.Take n looking) h has = absurd has
+may_begin sizes path m op h has = has
+
+pub stands_so : (path : List ℕ) (a : Ask) (h : Hand) → Begins (op_in path a) h → AskStands path a
+stands_so path (ask.Enter d e n) h has = absurd has
+stands_so path a h has = tt
+
+-- what isn't one of the longer ones is one below, or leaves a transaction
+pub short_begins : (sizes : Super) (path : List ℕ) (m : Notes) (a : Ask) (h : Hand) → PartBegins sizes path m (op_in path a) h
+    → ((n count : ℕ) → a ≢ ask.Store n count)
+    → ((n : ℕ) → a ≢ ask.Empty n)
+    → ((d : ℕ) (e : Element) (n : ℕ) → a ≢ ask.Enter d e n)
+    → ((d : ℕ) (e : Element) → a ≢ ask.Clear d e)
+    → ((n d : ℕ) → a ≢ ask.Fill n d)
+    → ((n : ℕ) → a ≢ ask.Free n)
+    → ((s : Sort) → a ≢ ask.Claim s)
+    → ((fd n : ℕ) → a ≢ ask.LockOpen fd n)
+    → ((fd : ℕ) → a ≢ ask.LockFile fd)
+    → ((n : ℕ) (q : Query) → a ≢ ask.Take n q)
+    → Begins (op_in path a) h
+short_begins sizes path m (ask.Store n count) h has store empty enter clear fill free claim opened locked taken = absurd (store n count refl)
+short_begins sizes path m (ask.Empty n) h has store empty enter clear fill free claim opened locked taken = absurd (empty n refl)
+short_begins sizes path m (ask.Enter d e n) h has store empty enter clear fill free claim opened locked taken = absurd (enter d e n refl)
+short_begins sizes path m (ask.Clear d e) h has store empty enter clear fill free claim opened locked taken = absurd (clear d e refl)
+short_begins sizes path m (ask.Fill n d) h has store empty enter clear fill free claim opened locked taken = absurd (fill n d refl)
+short_begins sizes path m (ask.Free n) h has store empty enter clear fill free claim opened locked taken = absurd (free n refl)
+short_begins sizes path m (ask.Claim s) h has store empty enter clear fill free claim opened locked taken = absurd (claim s refl)
+short_begins sizes path m (ask.LockOpen fd n) h has store empty enter clear fill free claim opened locked taken = absurd (opened fd n refl)
+short_begins sizes path m (ask.LockFile fd) h has store empty enter clear fill free claim opened locked taken = absurd (locked fd refl)
+short_begins sizes path m (ask.Take n q) h has store empty enter clear fill free claim opened locked taken = absurd (taken n q refl)
+short_begins sizes path m a h has store empty enter clear fill free claim opened locked taken = has
+
+-- none of these has a name to seek
+pub told_for : (path : List ℕ) (o : Option OneStep) → PartTold path (one_or_leave o)
+told_for path None = tt
+told_for path (Some s) = tt
+
+pub told_so : (path : List ℕ) (a : Ask) (h : Hand) → Begins (op_in path a) h → AskTold path a
+told_so path (ask.Take n q) h has = absurd has
+told_so path a h has = tt
+
 -- ---- it is ready
 
 locked_there : (n : ℕ) (o : Option (GuardState Inode)) → locks n o ≡ true → IsSome o × (n ≡ (option_map_or (λ (g : GuardState Inode). g.value) o no_inode).number)
 locked_there n None e = absurd (cc e)
 locked_there n (Some g) e = (refl, eq_is n g.value.number e)
 
-gives_ready : (n : ℕ) (k : Seat) (h : Hand) → locks n (inode_at k h) ≡ true → IsAlone n k h → IsSome (inode_at k h) × IsAlone (inode_in k h).number k h
+pub gives_ready : (n : ℕ) (k : Seat) (h : Hand) → locks n (inode_at k h) ≡ true → IsAlone n k h → IsSome (inode_at k h) × IsAlone (inode_in k h).number k h
 gives_ready n k h e alone = ((locked_there n (inode_at k h) e).0, subst (λ (n : ℕ). IsAlone n k h) (locked_there n (inode_at k h) e).1 alone)
 
 some_reference : (n : ℕ) (k : Seat) (h : Hand) → reference_at k h ≡ Some n → IsSome (reference_at k h)

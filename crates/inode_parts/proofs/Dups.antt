@@ -15,7 +15,7 @@ use Rattle.whole_calls.specs.declared.descriptors.Dup.TheVariants as dup
 use Rattle.whole_calls.specs.declared.whole.Whole.{Whole}
 use Rattle.whole_calls.specs.declared.whole.Whole.TheVariants as whole
 use Rattle.inode_parts.specs.OneSteps.{Begins}
-use Rattle.inode_parts.specs.InodeParts.{MayGoOn, part_asked, part_for}
+use Rattle.inode_parts.specs.InodeParts.{ChangesNone, MayGoOn, part_asked, part_for, PartTold}
 use Rattle.inode_parts.specs.Calls.{IsServed, Stands, first_part}
 use Rattle.inode_parts.specs.declared.part.InodePart.{InodePart}
 
@@ -24,11 +24,32 @@ pub no_text : (w : Whole) (p : InodePart) (h : Hand) → Stands w p h → text_i
 no_text (whole.Dup fd c) p h stands = refl
 no_text w p h stands = absurd stands
 
+pub text_first : (call : Call) (w : Whole) → IsServed call → call_in w ≡ call → text_in w ≡ []
+text_first (calls.Dup fd) (whole.Dup f c) served e = refl
+text_first (calls.Dup fd) w served e = absurd (cc e)
+text_first call w served e = absurd served
+
+pub text_next : (w v : Whole) (p : InodePart) (h : Hand) → Stands w p h → call_in v ≡ call_in w → text_in v ≡ []
+text_next (whole.Dup fd c) v p h stands e = text_first (calls.Dup fd) v tt e
+text_next w v p h stands e = absurd stands
+
 -- its parts are of one operation
 pub no_more : (w : Whole) (p : InodePart) (h : Hand) → Stands w p h → MayGoOn p → ⊥
 no_more (whole.Dup fd dup.Double) p h stands on = subst MayGoOn stands.1 on
 no_more (whole.Dup fd (dup.Says a)) p h stands on = subst MayGoOn stands.1 on
 no_more w p h stands on = stands
+
+-- that change no inode
+pub none_changed : (w : Whole) (p : InodePart) (h : Hand) → Stands w p h → ChangesNone p
+none_changed (whole.Dup fd dup.Double) p h stands = subst ChangesNone (sym stands.1) tt
+none_changed (whole.Dup fd (dup.Says a)) p h stands = subst ChangesNone (sym stands.1) tt
+none_changed w p h stands = absurd stands
+
+-- and seek no name
+pub nothing_told : (w : Whole) (p : InodePart) (h : Hand) → Stands w p h → PartTold [] p
+nothing_told (whole.Dup fd dup.Double) p h stands = subst (PartTold []) (sym stands.1) tt
+nothing_told (whole.Dup fd (dup.Says a)) p h stands = subst (PartTold []) (sym stands.1) tt
+nothing_told w p h stands = absurd stands
 
 -- none of which changes the hand
 pub dup_keeps : (w : Whole) (p : InodePart) (before : Hand) (a : Answer) (h : Hand) → Stands w p before → IsAfter (part_asked p) before a h → IsEmpty h

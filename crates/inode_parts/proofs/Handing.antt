@@ -7,9 +7,11 @@ use Rattle.tree_laws.proofs.Maps.{eq_is}
 use Rattle.sleep_lock.specs.SleepLock.{GuardState}
 use Rattle.fs_tables.specs.declared.inodes.Inode.{Inode}
 use Rattle.hands.specs.declared.hand.Hand.{Hand}
+use Rattle.hands.specs.declared.hand.Place.{Place}
+use Rattle.hands.specs.declared.hand.Place.TheVariants.{First, Second}
 use Rattle.hands.specs.declared.hand.Seat.{Seat}
 use Rattle.hands.specs.declared.hand.Seat.TheVariants.{One, Two}
-use Rattle.hands.specs.Hands.{inode_at, inode_in, no_inode, with_inode, with_reference, with_txn}
+use Rattle.hands.specs.Hands.{inode_at, inode_in, no_inode, with_buffer, with_inode, with_reference, with_txn}
 use Rattle.hands.specs.Ops.{dropped_by, kept_by}
 use Rattle.inodes_on_blocks.specs.Handlers.{is_dying, is_listed}
 use Rattle.inodes_on_blocks.specs.Lowering.{Had, Apart}
@@ -32,13 +34,17 @@ beside_reference path m Two r before h e = still_in path m before h (sym (ap (λ
 pub beside_txn : (path : List ℕ) (m : Notes) (o : Option ℕ) (before h : Hand) → h ≡ with_txn o before → carry_in path m before ≡ carry_in path m h
 beside_txn path m o before h e = still_in path m before h (sym (ap (λ (h : Hand). h.one) e)) (sym (ap (λ (h : Hand). h.two) e))
 
+pub beside_buffer : (path : List ℕ) (m : Notes) (p : Place) (before h : Hand) → with_buffer p None h ≡ with_buffer p None before → carry_in path m before ≡ carry_in path m h
+beside_buffer path m First before h e = still_in path m before h (sym (ap (λ (h : Hand). h.one) e)) (sym (ap (λ (h : Hand). h.two) e))
+beside_buffer path m Second before h e = still_in path m before h (sym (ap (λ (h : Hand). h.one) e)) (sym (ap (λ (h : Hand). h.two) e))
+
 -- it has another one, or none
 pub elsewhere : (path : List ℕ) (l : Note) (n : ℕ) (o : Option (GuardState Inode)) (x : Had) → locks n o ≡ false → had_at path l o n x ≡ x
 elsewhere path l n None x e = refl
 elsewhere path l n (Some g) x e = ap (λ (b : Bool). if b then had_of path l g.value.content else x) e
 
 -- not at this seat, where it isn't locked there
-apart : (path : List ℕ) (l : Note) (o : Option (GuardState Inode)) (i n : ℕ) (x : Had) → locks n o ≡ false → (i == n) ≡ true → had_at path l o i x ≡ x
+pub apart : (path : List ℕ) (l : Note) (o : Option (GuardState Inode)) (i n : ℕ) (x : Had) → locks n o ≡ false → (i == n) ≡ true → had_at path l o i x ≡ x
 apart path l o i n x alone e = elsewhere path l i o x (subst (λ (n : ℕ). locks n o ≡ false) (sym (eq_is i n e)) alone)
 
 abbrev number_of : Option (GuardState Inode) → ℕ

@@ -20,11 +20,8 @@ use Rattle.inodes_on_blocks.specs.Programs.{handlers}
 use Rattle.whole_calls.specs.Asks.{answer_to, asks, hears}
 use Rattle.whole_calls.specs.declared.asks.Heard.{Heard}
 use Rattle.inode_parts.specs.Carries.{carry_in, handed}
-use Rattle.inode_parts.specs.OneSteps.{Begins}
-use Rattle.inode_parts.specs.InodeParts.{part_for, part_left}
-use Rattle.inode_parts.specs.Parts.{Part, lowered, with_part}
+use Rattle.inode_parts.specs.Parts.{IsPart, Part, lowered, with_part}
 use Rattle.inode_parts.specs.declared.note.Notes.{Notes}
-use Rattle.inode_parts.proofs.Begins.{is_part}
 
 same_asks : (p : above.P Reply) → progs.asks p ≡ asks p
 same_asks (Ret r) = refl
@@ -37,15 +34,19 @@ same_hears : (sizes : Super) (p : above.P Reply) (x : Heard) → hears [] p x �
 same_hears sizes (Ret r) x = refl
 same_hears sizes (Do op m k) x = refl
 
+-- the part's operation is the next one
+pub asks_with : (sizes : Super) (q : Part) (p : above.P Reply) (op : steps.Op) → progs.asks q ≡ Some op → progs.asks (with_part sizes q p) ≡ Some op
+asks_with sizes (Ret r) p op e = absurd (cc e)
+asks_with sizes (Do o m k) p op e = e
+
 -- a hart with nothing in hand
 pub nothing_in : (path : List ℕ) (m : Notes) (h : Hand) → IsEmpty h → carry_in path m h ≡ nothing
 nothing_in path m h e = ap (carry_in path m) e
 
 module _ (sizes : Super) (m : Notes) (h : Hand) where
   -- a call begins, or goes on with its next operation
-  pub begins_so : (p : above.P Reply) (op : Op) → asks p ≡ Some op → Begins op h → lowered sizes (carry_in [] m h) p ≡ with_part sizes (part_left [] m (part_for op h) h) p
-  begins_so p op e has =
-      part_begins machine (below sizes) (handlers sizes) (answer_to []) (carry_in [] m h) p op (part_left [] m (part_for op h) h) (same_asks p ∙ e) (is_part sizes [] m h op has)
+  pub begins_so : (p : above.P Reply) (op : Op) (q : Part) → asks p ≡ Some op → IsPart sizes (carry_in [] m h) op q → lowered sizes (carry_in [] m h) p ≡ with_part sizes q p
+  begins_so p op q e is = part_begins machine (below sizes) (handlers sizes) (answer_to []) (carry_in [] m h) p op q (same_asks p ∙ e) is
 
   module _ (q : Part) (p : above.P Reply) (x : Heard) (answer : (o : steps.Op) → steps.Answer o) (went : Goes q answer (Ret (handed [] m x h))) where
     heard_so : (p' : above.P Reply) → hears [] p x ≡ p' → Goes (with_part sizes q p) answer (lowered sizes (carry_in [] m h) p')
@@ -53,13 +54,13 @@ module _ (sizes : Super) (m : Notes) (h : Hand) where
         subst (λ (p' : above.P Reply). Goes (with_part sizes q p) answer (lowered sizes (carry_in [] m h) p')) (sym (same_hears sizes p x) ∙ e)
         (goes_bind q (Ret (handed [] m x h)) (λ r. lowered sizes r.carry (below_hears sizes p r.answer)) answer went)
 
-    pub asks_on : (p' : above.P Reply) (op : Op) → hears [] p x ≡ p' → asks p' ≡ Some op → Begins op h → Goes (with_part sizes q p) answer (with_part sizes (part_left [] m (part_for op h) h) p')
-    asks_on p' op e asked has = subst (λ (r : P Reply). Goes (with_part sizes q p) answer r) (begins_so p' op asked has) (heard_so p' e)
+    pub asks_on : (p' : above.P Reply) (op : Op) (next : Part) → hears [] p x ≡ p' → asks p' ≡ Some op → IsPart sizes (carry_in [] m h) op next → Goes (with_part sizes q p) answer (with_part sizes next p')
+    asks_on p' op next e asked is = subst (λ (r : P Reply). Goes (with_part sizes q p) answer r) (begins_so p' op next asked is) (heard_so p' e)
 
     pub ends_on : (r : Reply) → hears [] p x ≡ Ret r → Goes (with_part sizes q p) answer (Ret r)
     ends_on r e = heard_so (Ret r) e
 
 -- a call with its first part is its program below
-pub new_is : (sizes : Super) (m : Notes) (h : Hand) (p q : above.P Reply) (op : Op) → IsEmpty h → p ≡ q → asks p ≡ Some op → Begins op h → with_part sizes (part_left [] m (part_for op h) h) p ≡ lowered sizes nothing q
-new_is sizes m h p q op empty same e has =
-    sym (begins_so sizes m h p op e has) ∙ (λ i. lowered sizes (nothing_in [] m h empty i) (same i))
+pub new_is : (sizes : Super) (m : Notes) (h : Hand) (p q : above.P Reply) (op : Op) (first : Part) → IsEmpty h → p ≡ q → asks p ≡ Some op → IsPart sizes (carry_in [] m h) op first → with_part sizes first p ≡ lowered sizes nothing q
+new_is sizes m h p q op first empty same e is =
+    sym (begins_so sizes m h p op first e is) ∙ (λ i. lowered sizes (nothing_in [] m h empty i) (same i))

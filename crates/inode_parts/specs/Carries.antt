@@ -31,6 +31,11 @@ had_at path m (Some g) i other = if i == g.value.number then had_of path m g.val
 abbrev pub carry_in : List ℕ → Notes → Hand → Carry
 carry_in path m h i = had_at path m.one h.one i (had_at path m.two h.two i Apart)
 
+-- what was learned of the inode at a seat
+abbrev pub note_at : Seat → Notes → Note
+note_at One m = m.one
+note_at Two m = m.two
+
 abbrev pub with_note : Seat → Note → Notes → Notes
 with_note One n m = record m { one = n }
 with_note Two n m = record m { two = n }

@@ -1,16 +1,28 @@
 -- Operations on whole inodes, each as a part over blocks.
 use Rattle.std.specs.Prelude.{ℕ, List, Option, Some, None}
+use Rattle.fs_layout.specs.declared.superblock.Super.{Super}
 use Rattle.atomic_programs.specs.Prog.{Ret, bind}
 use Rattle.hands.specs.declared.hand.Hand.{Hand}
 use Rattle.hands.specs.declared.op.Op.{Op}
 use Rattle.hand_controls.specs.Finishing.{finish_left, finish_asked, FinishReady}
 use Rattle.hand_controls.specs.declared.finish.Finish.TheVariants as finish
 use Rattle.inode_machine.specs.World as above
+use Rattle.whole_calls.specs.declared.asks.Ask.{Ask}
+use Rattle.whole_calls.specs.declared.asks.Ask.TheVariants as ask
 use Rattle.whole_calls.specs.declared.asks.Heard.{Heard}
 use Rattle.whole_calls.specs.declared.asks.Heard.TheVariants as heard
 use Rattle.inode_parts.specs.Carries.{handed}
 use Rattle.inode_parts.specs.Parts.{Part}
-use Rattle.inode_parts.specs.OneSteps.{step_for, step_left, step_asked, StepReady}
+use Rattle.inode_parts.specs.OneSteps.{step_for, step_left, step_asked, Begins, StepReady}
+use Rattle.inode_parts.specs.Empties.{empty_part_left, empty_part_asked, EmptyBegins, EmptyPartReady}
+use Rattle.inode_parts.specs.Enters.{enter_part_left, enter_part_asked, EnterBegins, EnterPartReady}
+use Rattle.inode_parts.specs.Clears.{clear_part_left, clear_part_asked, ClearBegins, ClearPartReady}
+use Rattle.inode_parts.specs.Fills.{fill_part_left, fill_part_asked, FillBegins, FillPartReady}
+use Rattle.inode_parts.specs.Claims.{claim_left, claim_asked, ClaimBegins, ClaimReady}
+use Rattle.inode_parts.specs.FileLocks.{lock_file_left, lock_file_asked, lock_open_left, lock_open_asked, LockBegins, LockFileReady, LockOpenReady}
+use Rattle.inode_parts.specs.Frees.{free_left, free_asked, FreeBegins, FreeReady}
+use Rattle.inode_parts.specs.Takes.{take_left, take_asked, IsTold, TakeBegins, TakeReady, TakeTold}
+use Rattle.inode_parts.specs.Stores.{store_part_left, store_part_asked, StoreBegins, StorePartReady}
 use Rattle.inode_parts.specs.declared.note.Notes.{Notes}
 use Rattle.inode_parts.specs.declared.one_step.OneStep.{OneStep}
 use Rattle.inode_parts.specs.declared.part.InodePart.{InodePart}
@@ -22,6 +34,16 @@ ends_with path m h _ = Ret (handed path m heard.Did h)
 abbrev pub part_left : List ℕ → Notes → InodePart → Hand → Part
 part_left path m (part.One s) h = step_left path m s h
 part_left path m (part.Leave f) h = bind (finish_left f h) (ends_with path m h)
+part_left path m (part.Store p) h = store_part_left path m p h
+part_left path m (part.Empty p) h = empty_part_left path m p h
+part_left path m (part.Enter p) h = enter_part_left path m p h
+part_left path m (part.Clear p) h = clear_part_left path m p h
+part_left path m (part.Fill p) h = fill_part_left path m p h
+part_left path m (part.Free p) h = free_left path m p h
+part_left path m (part.Claim p) h = claim_left path m p h
+part_left path m (part.LockOpen p) h = lock_open_left path m p h
+part_left path m (part.LockFile p) h = lock_file_left path m p h
+part_left path m (part.Take p) h = take_left path m p h
 
 abbrev pub part_left_after : List ℕ → Notes → Option Heard → InodePart → Hand → Part
 part_left_after path m None p h = part_left path m p h
@@ -30,12 +52,41 @@ part_left_after path m (Some x) p h = Ret (handed path m x h)
 abbrev pub part_asked : InodePart → Op
 part_asked (part.One s) = step_asked s
 part_asked (part.Leave f) = finish_asked f
+part_asked (part.Store p) = store_part_asked p
+part_asked (part.Empty p) = empty_part_asked p
+part_asked (part.Enter p) = enter_part_asked p
+part_asked (part.Clear p) = clear_part_asked p
+part_asked (part.Fill p) = fill_part_asked p
+part_asked (part.Free p) = free_asked p
+part_asked (part.Claim p) = claim_asked p
+part_asked (part.LockOpen p) = lock_open_asked p
+part_asked (part.LockFile p) = lock_file_asked p
+part_asked (part.Take p) = take_asked p
 
 abbrev pub PartReady : InodePart → Hand → Type 0
 PartReady (part.One s) h = StepReady s h
 PartReady (part.Leave f) h = FinishReady f h
+PartReady (part.Store p) h = StorePartReady p h
+PartReady (part.Empty p) h = EmptyPartReady p h
+PartReady (part.Enter p) h = EnterPartReady p h
+PartReady (part.Clear p) h = ClearPartReady p h
+PartReady (part.Fill p) h = FillPartReady p h
+PartReady (part.Free p) h = FreeReady p h
+PartReady (part.Claim p) h = ClaimReady p h
+PartReady (part.LockOpen p) h = LockOpenReady p h
+PartReady (part.LockFile p) h = LockFileReady p h
+PartReady (part.Take p) h = TakeReady p h
 
--- that of an operation
+-- the names that it seeks stand in the call's path
+abbrev pub PartTold : List ℕ → InodePart → Type 0
+PartTold path (part.Take p) = TakeTold path p
+PartTold path p = Unit {0}
+
+abbrev pub AskTold : List ℕ → Ask → Type 0
+AskTold path (ask.Take n q) = IsTold path q
+AskTold path a = Unit {0}
+
+-- that of an operation which is one below, or leaves a transaction
 abbrev pub one_or_leave : Option OneStep → InodePart
 one_or_leave (Some s) = part.One s
 one_or_leave None = part.Leave finish.Leave
@@ -43,7 +94,27 @@ one_or_leave None = part.Leave finish.Leave
 abbrev pub part_for : above.Op → Hand → InodePart
 part_for op h = one_or_leave (step_for op h)
 
+-- what an operation asks of the hand, and of what was learned, on a disk of these sizes
+abbrev pub PartBegins : Super → List ℕ → Notes → above.Op → Hand → Type 0
+PartBegins sizes path m (above.Store n count) h = StoreBegins sizes n count h
+PartBegins sizes path m (above.Empty n) h = EmptyBegins sizes n h
+PartBegins sizes path m (above.Enter d e n) h = EnterBegins sizes d e h
+PartBegins sizes path m (above.Clear d e) h = ClearBegins sizes path m d e h
+PartBegins sizes path m (above.Fill n d) h = FillBegins sizes n h
+PartBegins sizes path m (above.Free n) h = FreeBegins sizes n h
+PartBegins sizes path m (above.Claim sort) h = ClaimBegins sizes h
+PartBegins sizes path m (above.LockOpen fd n) h = LockBegins sizes h
+PartBegins sizes path m (above.LockFile fd) h = LockBegins sizes h
+PartBegins sizes path m (above.Take n looking) h = TakeBegins sizes n h
+PartBegins sizes path m op h = Begins op h
+
 -- it may be more than one operation
 abbrev pub MayGoOn : InodePart → Type 0
 MayGoOn (part.One s) = ⊥
-MayGoOn (part.Leave f) = Unit {0}
+MayGoOn p = Unit {0}
+
+-- it changes no inode
+abbrev pub ChangesNone : InodePart → Type 0
+ChangesNone (part.One s) = Unit {0}
+ChangesNone (part.Leave f) = Unit {0}
+ChangesNone p = ⊥

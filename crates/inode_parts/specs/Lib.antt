@@ -1,5 +1,17 @@
 pub mod Carries
 pub mod Parts
 pub mod OneSteps
+pub mod Changes
+pub mod Stores
+pub mod Empties
+pub mod Enters
+pub mod Clears
+pub mod Fills
+pub mod Sides
+pub mod Frees
+pub mod Claims
+pub mod FileLocks
+pub mod Faces
+pub mod Takes
 pub mod InodeParts
 pub mod Calls

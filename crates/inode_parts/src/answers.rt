@@ -11,7 +11,7 @@ use plain_tree::Cause;
 use whole_calls::{Joined, Loan};
 
 /// Why a call fails whose descriptor was refused so.
-fn cause(refused: Refused) -> Cause
+pub(crate) fn cause(refused: Refused) -> Cause
     ensures { result ≡ cause_of refused }
 {
     match refused {

@@ -5,6 +5,7 @@ ghost use Rattle.inode_machine.specs.Programs.{program};
 ghost use Rattle.whole_calls.specs.Wholes.{IsCall};
 ghost use Rattle.inodes_on_blocks.specs.Lowering.{nothing};
 ghost use Rattle.hand_controls.specs.Calling.{IsEmpty};
+ghost use Rattle.hands.specs.Controls.{bare};
 ghost use Rattle.hands.specs.declared.hand.Hand.{Hand as HandState};
 ghost use Rattle.inode_parts.specs.Parts.{lowered};
 ghost use Rattle.inode_parts.specs.Calls.{lowered_left, lowered_asked, IsServed, LoweredReady};
@@ -16,6 +17,9 @@ use hands::{Answer, Control, Hand, Op};
 use plain_tree::{Call, Reply};
 use std::mem;
 use whole_calls::{Dup, Numbers, Whole};
+
+// The calls that run so have no path.
+const NO_PATH: &[u8] = &[];
 
 /// A call with the part of its present operation.
 #[derive(Drop)]
@@ -29,20 +33,22 @@ pub struct Lowered {
 
 impl Lowered {
     /// On a disk of these sizes, of a hart with nothing in hand.
-    pub fn new(sizes: Super, call: Call, hand: &Hand) -> Lowered
+    pub fn new(sizes: Super, call: Call, hand: &mut Hand) -> Lowered
         requires call { IsCall call }
         requires served { IsServed call }
-        requires empty { IsEmpty hand.now }
-        ensures program { lowered_left result hand.now ≡ lowered sizes nothing (program call) }
-        ensures ready { LoweredReady result hand.now }
+        requires empty { IsEmpty hand.old }
+        ensures program { lowered_left result hand.new ≡ lowered sizes nothing (program call) }
+        ensures ready { LoweredReady result hand.new }
+        ensures hand { bare hand.new ≡ bare hand.old }
     {
         let call = Whole::new(call);
-        let part = InodePart::begin(call.ask(), hand);
+        let notes = Notes::new();
+        let part = InodePart::begin(call.ask(), &sizes, NO_PATH, &notes, hand);
         Lowered {
             sizes,
             call,
             list: Numbers::new(),
-            notes: Notes::new(),
+            notes,
             part,
         }
     }
@@ -80,11 +86,12 @@ impl Control for Lowered {
 
     #[tactic(auto, using(hands::proofs::Going::goes_bind))]
     fn next(&mut self, answer: Answer, hand: &mut Hand) -> Option<Reply> {
-        match self.part.next(&mut self.notes, answer, hand) {
+        match self.part.next(NO_PATH, &mut self.notes, answer, hand) {
             None => None,
             Some(heard) => match self.call.next(&heard, &mut self.list) {
                 None => {
-                    self.part = InodePart::begin(self.call.ask(), hand);
+                    let ask = self.call.ask();
+                    self.part = InodePart::begin(ask, &self.sizes, NO_PATH, &self.notes, hand);
                     None
                 }
                 Some(answer) => Some(take_call(&mut self.call).reply(answer)),

@@ -1,6 +1,6 @@
 //! What a call has learned of the inodes whose locks it has.
 ghost use Rattle.std.specs.Prelude.{◌≡◌};
-ghost use Rattle.inode_parts.specs.Carries.{with_note};
+ghost use Rattle.inode_parts.specs.Carries.{note_at, with_note};
 
 use hands::Seat;
 use whole_calls::Element;
@@ -30,6 +30,15 @@ impl Notes {
         Notes {
             one: Note::Nothing,
             two: Note::Nothing,
+        }
+    }
+
+    pub fn at(&self, seat: Seat) -> Note
+        ensures { result ≡ note_at seat self.now }
+    {
+        match seat {
+            Seat::One => self.one,
+            Seat::Two => self.two,
         }
     }
 

@@ -26,7 +26,8 @@ fn has_flag(flags: u32, bit: u32) -> bool
     flags & bit != 0
 }
 
-fn kind(sort: Sort) -> i16
+/// The number of an inode's type.
+pub(crate) fn kind(sort: Sort) -> i16
     ensures { result ≡ kind_of (sort_of sort) }
 {
     match sort {

@@ -1,40 +1,99 @@
 //! Operations on whole inodes, each as a part over blocks.
 ghost use Rattle.std.specs.Prelude.{◌≡◌, ℕ, List, Some, None, IfSome, IfNone};
 ghost use Rattle.atomic_programs.specs.Prog.{Ret, asks};
-ghost use Rattle.fs_layout.specs.declared.superblock.Super.{Super};
 ghost use Rattle.hands.specs.Ops.{op_in, answer_in, CanDo, Prepared, IsAfter};
-ghost use Rattle.hands.specs.Controls.{Goes};
+ghost use Rattle.hands.specs.Controls.{Goes, bare};
 ghost use Rattle.hands.specs.declared.hand.Hand.{Hand as HandState};
 ghost use Rattle.whole_calls.specs.Asks.{op_in as above_op};
 ghost use Rattle.inode_parts.specs.Carries.{carry_in, handed};
 ghost use Rattle.inode_parts.specs.OneSteps.{Begins};
 ghost use Rattle.inode_parts.specs.Parts.{IsPart};
-ghost use Rattle.inode_parts.specs.InodeParts.{part_for, part_left, part_left_after, part_asked, MayGoOn, PartReady};
+ghost use Rattle.inode_parts.specs.Enters.{AskStands};
+ghost use Rattle.inode_parts.specs.InodeParts.{part_for, part_left, part_left_after, part_asked, AskTold, ChangesNone, MayGoOn, PartBegins, PartReady, PartTold};
 ghost use Rattle.inode_parts.specs.declared.note.Notes.{Notes as NotesState};
 
+use crate::claim_part::ClaimPart;
+use crate::clear_part::ClearPart;
+use crate::empty_part::EmptyPart;
+use crate::enter_part::EnterPart;
+use crate::fill_part::FillPart;
+use crate::free_part::FreePart;
+use crate::lock_file_part::LockFilePart;
+use crate::lock_open_part::LockOpenPart;
 use crate::note::Notes;
 use crate::one_step::OneStep;
+use crate::store_part::StorePart;
+use crate::take_part::TakePart;
+use fs_layout::Super;
 use hand_controls::Finish;
 use hands::{Answer, Control, Hand, Op};
 use whole_calls::{Ask, Heard};
 
 /// The operation of a call under way, whichever it is.
-#[derive(Clone, Copy, Drop)]
+#[derive(Drop)]
 pub enum InodePart {
     One(OneStep),
     /// A transaction is left, with the commit where one begins.
     Leave(Finish),
+    /// An inode's count is put.
+    Store(StorePart),
+    /// A content is emptied.
+    Empty(EmptyPart),
+    /// A name is entered.
+    Enter(EnterPart),
+    /// A name is cleared.
+    Clear(ClearPart),
+    /// A new directory has its two names.
+    Fill(FillPart),
+    /// An inode is freed.
+    Free(FreePart),
+    /// A new inode is sought.
+    Claim(ClaimPart),
+    /// What a descriptor names is locked, to write it.
+    LockOpen(LockOpenPart),
+    /// The same, to read it.
+    LockFile(LockFilePart),
+    /// An inode is locked, and looked at.
+    Take(TakePart),
 }
 
 impl InodePart {
-    /// The part of this ask.
-    pub fn begin(ask: Ask, hand: &Hand) -> InodePart
-        requires begins { (path : List ℕ) × Begins (above_op path ask) hand.now }
-        ensures is { (path : List ℕ) → result ≡ part_for (above_op path ask) hand.now }
+    /// The part of this ask of a call with this path, on a disk with this superblock; what was learned of locked inodes is noted. The record of
+    /// one of them may change in hand.
+    #[tactic(auto, using(crate::proofs::Begins::is_part, crate::proofs::Begins::is_ready))]
+    pub fn begin(ask: Ask, sizes: &Super, path: &[u8], notes: &Notes, hand: &mut Hand) -> InodePart
+        requires begins { PartBegins sizes.now path.now notes.now (above_op path.now ask) hand.old }
+        requires stands { AskStands path.now ask }
+        requires told { AskTold path.now ask }
+        ensures part { IsPart sizes.now (carry_in path.now notes.now hand.old) (above_op path.now ask) (part_left path.now notes.now result hand.new) }
+        ensures ready { PartReady result hand.new }
+        ensures told { PartTold path.now result }
+        ensures known { Begins (above_op path.now ask) hand.old → (result ≡ part_for (above_op path.now ask) hand.old) × (hand.new ≡ hand.old) }
+        ensures hand { bare hand.new ≡ bare hand.old }
     {
-        match OneStep::begin(ask, hand) {
-            Some(step) => InodePart::One(step),
-            None => InodePart::Leave(Finish::Leave),
+        match ask {
+            Ask::Store(number, count) => {
+                InodePart::Store(StorePart::begin(number, count, sizes, hand))
+            }
+            Ask::Empty(number) => InodePart::Empty(EmptyPart::begin(number, sizes, hand)),
+            Ask::Enter(number, element, child) => {
+                let name = &path[element.start..element.end];
+                InodePart::Enter(EnterPart::begin(number, child, name, sizes, hand))
+            }
+            Ask::Clear(number, _) => {
+                InodePart::Clear(ClearPart::begin(number, sizes, notes, hand))
+            }
+            Ask::Fill(number, parent) => {
+                InodePart::Fill(FillPart::begin(number, parent, sizes, hand))
+            }
+            Ask::Free(number) => InodePart::Free(FreePart::begin(number, sizes, hand)),
+            Ask::Claim(sort) => InodePart::Claim(ClaimPart::begin(sort, sizes, hand)),
+            Ask::LockOpen(fd, _) => InodePart::LockOpen(LockOpenPart::begin(fd, sizes, hand)),
+            Ask::LockFile(fd) => InodePart::LockFile(LockFilePart::begin(fd, sizes, hand)),
+            Ask::Take(number, query) => InodePart::Take(TakePart::begin(
+                number, query, sizes, hand,
+            )),
+            _ => one_or_leave(ask, hand),
         }
     }
 
@@ -49,25 +108,65 @@ impl InodePart {
         match self {
             InodePart::One(step) => step.op(),
             InodePart::Leave(finish) => finish.op(hand),
+            InodePart::Store(part) => part.op(hand),
+            InodePart::Empty(part) => part.op(hand),
+            InodePart::Enter(part) => part.op(hand),
+            InodePart::Clear(part) => part.op(hand),
+            InodePart::Fill(part) => part.op(hand),
+            InodePart::Free(part) => part.op(hand),
+            InodePart::Claim(part) => part.op(hand),
+            InodePart::LockOpen(part) => part.op(hand),
+            InodePart::LockFile(part) => part.op(hand),
+            InodePart::Take(part) => part.op(hand),
         }
     }
 
-    /// How it goes on; or what is heard.
+    /// How it goes on in a call with this path; or what is heard. The record of a locked inode may change in hand.
     #[tactic(auto, using(crate::proofs::Goings::leave_on))]
-    pub fn next(&mut self, notes: &mut Notes, answer: Answer, hand: &mut Hand) -> Option<Heard>
+    pub fn next(
+        &mut self,
+        path: &[u8],
+        notes: &mut Notes,
+        answer: Answer,
+        hand: &mut Hand,
+    ) -> Option<Heard>
+        requires told { PartTold path.now self.old }
         requires came { (before : HandState) × PartReady self.old before × IsAfter (part_asked self.old) before answer hand.old }
-        ensures goes { (path : List ℕ) (before : HandState) → PartReady self.old before → IsAfter (part_asked self.old) before answer hand.old
-            → Goes (part_left path notes.old self.old before) (answer_in (part_asked self.old) answer hand.old) (part_left_after path notes.new result self.new hand.new) }
+        ensures goes { (before : HandState) → PartReady self.old before → IsAfter (part_asked self.old) before answer hand.old
+            → Goes (part_left path.now notes.old self.old before) (answer_in (part_asked self.old) answer hand.old) (part_left_after path.now notes.new result self.new hand.new) }
         ensures ready { IfNone result (PartReady self.new hand.new) }
+        ensures told { IfNone result (PartTold path.now self.new) }
         ensures on { IfNone result (MayGoOn self.old) }
-        ensures hand { hand.new ≡ hand.old }
+        ensures same { ChangesNone self.old → hand.new ≡ hand.old }
+        ensures hand { bare hand.new ≡ bare hand.old }
     {
         match self {
             InodePart::One(step) => Some(step.next(notes, answer, hand)),
             InodePart::Leave(finish) => match finish.next(answer, hand) {
                 None => None,
                 Some(()) => Some(Heard::Did),
-            },
+            }
+            InodePart::Store(part) => part.next(notes, answer, hand),
+            InodePart::Empty(part) => part.next(notes, answer, hand),
+            InodePart::Enter(part) => part.next(notes, answer, hand),
+            InodePart::Clear(part) => part.next(notes, answer, hand),
+            InodePart::Fill(part) => part.next(notes, answer, hand),
+            InodePart::Free(part) => part.next(notes, answer, hand),
+            InodePart::Claim(part) => part.next(notes, answer, hand),
+            InodePart::LockOpen(part) => part.next(notes, answer, hand),
+            InodePart::LockFile(part) => part.next(notes, answer, hand),
+            InodePart::Take(part) => part.next(path, notes, answer, hand),
         }
+    }
+}
+
+// That of an operation which is one below, or leaves a transaction.
+fn one_or_leave(ask: Ask, hand: &Hand) -> InodePart
+    requires begins { (path : List ℕ) × Begins (above_op path ask) hand.now }
+    ensures is { (path : List ℕ) → result ≡ part_for (above_op path ask) hand.now }
+{
+    match OneStep::begin(ask, hand) {
+        Some(step) => InodePart::One(step),
+        None => InodePart::Leave(Finish::Leave),
     }
 }

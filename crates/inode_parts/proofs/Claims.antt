@@ -1,0 +1,101 @@
+-- A new inode: the operation is its part.
+use Rattle.std.proofs.Common.{◌≡◌, ℕ, ℤ, zero, suc, ◌+◌, List, Option, Some, None, refl, sym, ap, ◌∙◌, subst}
+use Rattle.std.specs.Int.{w16, cast_signed, cast_unsigned}
+use Rattle.fs_layout.specs.declared.superblock.Super.{Super}
+use Rattle.atomic_programs.specs.Prog.{Ret, Do, bind, plain, unmarked}
+use Rattle.atomic_programs.specs.Joined.{Handover}
+use Rattle.atomic_programs.proofs.Prog.{bind-assoc}
+use Rattle.fs_machine.specs.Machines as code
+use Rattle.fs_machine.specs.Programs.{fetch}
+use Rattle.fs_machine.specs.Steps as steps
+use Rattle.inode_table.specs.NewInodes.{free_in, inode_blocks, look_in, make_in, new_from, new_inode, new_record}
+use Rattle.inode_table.specs.Programs.{with_dinode}
+use Rattle.inode_table.specs.declared.new_inode.Made.{Made}
+use Rattle.inode_table.specs.declared.new_inode.Made.TheVariants as made
+use Rattle.hands.specs.Controls.{Goes}
+use Rattle.hands.specs.Hands.{with_buffer, with_reference}
+use Rattle.hands.specs.declared.hand.Hand.{Hand}
+use Rattle.hands.specs.declared.hand.Place.TheVariants.{First}
+use Rattle.hands.specs.declared.hand.Seat.{Seat}
+use Rattle.hands.specs.declared.hand.Seat.TheVariants.{One, Two}
+use Rattle.hand_controls.specs.Making.{beside_new, new_left}
+use Rattle.hand_controls.specs.declared.new_inode.NewInode.{NewInode}
+use Rattle.hand_controls.proofs.Goings.{goes_to, goes_with}
+use Rattle.inode_machine.specs.Inodes.{OfDevice, OfDirectory, OfFile, Sort}
+use Rattle.inode_machine.specs.World as above
+use Rattle.inode_machine.specs.World.Op.{Claim}
+use Rattle.inodes_on_tables.specs.Shown.{kind_of}
+use Rattle.inodes_on_blocks.specs.Handlers.{P}
+use Rattle.inodes_on_blocks.specs.Lowering.{Carry}
+use Rattle.inodes_on_blocks.specs.Making.{claim_at, claim_from, claim_in}
+use Rattle.whole_calls.specs.Asks.{claimed_in, claimed_of}
+use Rattle.whole_calls.specs.declared.asks.Heard.{Heard}
+use Rattle.whole_calls.specs.declared.asks.Heard.TheVariants as heard
+use Rattle.inode_parts.specs.Carries.{carry_in, handed}
+use Rattle.inode_parts.specs.Claims.{claim_ends, claimed_by}
+use Rattle.inode_parts.specs.Parts.{IsPart, Part}
+use Rattle.inode_parts.specs.declared.note.Notes.{Notes}
+use Rattle.inode_parts.proofs.Afterwards.{then_plain}
+use Rattle.inode_parts.proofs.Handing.{still_in}
+use Rattle.inode_parts.proofs.Plain.{plain_fetch}
+
+-- what is answered above
+abbrev answers : Carry → Made → code.P (Handover above.ClaimResult Carry)
+answers c a = Ret (record { answer = claimed_of (claimed_by a); carry = c })
+
+-- so many blocks looked through
+plain_claim : (n : ℕ) (sizes : Super) (sort : Sort) (c : Carry) (m : above.ClaimResult → Option above.Mark) (q : ℕ) → plain (claim_from n sizes sort c m q) ≡ bind (new_from n (kind_of sort) sizes q) (answers c)
+unfolding claim_from new_from
+plain_claim zero sizes sort c m q = refl
+plain_claim (suc n) sizes sort c m q =
+    let b = sizes.inodestart + q in
+    then_plain (fetch b) (fetch b) (claim_at (claim_from n sizes sort c m (q + 1)) sizes sort c m n q b) (λ bytes. bind (look_in (new_from n (kind_of sort) sizes (q + 1)) (kind_of sort) sizes.ninodes q b bytes) (answers c)) (plain_fetch b)
+    (λ bytes i. Do (steps.Claim b (free_in sizes.ninodes q bytes)) unmarked (λ a. looked bytes (plain_claim n sizes sort c m (q + 1)) a i))
+    ∙ sym (bind-assoc (fetch b) (look_in (new_from n (kind_of sort) sizes (q + 1)) (kind_of sort) sizes.ninodes q b) (answers c))
+  where
+    looked : (bytes : List ℕ) → plain (claim_from n sizes sort c m (q + 1)) ≡ bind (new_from n (kind_of sort) sizes (q + 1)) (answers c) → (a : steps.ClaimResult)
+        → plain (claim_in (claim_from n sizes sort c m (q + 1)) (kind_of sort) (sizes.inodestart + q) bytes c a) ≡ bind (make_in (new_from n (kind_of sort) sizes (q + 1)) (kind_of sort) (sizes.inodestart + q) bytes a) (answers c)
+    looked bytes rest (steps.Claims i) = refl
+    looked bytes rest steps.NoPlace = refl
+    looked bytes rest steps.NoInode = rest
+
+-- a type's number passes as it is
+pub kind_passes : (sizes : Super) (sort : Sort) (k : ℤ) → k ≡ kind_of sort → let p : code.P Made = new_inode (cast_signed w16 (cast_unsigned w16 k)) sizes in p ≡ new_inode (kind_of sort) sizes
+kind_passes sizes sort k e = ap (λ (k : ℤ). let p : code.P Made = new_inode (cast_signed w16 (cast_unsigned w16 k)) sizes in p) e ∙ by sort
+  where
+    by : (s : Sort) → let p : code.P Made = new_inode (cast_signed w16 (cast_unsigned w16 (kind_of s))) sizes in p ≡ new_inode (kind_of s) sizes
+    by OfDirectory = refl
+    by OfFile = refl
+    by (OfDevice major) = refl
+
+pub claim_is_part : (sizes : Super) (sort : Sort) (path : List ℕ) (m : Notes) (h : Hand) (r : NewInode) → new_left r h ≡ new_inode (kind_of sort) sizes → IsPart sizes (carry_in path m h) (Claim sort) (bind (new_left r h) (claim_ends (carry_in path m h)))
+claim_is_part sizes sort path m h r program =
+    let c : Carry = carry_in path m h in
+    subst (λ (p : code.P Made). IsPart sizes c (Claim sort) (bind p (claim_ends c))) (sym program)
+    (λ mark. plain_claim (inode_blocks sizes.ninodes) sizes sort c mark 0 ∙ sym (bind-assoc (new_inode (kind_of sort) sizes) (claim_ends c) (λ r. Ret (record { answer = claimed_in r.answer; carry = r.carry }))))
+
+-- ---- how it goes on
+
+module _ (path : List ℕ) (m : Notes) (k : Seat) (before h : Hand) (p : code.P Made) (answer : (o : steps.Op) → steps.Answer o) (same : beside_new k h ≡ beside_new k before) where
+  -- the locks stay
+  stays : carry_in path m before ≡ carry_in path m h
+  stays = still_in path m before h (sym (one k same)) (sym (two k same))
+    where
+      one : (k : Seat) → beside_new k h ≡ beside_new k before → h.one ≡ before.one
+      one One e = ap (λ (h : Hand). h.one) e
+      one Two e = ap (λ (h : Hand). h.one) e
+
+      two : (k : Seat) → beside_new k h ≡ beside_new k before → h.two ≡ before.two
+      two One e = ap (λ (h : Hand). h.two) e
+      two Two e = ap (λ (h : Hand). h.two) e
+
+  ends_same : claim_ends (carry_in path m before) ≡ claim_ends (carry_in path m h)
+  ends_same = ap claim_ends stays
+
+  pub claim_on : (q : code.P Made) → Goes p answer q → Goes (bind p (claim_ends (carry_in path m before))) answer (bind q (claim_ends (carry_in path m h)))
+  claim_on q goes = goes_with p q (claim_ends (carry_in path m before)) (claim_ends (carry_in path m h)) answer ends_same goes
+
+  pub claim_over : (a : Made) (x : Heard) → x ≡ heard.Claimed (claimed_by a) → Goes p answer (Ret a) → Goes (bind p (claim_ends (carry_in path m before))) answer (Ret (handed path m x h))
+  claim_over a x e goes =
+      goes_to (bind p (claim_ends (carry_in path m before))) (claim_ends (carry_in path m h) a) (Ret (handed path m x h)) answer
+      (goes_with p (Ret a) (claim_ends (carry_in path m before)) (claim_ends (carry_in path m h)) answer ends_same goes) (λ i. Ret (record { answer = sym e i; carry = carry_in path m h }))

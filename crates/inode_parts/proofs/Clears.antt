@@ -1,0 +1,155 @@
+-- A name cleared: it is a part, and goes on.
+use Rattle.std.proofs.Common.{◌≡◌, ℕ, ◌/◌, ◌%◌, Bool, true, false, if◌then◌else◌, List, Option, Some, None, refl, sym, ap, ◌∙◌, subst}
+use Rattle.std.specs.Prelude.{IsSome}
+use Rattle.std.specs.Option.{MatchOption, option_map_or}
+use Rattle.plain_tree.specs.Tree.{Name, put, same_name}
+use Rattle.sleep_lock.specs.SleepLock.{GuardState}
+use Rattle.fs_layout.specs.declared.entry.Dirent.TheVariants.{Free}
+use Rattle.fs_layout.specs.declared.inode.Dinode.{Dinode}
+use Rattle.fs_layout.specs.declared.superblock.Super.{Super}
+use Rattle.fs_layout.specs.Widths.{dirents_per_block}
+use Rattle.atomic_programs.specs.Prog.{Ret, Do, bind, plain, unmarked}
+use Rattle.atomic_programs.specs.Joined.{Handover}
+use Rattle.atomic_programs.proofs.Prog.{bind-assoc}
+use Rattle.fs_tables.specs.declared.inodes.Inode.{Inode}
+use Rattle.fs_machine.specs.Machines.{P}
+use Rattle.fs_machine.specs.Programs.{fetch}
+use Rattle.fs_machine.specs.Steps as steps
+use Rattle.inode_table.specs.Programs.{inode_block, record_of, store as store_inode}
+use Rattle.inode_data.specs.Programs.{FetchedBlock, fetch_block}
+use Rattle.directory.specs.Programs.{Named, give_record, put_dirent, put_entry, search, with_dirent, with_slot}
+use Rattle.hands.specs.declared.hand.Hand.{Hand}
+use Rattle.hands.specs.declared.hand.Seat.{Seat}
+use Rattle.hands.specs.declared.hand.Seat.TheVariants.{One, Two}
+use Rattle.hands.specs.Controls.{Goes}
+use Rattle.hands.specs.Hands.{inode_at, inode_in, no_inode}
+use Rattle.hand_controls.specs.HeldInodes.{IsLoadedAt}
+use Rattle.hand_controls.proofs.Goings.{goes_with}
+use Rattle.content_parts.specs.Clearing.{clear_left}
+use Rattle.content_parts.specs.InHand.{beside_buffers}
+use Rattle.inode_machine.specs.World as above
+use Rattle.inodes_on_blocks.specs.Handlers as handlers
+use Rattle.inodes_on_blocks.specs.Lowering.{NothingMore, Finds, Had, Apart, Carry, Has, record_had}
+use Rattle.inodes_on_blocks.specs.Naming.{clear_in, clear_slot, put_named, slot_found, slot_of}
+use Rattle.whole_calls.specs.Elements.{name_in}
+use Rattle.whole_calls.specs.declared.asks.Heard.TheVariants as heard
+use Rattle.inode_parts.specs.Carries.{carry_in, handed, had_at, had_of, note_at, with_note}
+use Rattle.inode_parts.specs.Changes.{changed}
+use Rattle.inode_parts.specs.Clears.{clear_part_left, slot_in, ClearBegins, HasFound}
+use Rattle.inode_parts.specs.OneSteps.{locks, seat_of_lock}
+use Rattle.inode_parts.specs.Parts.{IsPart, Part}
+use Rattle.inode_parts.specs.declared.note.Note.{Note}
+use Rattle.inode_parts.specs.declared.note.Note.TheVariants as note
+use Rattle.inode_parts.specs.declared.note.Notes.{Notes}
+use Rattle.inode_parts.specs.declared.clear_part.ClearPart.{ClearPart}
+use Rattle.inode_parts.proofs.Begins.{lock_is}
+use Rattle.inode_parts.proofs.Changing.{changed_same, changes}
+use Rattle.inode_parts.proofs.Handing.{elsewhere}
+use Rattle.inode_parts.proofs.Plain.{plain_block}
+use Rattle.inode_parts.proofs.PlainContents.{then_plain}
+use Rattle.inode_parts.proofs.Stores.{put_so}
+
+-- ---- what is had of an inode whose lock is in hand
+
+had_here : (path : List ℕ) (l : Note) (n : ℕ) (o : Option (GuardState Inode)) (x : Had) → locks n o ≡ true → had_at path l o n x ≡ had_of path l (option_map_or (λ (g : GuardState Inode). g.value) o no_inode).content
+had_here path l n None x e = absurd (cc e)
+had_here path l n (Some g) x e = ap (λ (b : Bool). if b then had_of path l g.value.content else x) e
+
+had_is : (path : List ℕ) (m : Notes) (n : ℕ) (h : Hand) → locks n (inode_at (seat_of_lock n h) h) ≡ true → carry_in path m h n ≡ had_of path (note_at (seat_of_lock n h) m) (inode_in (seat_of_lock n h) h).content
+had_is path m n h e = at (locks n h.one) refl e
+  where
+    at : (b : Bool) → locks n h.one ≡ b → let k : Seat = if b then One else Two in locks n (inode_at k h) ≡ true → carry_in path m h n ≡ had_of path (note_at k m) (inode_in k h).content
+    at true is e = had_here path m.one n h.one (had_at path m.two h.two n Apart) e
+    at false is e = elsewhere path m.one n h.one (had_at path m.two h.two n Apart) is ∙ had_here path m.two n h.two Apart e
+
+-- the slot that was found is that of the name
+found_slot_of : (path : List ℕ) (e : Name) (l : Note) (o : Option Dinode) → HasFound path e l → IsSome o → let p : handlers.P ℕ = slot_of (had_of path l o) e in p ≡ Ret (slot_in l)
+found_slot_of path e (note.Finds x s) (Some d) found some =
+    ap (λ (b : Bool). let p : handlers.P ℕ = if b then Ret s else bind (search (Named e) d) slot_found in p) found.0
+found_slot_of path e (note.Finds x s) None found some = absurd (cc some)
+found_slot_of path e l o found some = absurd found
+
+loaded_there : (k : Seat) (h : Hand) → IsLoadedAt k h → IsSome (inode_in k h).content
+loaded_there k h there = at (inode_at k h) there
+  where
+    at : (o : Option (GuardState Inode)) → MatchOption o ⊥ (λ g. IsSome g.value.content) → IsSome (option_map_or (λ (g : GuardState Inode). g.value) o no_inode).content
+    at None there = absurd there
+    at (Some g) there = there
+
+module _ (sizes : Super) (path : List ℕ) (m : Notes) (n : ℕ) (e : Name) (before : Hand) where
+  abbrev k : Seat
+  k = seat_of_lock n before
+
+  abbrev v : Inode
+  v = inode_in k before
+
+  abbrev c : Carry
+  c = carry_in path m before
+
+  abbrev s : ℕ
+  s = slot_in (note_at k m)
+
+  -- the handler's record is that in hand
+  abbrev had : Inode
+  had = record { number = n; content = record_had (c n) }
+
+  abbrev over : Dinode → P (Handover (Unit {0}) Carry)
+  over d = Ret (record { answer = tt {0}; carry = put c n (Has d NothingMore) })
+
+  abbrev cleared : Inode → P (Handover (Unit {0}) Carry)
+  cleared v = bind (put_entry sizes.inodestart v.number (record_of v) s Free) over
+
+  module _ (mark : Unit {0} → Option above.Mark) where
+    block_so : (f : FetchedBlock) → plain (clear_in sizes n e c mark s f) ≡ bind (put_dirent sizes.inodestart n (record_of had) s Free f) over
+    block_so f = λ i. Do (steps.Put f.number (Some (with_dirent (s % dirents_per_block) Free f.bytes))) unmarked (λ _. stores i)
+      where
+        b : ℕ
+        b = inode_block sizes.inodestart n
+
+        d : Dinode
+        d = with_slot s (record_of had)
+
+        stores : plain (bind (fetch b) (put_named (above.Clear n e) above.Room mark (tt {0}) b n d c)) ≡ bind (bind (store_inode sizes.inodestart n d) (give_record d)) over
+        stores =
+            put_so b n d (handlers.acts (above.Clear n e) above.Room mark) (record { answer = tt {0}; carry = put c n (Has d NothingMore) })
+            ∙ sym (bind-assoc (store_inode sizes.inodestart n d) (give_record d) over)
+
+    slot_so : plain (clear_slot sizes n e c mark s) ≡ cleared had
+    slot_so =
+        then_plain (fetch_block (record_of had) (s / dirents_per_block)) (fetch_block (record_of had) (s / dirents_per_block)) (clear_in sizes n e c mark s) (λ f. bind (put_dirent sizes.inodestart n (record_of had) s Free f) over)
+        (plain_block (record_of had) (s / dirents_per_block)) block_so
+        ∙ sym (bind-assoc (fetch_block (record_of had) (s / dirents_per_block)) (put_dirent sizes.inodestart n (record_of had) s Free) over)
+
+  module _ (p : ClearPart) (begins : ClearBegins sizes path m n e before) (seat : p.seat ≡ k) where
+    abbrev then_ : Dinode → P (Handover (Unit {0}) Carry)
+    then_ d = bind (changed path m k heard.Did before d) (λ r. Ret (record { answer = tt {0}; carry = r.carry }))
+
+    same_over : (d : Dinode) → over d ≡ then_ d
+    same_over d = λ i. Ret (record { answer = tt {0}; carry = changes path m k n d before begins.0.0.0 begins.0.0.1 i })
+
+    same_slot : let p : handlers.P ℕ = slot_of (c n) e in p ≡ Ret s
+    same_slot =
+        ap (λ (x : Had). let p : handlers.P ℕ = slot_of x e in p) (had_is path m n before begins.0.0.0)
+        ∙ found_slot_of path e (note_at k m) v.content begins.1 (loaded_there k before begins.0.1)
+
+    pub clear_is_part : clear_left p.clear before ≡ put_entry sizes.inodestart n (record_of v) s Free → IsPart sizes c (above.Clear n e) (clear_part_left path m p before)
+    clear_is_part program mark =
+        (λ i. plain (bind (same_slot i) (clear_slot sizes n e c mark)))
+        ∙ slot_so mark
+        ∙ (λ i. bind (put_entry sizes.inodestart n (record_of (lock_is path m n before begins.0.0.0 i)) s Free) over)
+        ∙ (λ i. bind (sym program i) (λ d. same_over d i))
+        ∙ sym (bind-assoc (clear_left p.clear before) (changed path m k heard.Did before) (λ r. Ret (record { answer = tt {0}; carry = r.carry })))
+        ∙ (λ i. bind (bind (clear_left p.clear before) (changed path m (sym seat i) heard.Did before)) (λ r. Ret (record { answer = tt {0}; carry = r.carry })))
+
+-- ---- how it goes on
+
+module _ (path : List ℕ) (m : Notes) (p : ClearPart) (before h : Hand) (answer : (o : steps.Op) → steps.Answer o) (beside : beside_buffers tt h ≡ beside_buffers tt before) where
+  pub clear_on : (q : ClearPart) → q.seat ≡ p.seat → Goes (clear_left p.clear before) answer (clear_left q.clear h) → Goes (clear_part_left path m p before) answer (clear_part_left path m q h)
+  clear_on q seat goes =
+      goes_with (clear_left p.clear before) (clear_left q.clear h) (changed path m p.seat heard.Did before) (changed path m q.seat heard.Did h) answer
+      (changed_same path m p.seat heard.Did before h beside ∙ (λ i. changed path m (sym seat i) heard.Did h)) goes
+
+  pub clear_ends : (d : Dinode) (q : Part) → changed path m p.seat heard.Did h d ≡ q → Goes (clear_left p.clear before) answer (Ret d) → Goes (clear_part_left path m p before) answer q
+  clear_ends d q is goes =
+      subst (λ (q : Part). Goes (clear_part_left path m p before) answer q) is
+      (goes_with (clear_left p.clear before) (Ret d) (changed path m p.seat heard.Did before) (changed path m p.seat heard.Did h) answer (changed_same path m p.seat heard.Did before h beside) goes)

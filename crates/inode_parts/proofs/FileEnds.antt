@@ -1,0 +1,61 @@
+-- What is heard of a descriptor's inode that was locked, or wasn't.
+use Rattle.std.proofs.Common.{◌≡◌, ℕ, List, Option, Some, None, sym, ap, subst, ◌∙◌}
+use Rattle.plain_tree.specs.declared.answer.Cause.{Cause}
+use Rattle.fs_layout.specs.declared.inode.Dinode.{Dinode}
+use Rattle.atomic_programs.specs.Prog.{Ret}
+use Rattle.fs_tables.specs.Inodes.{Refuses, Locks}
+use Rattle.fs_tables.specs.declared.files.Refused.{Refused}
+use Rattle.hands.specs.Hands.{inode_at}
+use Rattle.hands.specs.declared.hand.Hand.{Hand}
+use Rattle.hands.specs.declared.hand.Seat.{Seat}
+use Rattle.hand_controls.specs.HeldInodes.{record_in}
+use Rattle.hand_controls.specs.LockingFiles.{HasFile}
+use Rattle.hand_controls.specs.declared.lock_file.HeldFile.{HeldFile}
+use Rattle.inodes_on_blocks.specs.Handlers.{cause_of}
+use Rattle.whole_calls.specs.declared.asks.Heard.TheVariants as heard
+use Rattle.whole_calls.specs.declared.asks.Locked.TheVariants as locked
+use Rattle.inode_parts.specs.Carries.{carry_in, handed, with_note}
+use Rattle.inode_parts.specs.FileLocks.{file_ends, open_ends}
+use Rattle.inode_parts.specs.OneSteps.{other}
+use Rattle.inode_parts.specs.Sides.{beside_in}
+use Rattle.inode_parts.specs.declared.note.Note.TheVariants as note
+use Rattle.inode_parts.specs.declared.note.Notes.{Notes}
+use Rattle.inode_parts.proofs.Locking.{alone_none, had_now}
+use Rattle.inode_parts.proofs.Sides.{none_beside}
+
+module _ (path : List ℕ) (m : Notes) (k : Seat) (h : Hand) where
+  -- it was refused
+  pub refused_so : (fd : ℕ) (why : Refused) (x : Cause) → inode_at k h ≡ None → x ≡ cause_of why → file_ends path fd (beside_in path m k h) (Refuses why) ≡ Ret (handed path m (heard.Locked (locked.Refused x)) h)
+  refused_so fd why x free e = λ i. Ret (record { answer = heard.Locked (locked.Refused (sym e i)); carry = sym (none_beside path m h k free) i })
+
+module _ (path : List ℕ) (m m2 : Notes) (h : Hand) (f : HeldFile) (has : HasFile f h) (alone : inode_at (other f.seat) h ≡ None) where
+  abbrev d : Dinode
+  d = record_in f.seat h
+
+  -- it is locked, and so much was learned of it
+  locked_so : (fd offset : ℕ) → offset ≡ f.file.offset → m2 ≡ with_note f.seat (note.Opened fd f.file.offset) m
+      → file_ends path fd (beside_in path m f.seat h) (Locks f.file (Some d)) ≡ Ret (handed path m2 (heard.Locked (locked.Locks f.file.number offset)) h)
+  locked_so fd offset e noted = λ i. Ret (record {
+    answer = heard.Locked (locked.Locks f.file.number (sym e i));
+    carry = (had_now path m f.seat h (note.Opened fd f.file.offset) f.file.number has.0 has.1 (alone_none f.file.number f.seat h alone) ∙ ap (λ (m : Notes). carry_in path m h) (sym noted)) i;
+  })
+
+  opened_so : (fd offset : ℕ) → offset ≡ f.file.offset → m2 ≡ with_note f.seat (note.Opened fd f.file.offset) m
+      → open_ends path fd (beside_in path m f.seat h) (f.file, d) ≡ Ret (handed path m2 (heard.At f.file.number offset) h)
+  opened_so fd offset e noted = λ i. Ret (record {
+    answer = heard.At f.file.number (sym e i);
+    carry = (had_now path m f.seat h (note.Opened fd f.file.offset) f.file.number has.0 has.1 (alone_none f.file.number f.seat h alone) ∙ ap (λ (m : Notes). carry_in path m h) (sym noted)) i;
+  })
+
+-- the same at the seat where it was to be
+module _ (path : List ℕ) (m m2 : Notes) (h : Hand) (f : HeldFile) (k : Seat) (at : f.seat ≡ k) (has : HasFile f h) (alone : inode_at (other k) h ≡ None) where
+  alone_there : inode_at (other f.seat) h ≡ None
+  alone_there = subst (λ (k : Seat). inode_at (other k) h ≡ None) (sym at) alone
+
+  pub locked_at : (fd offset : ℕ) → offset ≡ f.file.offset → m2 ≡ with_note f.seat (note.Opened fd f.file.offset) m
+      → file_ends path fd (beside_in path m k h) (Locks f.file (Some (record_in f.seat h))) ≡ Ret (handed path m2 (heard.Locked (locked.Locks f.file.number offset)) h)
+  locked_at fd offset e noted = (λ i. file_ends path fd (beside_in path m (sym at i) h) (Locks f.file (Some (record_in f.seat h)))) ∙ locked_so path m m2 h f has alone_there fd offset e noted
+
+  pub opened_at : (fd offset : ℕ) → offset ≡ f.file.offset → m2 ≡ with_note f.seat (note.Opened fd f.file.offset) m
+      → open_ends path fd (beside_in path m k h) (f.file, record_in f.seat h) ≡ Ret (handed path m2 (heard.At f.file.number offset) h)
+  opened_at fd offset e noted = (λ i. open_ends path fd (beside_in path m (sym at i) h) (f.file, record_in f.seat h)) ∙ opened_so path m m2 h f has alone_there fd offset e noted

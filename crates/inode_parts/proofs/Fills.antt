@@ -1,0 +1,102 @@
+-- The names of a new directory written: it is a part, and goes on.
+use Rattle.std.proofs.Common.{◌≡◌, ℕ, ◌+◌, ◌==◌, Bool, true, false, if◌then◌else◌, List, length, Option, Some, None, refl, sym, ap, ◌∙◌, subst}
+use Rattle.plain_tree.specs.Tree.{put}
+use Rattle.fs_layout.specs.declared.inode.Dinode.{Dinode}
+use Rattle.fs_layout.specs.declared.superblock.Super.{Super}
+use Rattle.atomic_programs.specs.Prog.{Ret, bind, plain}
+use Rattle.atomic_programs.specs.Joined.{Handover}
+use Rattle.atomic_programs.proofs.Prog.{bind-assoc}
+use Rattle.fs_tables.specs.declared.inodes.Inode.{Inode}
+use Rattle.fs_machine.specs.Machines.{P}
+use Rattle.fs_machine.specs.Steps as steps
+use Rattle.inode_table.specs.Programs.{record_of, store as store_inode}
+use Rattle.inode_data.specs.Programs.{blocks_between}
+use Rattle.inode_data.specs.Writing.{WriteResult, grown, store_written, write_blocks, write_part}
+use Rattle.hands.specs.declared.hand.Hand.{Hand}
+use Rattle.hands.specs.declared.hand.Seat.{Seat}
+use Rattle.hands.specs.Controls.{Goes}
+use Rattle.hands.specs.Hands.{inode_in}
+use Rattle.hand_controls.proofs.Goings.{goes_with}
+use Rattle.content_parts.specs.Filling.{dots, fill as fill_names, fill_left, filled_by}
+use Rattle.content_parts.specs.InHand.{beside_buffers}
+use Rattle.content_parts.specs.declared.fill.Filled.{Filled}
+use Rattle.inode_machine.specs.World as above
+use Rattle.inodes_on_blocks.specs.Entering.{filled_to, put_grown}
+use Rattle.inodes_on_blocks.specs.Lowering.{NothingMore, Carry, Has, record_had}
+use Rattle.whole_calls.specs.Asks as whole
+use Rattle.whole_calls.specs.declared.asks.Heard.TheVariants as heard
+use Rattle.inode_parts.specs.Carries.{carry_in}
+use Rattle.inode_parts.specs.Fills.{fill_part_left, filled}
+use Rattle.inode_parts.specs.OneSteps.{HasLock, seat_of_lock}
+use Rattle.inode_parts.specs.Parts.{IsPart, Part}
+use Rattle.inode_parts.specs.declared.note.Notes.{Notes}
+use Rattle.inode_parts.specs.declared.fill_part.FillPart.{FillPart}
+use Rattle.inode_parts.proofs.Begins.{lock_is}
+use Rattle.inode_parts.proofs.Changing.{changed_same, changes}
+use Rattle.inode_parts.proofs.Enters.{grown_so}
+use Rattle.inode_parts.proofs.PlainContents.{plain_writes, then_plain}
+
+module _ (sizes : Super) (path : List ℕ) (m : Notes) (n parent : ℕ) (before : Hand) where
+  abbrev k : Seat
+  k = seat_of_lock n before
+
+  abbrev v : Inode
+  v = inode_in k before
+
+  abbrev c : Carry
+  c = carry_in path m before
+
+  abbrev rest : Filled → P (Handover Bool Carry)
+  rest f = Ret (record { answer = f.whole; carry = put c n (Has f.inode NothingMore) })
+
+  -- the handler's program, of this record
+  module _ (mark : Bool → Option above.Mark) where
+    writes_so : (w : WriteResult) → plain (filled_to sizes n parent c mark w) ≡ bind (store_written sizes n w) (λ x. bind (filled_by x) rest)
+    writes_so w = by (w.upto == 32) ∙ sym (bind-assoc (store_inode sizes.inodestart n (grown w)) (λ _. Ret (record { inode = grown w; upto = w.upto })) (λ x. bind (filled_by x) rest))
+      where
+        by : (t : Bool) → plain (if t then put_grown (above.Fill n parent) above.Room mark true sizes n c w else put_grown (above.Fill n parent) (above.RoomFor 0) mark false sizes n c w)
+            ≡ bind (store_inode sizes.inodestart n (grown w)) (λ _. rest (record { inode = grown w; whole = t }))
+        by true = grown_so sizes n (above.Fill n parent) above.Room mark true c w
+        by false = grown_so sizes n (above.Fill n parent) (above.RoomFor 0) mark false c w
+
+    fill_so : (d : Dinode) → plain (bind (write_blocks (blocks_between 0 (0 + length (dots n parent))) sizes 0 (dots n parent) d) (filled_to sizes n parent c mark)) ≡ bind (fill_names sizes n d parent) rest
+    fill_so d =
+        then_plain (write_blocks count sizes 0 (dots n parent) d) (write_blocks count sizes 0 (dots n parent) d) (filled_to sizes n parent c mark) (λ w. bind (store_written sizes n w) (λ x. bind (filled_by x) rest))
+        (plain_writes count sizes 0 (dots n parent) d) writes_so
+        ∙ sym (bind-assoc (write_part sizes n d 0 (dots n parent)) filled_by rest ∙ bind-assoc (write_blocks count sizes 0 (dots n parent) d) (store_written sizes n) (λ x. bind (filled_by x) rest))
+      where
+        count : ℕ
+        count = blocks_between 0 (0 + length (dots n parent))
+
+  module _ (p : FillPart) (has : HasLock n before) (seat : p.seat ≡ k) where
+    abbrev had : Inode
+    had = record { number = n; content = record_had (c n) }
+
+    abbrev then_ : Filled → P (Handover Bool Carry)
+    then_ f = bind (filled path m k before f) (λ r. Ret (record { answer = whole.bool_in r.answer; carry = r.carry }))
+
+    same_rest : (f : Filled) → rest f ≡ then_ f
+    same_rest f = λ i. Ret (record { answer = f.whole; carry = changes path m k n f.inode before has.0 has.1 i })
+
+    pub fill_is_part : fill_left p.fill before ≡ fill_names sizes n (record_of v) parent → IsPart sizes c (above.Fill n parent) (fill_part_left path m p before)
+    fill_is_part program mark =
+        fill_so mark (record_of had)
+        ∙ (λ i. bind (fill_names sizes n (record_of (lock_is path m n before has.0 i)) parent) rest)
+        ∙ (λ i. bind (sym program i) (λ f. same_rest f i))
+        ∙ sym (bind-assoc (fill_left p.fill before) (filled path m k before) (λ r. Ret (record { answer = whole.bool_in r.answer; carry = r.carry })))
+        ∙ (λ i. bind (bind (fill_left p.fill before) (filled path m (sym seat i) before)) (λ r. Ret (record { answer = whole.bool_in r.answer; carry = r.carry })))
+
+-- ---- how it goes on
+
+module _ (path : List ℕ) (m : Notes) (p : FillPart) (before h : Hand) (answer : (o : steps.Op) → steps.Answer o) (beside : beside_buffers tt h ≡ beside_buffers tt before) where
+  filled_same : filled path m p.seat before ≡ filled path m p.seat h
+  filled_same = λ i f. changed_same path m p.seat (heard.Is f.whole) before h beside i f.inode
+
+  pub fill_on : (q : FillPart) → q.seat ≡ p.seat → Goes (fill_left p.fill before) answer (fill_left q.fill h) → Goes (fill_part_left path m p before) answer (fill_part_left path m q h)
+  fill_on q seat goes =
+      goes_with (fill_left p.fill before) (fill_left q.fill h) (filled path m p.seat before) (filled path m q.seat h) answer (filled_same ∙ (λ i. filled path m (sym seat i) h)) goes
+
+  pub fill_ends : (f : Filled) (q : Part) → filled path m p.seat h f ≡ q → Goes (fill_left p.fill before) answer (Ret f) → Goes (fill_part_left path m p before) answer q
+  fill_ends f q is goes =
+      subst (λ (q : Part). Goes (fill_part_left path m p before) answer q) is
+      (goes_with (fill_left p.fill before) (Ret f) (filled path m p.seat before) (filled path m p.seat h) answer filled_same goes)

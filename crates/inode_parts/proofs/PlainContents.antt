@@ -1,0 +1,140 @@
+-- Contents written and directories searched: without marks the programs are the code's.
+use Rattle.std.proofs.Common.{◌≡◌, ℕ, zero, suc, ◌+◌, ◌/◌, ◌≤◌, ◌==◌, nat_lt, Bool, true, false, if◌then◌else◌, List, length, drop, Option, Some, None, refl, sym, ◌∙◌, ap, arith}
+use Rattle.std.specs.Prelude.{slice_index}
+use Rattle.std.proofs.lemmas.Bool.Decides.{nat_tests}
+use Rattle.fs_layout.specs.declared.inode.Dinode.{Dinode}
+use Rattle.fs_layout.specs.declared.superblock.Super.{Super}
+use Rattle.fs_layout.specs.Indirect.{numbers_in}
+use Rattle.fs_layout.specs.Widths.{block_len}
+use Rattle.atomic_programs.specs.Prog.{Ret, Do, bind, plain, unmarked}
+use Rattle.atomic_programs.proofs.Prog.{bind-assoc, plain-bind}
+use Rattle.fs_machine.specs.Machines as code
+use Rattle.fs_machine.specs.Programs.{fetch}
+use Rattle.fs_machine.specs.Steps as steps
+use Rattle.bitmap_alloc.specs.Bytes.{marked_by}
+use Rattle.bitmap_alloc.specs.First.{first_clear_below}
+use Rattle.bitmap_alloc.specs.Programs.{give_zeros, take_first, zero_found}
+use Rattle.inode_data.specs.declared.addresses.Address.{Address}
+use Rattle.inode_data.specs.declared.addresses.Address.TheVariants.{Direct, InTable}
+use Rattle.inode_data.specs.Addresses.{address, table_of}
+use Rattle.inode_data.specs.Programs.{fetch_block}
+use Rattle.inode_data.specs.Widths.{direct}
+use Rattle.inode_data.specs.Writing.{WriteResult, front_of, locate, locate_at, locate_in_table, located, look_up, name_direct, name_in_table, put_part, take_one, with_address, with_part, with_table, write_blocks, write_in, write_located}
+use Rattle.directory.specs.declared.found.Found.{Found}
+use Rattle.directory.specs.Programs.{Aim, Unused, block_count, found_in, look_at, or_next, search, search_from, slot_count}
+use Rattle.inodes_on_blocks.specs.Entering.{look_last, search_full, seek_free}
+use Rattle.inodes_on_blocks.specs.Handlers.{Acts, P}
+use Rattle.inode_parts.proofs.Plain.{plain_block, plain_fetch}
+
+-- one program after the other
+pub then_plain : {A B : Type 0} (p : P A) (q : code.P A) (f : A → P B) (g : A → code.P B) → plain p ≡ q → ((a : A) → plain (f a) ≡ g a) → plain (bind p f) ≡ bind q g
+then_plain p q f g same each = plain-bind p f ∙ (λ i. bind (same i) (λ a. each a i))
+
+-- and a third one after both
+pub after_plain : {A B C : Type 0} (p : P A) (q : code.P A) (f : A → P B) (h : B → P C) (g : A → code.P C) → plain p ≡ q → ((a : A) → plain (bind (f a) h) ≡ g a) → plain (bind (bind p f) h) ≡ bind q g
+after_plain p q f h g same each = ap plain (bind-assoc p f h) ∙ then_plain p q (λ a. bind (f a) h) g same each
+
+plain_or_next : {A : Type 0} (o : Option A) (p : P (Option A)) (q : code.P (Option A)) → plain p ≡ q → plain (or_next o p) ≡ or_next o q
+plain_or_next (Some a) p q same = refl
+plain_or_next None p q same = same
+
+pub plain_search_from : (n : ℕ) (aim : Aim) (d : Dinode) (k : ℕ) → plain (search_from {M = Acts} n aim d k) ≡ search_from n aim d k
+unfolding search_from
+plain_search_from zero aim d k = refl
+plain_search_from (suc n) aim d k =
+    then_plain (fetch_block d k) (fetch_block d k) (look_at aim d k (search_from n aim d (k + 1))) (look_at aim d k (search_from n aim d (k + 1))) (plain_block d k)
+    (λ f. λ i. Do (steps.Put f.number None) unmarked (λ _. plain_or_next (found_in aim d k f.bytes) (search_from n aim d (k + 1)) (search_from n aim d (k + 1)) (plain_search_from n aim d (k + 1)) i))
+
+-- ---- a block taken
+
+plain_zeros : (o : Option ℕ) → plain (zero_found {M = Acts} o) ≡ zero_found o
+plain_zeros None = refl
+plain_zeros (Some b) = then_plain (fetch b) (fetch b) (give_zeros b) (give_zeros b) (plain_fetch b) (λ old. refl)
+
+plain_take : (sizes : Super) → plain (take_one {M = Acts} sizes) ≡ take_one sizes
+plain_take sizes =
+    then_plain (fetch sizes.bmapstart) (fetch sizes.bmapstart) (take_first sizes.bmapstart sizes.size) (take_first sizes.bmapstart sizes.size) (plain_fetch sizes.bmapstart)
+    (λ bits i. Do (steps.Put sizes.bmapstart (marked_by bits (first_clear_below sizes.size bits))) unmarked (λ _. plain_zeros (first_clear_below sizes.size bits) i))
+
+-- ---- a block of a content found, or taken
+
+plain_direct : (i : ℕ) (d : Dinode) (o : Option ℕ) → plain (name_direct {M = Acts} i d o) ≡ name_direct i d o
+plain_direct i d None = refl
+plain_direct i d (Some b) = refl
+
+plain_listed : (i : ℕ) (d : Dinode) (table : ℕ) (bytes : List ℕ) (o : Option ℕ) → plain (name_in_table {M = Acts} i d table bytes o) ≡ name_in_table i d table bytes o
+plain_listed i d table bytes None = refl
+plain_listed i d table bytes (Some b) = refl
+
+plain_look_up : (sizes : Super) (i : ℕ) (d : Dinode) (table : ℕ) (bytes : List ℕ) → plain (look_up {M = Acts} sizes i d table bytes) ≡ look_up sizes i d table bytes
+plain_look_up sizes i d table bytes = by (slice_index (numbers_in bytes) i == 0)
+  where
+    by : (b : Bool) → plain (if b then bind (take_one {M = Acts} sizes) (name_in_table i d table bytes) else Do (steps.Put table None) unmarked (λ _. located d (Some (slice_index (numbers_in bytes) i))))
+        ≡ (if b then bind (take_one sizes) (name_in_table i d table bytes) else Do (steps.Put table None) unmarked (λ _. located d (Some (slice_index (numbers_in bytes) i))))
+    by true = then_plain (take_one sizes) (take_one sizes) (name_in_table i d table bytes) (name_in_table i d table bytes) (plain_take sizes) (plain_listed i d table bytes)
+    by false = refl
+
+plain_with_table : (sizes : Super) (i : ℕ) (d : Dinode) (o : Option ℕ) → plain (with_table {M = Acts} sizes i d o) ≡ with_table sizes i d o
+plain_with_table sizes i d None = refl
+plain_with_table sizes i d (Some table) =
+    then_plain (fetch table) (fetch table) (look_up sizes i (with_address direct table d) table) (look_up sizes i (with_address direct table d) table) (plain_fetch table) (plain_look_up sizes i (with_address direct table d) table)
+
+plain_locate : (sizes : Super) (d : Dinode) (a : Address) → plain (locate_at {M = Acts} sizes d a) ≡ locate_at sizes d a
+plain_locate sizes d (Direct i) = by (slice_index d.addrs i == 0)
+  where
+    by : (b : Bool) → plain (if b then bind (take_one {M = Acts} sizes) (name_direct i d) else located d (Some (slice_index d.addrs i))) ≡ (if b then bind (take_one sizes) (name_direct i d) else located d (Some (slice_index d.addrs i)))
+    by true = then_plain (take_one sizes) (take_one sizes) (name_direct i d) (name_direct i d) (plain_take sizes) (plain_direct i d)
+    by false = refl
+plain_locate sizes d (InTable i) = by (table_of d == 0)
+  where
+    by : (b : Bool) → plain (if b then bind (take_one {M = Acts} sizes) (with_table sizes i d) else locate_in_table sizes i d) ≡ (if b then bind (take_one sizes) (with_table sizes i d) else locate_in_table sizes i d)
+    by true = then_plain (take_one sizes) (take_one sizes) (with_table sizes i d) (with_table sizes i d) (plain_take sizes) (plain_with_table sizes i d)
+    by false = then_plain (fetch (table_of d)) (fetch (table_of d)) (look_up sizes i d (table_of d)) (look_up sizes i d (table_of d)) (plain_fetch (table_of d)) (plain_look_up sizes i d (table_of d))
+
+-- ---- a content written
+
+plain_in : (more : Dinode → P WriteResult) (rest : Dinode → code.P WriteResult) → ((d : Dinode) → plain (more d) ≡ rest d) → (at : ℕ) (bytes : List ℕ) (d : Dinode) (o : Option ℕ) → plain (write_in more at bytes d o) ≡ write_in rest at bytes d o
+plain_in more rest same at bytes d None = refl
+plain_in more rest same at bytes d (Some b) =
+    then_plain (fetch b) (fetch b) (put_part (more d) b at bytes) (put_part (rest d) b at bytes) (plain_fetch b) (λ old i. Do (steps.Put b (Some (with_part at bytes old))) unmarked (λ _. same d i))
+
+pub plain_writes : (n : ℕ) (sizes : Super) (at : ℕ) (bytes : List ℕ) (d : Dinode) → plain (write_blocks {M = Acts} n sizes at bytes d) ≡ write_blocks n sizes at bytes d
+unfolding write_blocks
+plain_writes zero sizes at bytes d = refl
+plain_writes (suc n) sizes at bytes d =
+    then_plain (locate sizes d (at / block_len)) (locate sizes d (at / block_len)) (write_located (write_blocks n sizes (at + length (front_of at bytes)) (drop (length (front_of at bytes)) bytes)) at bytes)
+    (write_located (write_blocks n sizes (at + length (front_of at bytes)) (drop (length (front_of at bytes)) bytes)) at bytes) (plain_locate sizes d (address (at / block_len)))
+    (λ l. plain_in (write_blocks n sizes (at + length (front_of at bytes)) (drop (length (front_of at bytes)) bytes)) (write_blocks n sizes (at + length (front_of at bytes)) (drop (length (front_of at bytes)) bytes))
+    (plain_writes n sizes (at + length (front_of at bytes)) (drop (length (front_of at bytes)) bytes)) at bytes l.inode l.number)
+
+-- ---- a free slot sought
+
+plain_or : (o : Option Found) (p : P (Option Found)) (q : code.P (Option Found)) → plain p ≡ q → plain (or_next o p) ≡ or_next o q
+plain_or None p q same = same
+plain_or (Some f) p q same = refl
+
+abbrev answers : Option Found → code.P (Option Found)
+answers o = Ret o
+
+plain_last : (o : Option Found) → answers o ≡ or_next o (answers None)
+plain_last None = refl
+plain_last (Some f) = refl
+
+plain_full : (mark : Option Acts) (n : ℕ) (d : Dinode) (k : ℕ) → plain (search_full mark n d k) ≡ search_from (suc n) Unused d k
+unfolding search_full search_from
+plain_full mark zero d k =
+    then_plain (fetch_block d k) (fetch_block d k) (look_last mark d k) (look_at Unused d k (search_from zero Unused d (k + 1))) (plain_block d k)
+    (λ f i. Do (steps.Put f.number None) unmarked (λ _. plain_last (found_in Unused d k f.bytes) i))
+plain_full mark (suc n) d k =
+    then_plain (fetch_block d k) (fetch_block d k) (look_at Unused d k (search_full mark n d (k + 1))) (look_at Unused d k (search_from (suc n) Unused d (k + 1))) (plain_block d k)
+    (λ f i. Do (steps.Put f.number None) unmarked (λ _. plain_or (found_in Unused d k f.bytes) (search_full mark n d (k + 1)) (search_from (suc n) Unused d (k + 1)) (plain_full mark n d (k + 1)) i))
+
+pub plain_seek : (mark : Option Acts) (d : Dinode) → plain (seek_free mark d) ≡ search Unused d
+plain_seek mark d = by (nat_lt (slot_count d) 17152) refl
+  where
+    by : (b : Bool) → nat_lt (slot_count d) 17152 ≡ b → plain (if b then search Unused d else search_full mark 267 d 0) ≡ search Unused d
+    by true room = plain_search_from (block_count d) Unused d 0
+    by false full =
+        let many : 17152 ≤ slot_count d = grind (arith, nat_tests, full) in
+        let all : block_count d ≡ 268 = omega (arith, many) in
+        plain_full mark 267 d 0 ∙ ap (λ (k : ℕ). search_from k Unused d 0) (sym all)

@@ -1,0 +1,109 @@
+-- An inode locked and looked at: the operation is its part.
+use Rattle.std.proofs.Common.{◌≡◌, ℕ, List, Bool, true, false, if◌then◌else◌, Option, Some, None, refl, sym, ap, subst, ◌∙◌}
+use Rattle.std.specs.Prelude.{◌<◌, ◌^◌, is_some, not, IsSome}
+use Rattle.std.specs.Option.{option_map, unwrap_or}
+use Rattle.plain_tree.specs.Tree.{put}
+use Rattle.fs_layout.specs.declared.inode.Dinode.{Dinode}
+use Rattle.fs_layout.specs.declared.superblock.Super.{Super}
+use Rattle.atomic_programs.specs.Prog.{Ret, Do, bind, plain, unmarked}
+use Rattle.atomic_programs.specs.Joined.{Handover}
+use Rattle.atomic_programs.proofs.Prog.{bind-assoc}
+use Rattle.fs_machine.specs.Machines as code
+use Rattle.fs_machine.specs.Steps as steps
+use Rattle.image_tree.specs.Inodes.{is_free}
+use Rattle.inode_table.specs.Programs.{inode_block, load_unless}
+use Rattle.directory.specs.Programs.{lookup}
+use Rattle.directory.specs.declared.found.Found.{Found}
+use Rattle.content_parts.specs.Searching.{entries}
+use Rattle.hands.specs.Hands.{inode_at, number_at, reference_at}
+use Rattle.hands.specs.declared.hand.Seat.{Seat}
+use Rattle.hands.specs.declared.hand.Hand.{Hand}
+use Rattle.hand_controls.specs.LockingInodes.{lock_left, lock_loaded, lock_seat}
+use Rattle.hand_controls.specs.declared.lock_inode.LockInode.{LockInode}
+use Rattle.inode_machine.specs.Inodes.{Face, Sight}
+use Rattle.inode_machine.specs.World as above
+use Rattle.inode_machine.specs.World.Op.{Take}
+use Rattle.inodes_on_blocks.specs.Handlers.{P}
+use Rattle.inodes_on_blocks.specs.Lowering.{Carry, NothingMore, Knowledge, Finds, Has}
+use Rattle.inodes_on_blocks.specs.Reading as handlers
+use Rattle.inodes_on_blocks.specs.Reading.{face_in, learned, number_found, search_entries, seen_record}
+use Rattle.whole_calls.specs.Asks.{face_of, query_in, sight_in}
+use Rattle.whole_calls.specs.Elements.{name_in}
+use Rattle.whole_calls.specs.declared.asks.Heard.{Heard}
+use Rattle.whole_calls.specs.declared.asks.Query.{Query}
+use Rattle.whole_calls.specs.declared.asks.Query.TheVariants as query
+use Rattle.whole_calls.specs.declared.elements.Element.{Element}
+use Rattle.inode_parts.specs.Carries.{carry_in, had_of}
+use Rattle.inode_parts.specs.Faces.{face_by, face_unless_free}
+use Rattle.inode_parts.specs.OneSteps.{IsAlone, seat_of_reference}
+use Rattle.inode_parts.specs.Parts.{IsPart, Part}
+use Rattle.inode_parts.specs.Sides.{beside_in}
+use Rattle.inode_parts.specs.Takes.{listed_ends, looked, named_ends, note_of, seen, TakeBegins}
+use Rattle.inode_parts.specs.declared.note.Note.{Note}
+use Rattle.inode_parts.specs.declared.note.Note.TheVariants as note
+use Rattle.inode_parts.specs.declared.note.Notes.{Notes}
+use Rattle.inode_parts.proofs.Afterwards.{load_then, then_plain}
+use Rattle.inode_parts.proofs.Searched.{plain_entries, plain_lookup}
+use Rattle.inode_parts.proofs.Telling.{face_same}
+use Rattle.inode_parts.proofs.Sides.{none_beside}
+
+-- what is heard of it is what is answered
+faces_same : (d : Dinode) → option_map face_of (face_unless_free d) ≡ (if is_free d then None else Some (face_in d))
+faces_same d = by (is_free d)
+  where
+    by : (b : Bool) → option_map face_of (if b then None else Some (face_by d)) ≡ (if b then None else Some (face_in d))
+    by true = refl
+    by false = ap (λ (f : Face). Some f) (face_same d)
+
+abbrev answers : Handover Heard Carry → code.P (Handover Sight Carry)
+answers r = Ret (record { answer = sight_in r.answer; carry = r.carry })
+
+module _ (path : List ℕ) (c : Carry) (n : ℕ) (d : Dinode) where
+  -- and what is learned is noted so
+  seen_so : (l : Note) (k : Knowledge) (found : Option ℕ) (empty : Bool) → had_of path l (Some d) ≡ Has d k → plain (seen_record c n d k found empty) ≡ bind (seen path c n d l found empty) answers
+  seen_so l k found empty e = λ i. Ret (record { answer = record { face = sym (faces_same d) i; found = found; empty = empty }; carry = put c n (sym e i) })
+
+  named_so : (e : Element) (o : Option Found) → plain (seen_record c n d (learned (name_in path e) o) (number_found o) true) ≡ bind (named_ends path c n d e o) answers
+  named_so e None = seen_so note.Nothing NothingMore None true refl
+  named_so e (Some f) = seen_so (note.Finds e f.slot) (Finds (name_in path e) f.slot) (Some f.number) true refl
+
+  looked_so : (q : Query) → plain (handlers.looked (query_in path q) c n d) ≡ bind (looked path q c n d) answers
+  looked_so query.Nothing = seen_so note.Nothing NothingMore None true refl
+  looked_so (query.Name e) =
+      then_plain (lookup (name_in path e) d) (lookup (name_in path e) d) (λ o. seen_record c n d (learned (name_in path e) o) (number_found o) true) (λ o. bind (named_ends path c n d e o) answers) (plain_lookup (name_in path e) d) (named_so e)
+      ∙ sym (bind-assoc (lookup (name_in path e) d) (named_ends path c n d e) answers)
+  looked_so query.Entries =
+      then_plain (search_entries d) (entries d) (λ o. seen_record c n d NothingMore None (not (is_some o))) (λ o. bind (listed_ends path c n d o) answers) (plain_entries d) (λ o. seen_so note.Nothing NothingMore None (not (is_some o)) refl)
+      ∙ sym (bind-assoc (entries d) (listed_ends path c n d) answers)
+
+pub take_is_part : (sizes : Super) (path : List ℕ) (m : Notes) (n : ℕ) (q : Query) (h : Hand) (r : LockInode) → lock_left r h ≡ lock_loaded sizes.inodestart n → number_at (lock_seat r) h ≡ n → inode_at (lock_seat r) h ≡ None
+    → IsPart sizes (carry_in path m h) (Take n (query_in path q)) (bind (lock_left r h) (looked path q (beside_in path m (lock_seat r) h) (number_at (lock_seat r) h)))
+take_is_part sizes path m n q h r program named free =
+    let c : Carry = beside_in path m (lock_seat r) h in
+    subst (λ (b : Carry). IsPart sizes b (Take n (query_in path q)) (bind (lock_left r h) (looked path q c (number_at (lock_seat r) h)))) (sym (none_beside path m h (lock_seat r) free))
+    (subst (λ (k : ℕ). IsPart sizes c (Take n (query_in path q)) (bind (lock_left r h) (looked path q c k))) (sym named)
+    (subst (λ (p : code.P Dinode). IsPart sizes c (Take n (query_in path q)) (bind p (looked path q c n))) (sym program)
+    (λ mark i. Do (steps.Lock n) unmarked (λ content. loads c content i))))
+  where
+    loads : (c : Carry) (content : Option Dinode) → plain (bind (load_unless sizes.inodestart n content) (handlers.looked (query_in path q) c n)) ≡ bind (bind (load_unless sizes.inodestart n content) (looked path q c n)) answers
+    loads c content =
+        load_then sizes.inodestart n content (handlers.looked (query_in path q) c n) (λ d. bind (looked path q c n d) answers) (λ d. looked_so path c n d q)
+        ∙ sym (bind-assoc (load_unless sizes.inodestart n content) (looked path q c n) answers)
+
+-- ---- what its routine asks of the hand
+
+pub take_asks : (sizes : Super) (n : ℕ) (k l : Seat) (h : Hand) → k ≡ seat_of_reference n h → l ≡ k → TakeBegins sizes n h
+    → IsSome (reference_at k h) × (inode_at k h ≡ None) × (inode_block sizes.inodestart (number_at k h) < 2 ^ 32) × (number_at l h ≡ n) × (inode_at l h ≡ None) × IsAlone (number_at l h) l h
+take_asks sizes n k l h is at begins =
+    let there : reference_at k h ≡ Some n = subst (λ (k : Seat). reference_at k h ≡ Some n) (sym is) begins.0 in
+    let free : inode_at k h ≡ None = subst (λ (k : Seat). inode_at k h ≡ None) (sym is) begins.1 in
+    let alone : IsAlone n k h = subst (λ (k : Seat). IsAlone n k h) (sym is) begins.2 in
+    let named : number_at k h ≡ n = ap (λ (o : Option ℕ). unwrap_or o 0) there in
+    let named_there : number_at l h ≡ n = (λ i. number_at (at i) h) ∙ named in (
+      ap (λ (o : Option ℕ). is_some o) there,
+      free,
+      subst (λ (n : ℕ). inode_block sizes.inodestart n < 2 ^ 32) (sym named) begins.4,
+      named_there,
+      subst (λ (k : Seat). inode_at k h ≡ None) (sym at) free,
+      subst (λ (n : ℕ). IsAlone n l h) (sym named_there) (subst (λ (k : Seat). IsAlone n k h) (sym at) alone),
+    )

@@ -1,0 +1,107 @@
+-- How an inode that is taken is looked at.
+use Rattle.std.proofs.Common.{◌≡◌, ℕ, List, true, Option, Some, None, refl, sym, ap, subst, ◌∙◌}
+use Rattle.std.specs.Prelude.{Bool}
+use Rattle.fs_layout.specs.declared.inode.Dinode.{Dinode}
+use Rattle.atomic_programs.specs.Prog.{Ret, bind}
+use Rattle.fs_machine.specs.Machines.{P}
+use Rattle.fs_machine.specs.Steps as steps
+use Rattle.directory.specs.Programs.{Aim}
+use Rattle.directory.specs.declared.found.Found.{Found}
+use Rattle.hands.specs.Controls.{Goes}
+use Rattle.hands.specs.Hands.{number_at}
+use Rattle.hands.specs.declared.hand.Hand.{Hand}
+use Rattle.hands.specs.declared.hand.Seat.{Seat}
+use Rattle.hands.specs.declared.hand.Seat.TheVariants.{One, Two}
+use Rattle.hand_controls.specs.HeldInodes.{record_in}
+use Rattle.hand_controls.specs.LoadingHeld.{beside_lock}
+use Rattle.hand_controls.specs.Locating.{Leaves}
+use Rattle.hand_controls.specs.LockingInodes.{lock_left, lock_seat, HasLocked}
+use Rattle.hand_controls.specs.declared.lock_inode.LockInode.{LockInode}
+use Rattle.hand_controls.proofs.Goings.{goes_to, goes_with}
+use Rattle.content_parts.specs.Searching.{search_left}
+use Rattle.content_parts.specs.declared.search.Search.{Search}
+use Rattle.inodes_on_blocks.specs.Lowering.{Carry}
+use Rattle.whole_calls.specs.declared.asks.Heard.{Heard}
+use Rattle.whole_calls.specs.declared.asks.Heard.TheVariants as heard
+use Rattle.whole_calls.specs.declared.asks.Query.{Query}
+use Rattle.inode_parts.specs.Carries.{carry_in, handed, with_note}
+use Rattle.inode_parts.specs.Faces.{face_unless_free}
+use Rattle.inode_parts.specs.OneSteps.{IsAlone}
+use Rattle.inode_parts.specs.Parts.{Part}
+use Rattle.inode_parts.specs.Sides.{beside_in}
+use Rattle.inode_parts.specs.Takes.{looked, seen, IsTaken}
+use Rattle.inode_parts.specs.declared.note.Note.{Note}
+use Rattle.inode_parts.specs.declared.note.Notes.{Notes}
+use Rattle.inode_parts.proofs.Locking.{had_now, lock_on, lock_over, other_stays, second_stays}
+use Rattle.inode_parts.proofs.Sides.{alone_still}
+
+-- ---- while it is locked the reference stays
+
+number_same : (k : Seat) (before h : Hand) → beside_lock k h ≡ beside_lock k before → number_at k before ≡ number_at k h
+number_same One before h same = sym (ap (number_at One) same)
+number_same Two before h same = sym (ap (number_at Two) same)
+
+pub alone_locked : (k l : Seat) (before h : Hand) → l ≡ k → beside_lock k h ≡ beside_lock k before → IsAlone (number_at k before) k before → IsAlone (number_at l h) l h
+alone_locked k l before h is same alone =
+    subst (λ (l : Seat). IsAlone (number_at l h) l h) (sym is)
+    (subst (λ (n : ℕ). IsAlone n k h) (number_same k before h same) (alone_still k before h (number_at k before) (other_stays k before h same) alone))
+
+pub is_taken : (k l : Seat) (before h : Hand) → l ≡ k → beside_lock k h ≡ beside_lock k before → IsAlone (number_at k before) k before → HasLocked l h → IsTaken l h
+is_taken k l before h is same alone has = (has.0, has.1, alone_locked k l before h is same alone)
+
+module _ (path : List ℕ) (m : Notes) (q : Query) (k : Seat) (before h : Hand) (p : P Dinode) (answer : (o : steps.Op) → steps.Answer o) (same : beside_lock k h ≡ beside_lock k before) where
+  pub take_on : (l : Seat) (r : P Dinode) → l ≡ k → Goes p answer r
+      → Goes (bind p (looked path q (beside_in path m k before) (number_at k before))) answer (bind r (looked path q (beside_in path m l h) (number_at l h)))
+  take_on l r at goes =
+      goes_to (bind p (looked path q (beside_in path m k before) (number_at k before))) (bind r (looked path q (beside_in path m l h) (number_at k before))) (bind r (looked path q (beside_in path m l h) (number_at l h))) answer
+      (lock_on (λ c. looked path q c (number_at k before)) path m k before h p answer same l r at goes)
+      (λ i. bind r (looked path q (beside_in path m l h) ((number_same k before h same ∙ (λ j. number_at (sym at j) h)) i)))
+
+  pub take_over : (l : Seat) (r : Part) → l ≡ k → looked path q (beside_in path m l h) (number_at l h) (record_in l h) ≡ r → Goes p answer (Ret (record_in l h)) → Goes (bind p (looked path q (beside_in path m k before) (number_at k before))) answer r
+  take_over l r at e goes =
+      lock_over (λ c. looked path q c (number_at k before)) path m k before h p answer same (record_in l h) r
+      ((λ i. looked path q (beside_in path m (sym at i) h) ((number_same k before h same ∙ (λ j. number_at (sym at j) h)) i) (record_in l h)) ∙ e) goes
+
+-- ---- while it is searched all but the buffers stays
+
+record_same : (k : Seat) (before h : Hand) → Leaves before h → record_in k before ≡ record_in k h
+record_same One before h same = sym (ap (record_in One) same)
+record_same Two before h same = sym (ap (record_in Two) same)
+
+pub taken_stays : (k : Seat) (before h : Hand) → Leaves before h → IsTaken k before → IsTaken k h
+taken_stays One before h same is = subst (λ (h : Hand). IsTaken One h) (sym same) is
+taken_stays Two before h same is = subst (λ (h : Hand). IsTaken Two h) (sym same) is
+
+module _ (ends : Carry → ℕ → Dinode → Option Found → Part) (path : List ℕ) (m : Notes) (k : Seat) (before h : Hand) (aim : Aim) (s : Search) (answer : (o : steps.Op) → steps.Answer o) (same : Leaves before h) (inode : Dinode) (is : inode ≡ record_in k h) where
+  abbrev at : Hand → Option Found → Part
+  at h = ends (beside_in path m k h) (number_at k h) (record_in k h)
+
+  at_same : at before ≡ at h
+  at_same = by k
+    where
+      by : (k : Seat) → ends (beside_in path m k before) (number_at k before) (record_in k before) ≡ ends (beside_in path m k h) (number_at k h) (record_in k h)
+      by One = sym (ap (λ (h : Hand). ends (beside_in path m One h) (number_at One h) (record_in One h)) same)
+      by Two = sym (ap (λ (h : Hand). ends (beside_in path m Two h) (number_at Two h) (record_in Two h)) same)
+
+  pub search_on : (t : Search) → Goes (search_left aim inode s before) answer (search_left aim inode t h) → Goes (bind (search_left aim (record_in k before) s before) (at before)) answer (bind (search_left aim (record_in k h) t h) (at h))
+  search_on t goes =
+      subst (λ (d : Dinode). Goes (bind (search_left aim d s before) (at before)) answer (bind (search_left aim (record_in k h) t h) (at h))) (sym (record_same k before h same))
+      (goes_with (search_left aim (record_in k h) s before) (search_left aim (record_in k h) t h) (at before) (at h) answer at_same
+      (subst (λ (d : Dinode). Goes (search_left aim d s before) answer (search_left aim d t h)) is goes))
+
+  pub search_over : (o : Option Found) (r : Part) → at h o ≡ r → Goes (search_left aim inode s before) answer (Ret o) → Goes (bind (search_left aim (record_in k before) s before) (at before)) answer r
+  search_over o r e goes =
+      subst (λ (d : Dinode). Goes (bind (search_left aim d s before) (at before)) answer r) (sym (record_same k before h same))
+      (goes_to (bind (search_left aim (record_in k h) s before) (at before)) (at h o) r answer
+      (goes_with (search_left aim (record_in k h) s before) (Ret o) (at before) (at h) answer at_same
+      (subst (λ (d : Dinode). Goes (search_left aim d s before) answer (Ret o)) is goes)) e)
+
+-- ---- what was seen
+
+pub seen_ends : (path : List ℕ) (m m2 : Notes) (k : Seat) (h : Hand) (l : Note) (d : Dinode) (found : Option ℕ) (empty : Bool) (x : Heard) → d ≡ record_in k h → IsTaken k h
+    → x ≡ heard.Saw (record { face = face_unless_free d; found = found; empty = empty }) → m2 ≡ with_note k l m → seen path (beside_in path m k h) (number_at k h) (record_in k h) l found empty ≡ Ret (handed path m2 x h)
+seen_ends path m m2 k h l d found empty x is taken heard_so noted =
+    λ i. Ret (record {
+      answer = (ap (λ (d : Dinode). heard.Saw (record { face = face_unless_free d; found = found; empty = empty })) (sym is) ∙ sym heard_so) i;
+      carry = (had_now path m k h l (number_at k h) taken.0 taken.1 taken.2 ∙ ap (λ (m : Notes). carry_in path m h) (sym noted)) i;
+    })

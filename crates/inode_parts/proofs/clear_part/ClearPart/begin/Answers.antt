@@ -1,0 +1,27 @@
+use Rattle.std.proofs.Common.{ℕ, ap, ◌∙◌}
+use Rattle.fs_layout.specs.declared.entry.Dirent.TheVariants.{Free}
+use Rattle.fs_layout.specs.declared.inode.Dinode.{Dinode}
+use Rattle.fs_machine.specs.Machines.{P}
+use Rattle.directory.specs.Programs.{put_entry}
+use Rattle.hands.specs.declared.hand.Seat.{Seat}
+use Rattle.hand_controls.specs.HeldInodes.{record_in}
+use Rattle.inode_parts.specs.Carries.{note_at}
+use Rattle.inode_parts.specs.Clears.{slot_in}
+use Rattle.inode_parts.specs.OneSteps.{seat_of_lock}
+use Rattle.inode_parts.proofs.Clears.{clear_is_part}
+use Rattle.inode_parts.proofs.clear_part.ClearPart.begin.Goals as goal
+
+pub returns-clause-part : goal.returns-clause-part
+returns-clause-part c path name begins =
+    let sizes = c.args.sizes.now in
+    let n = c.args.number in
+    let m = c.args.notes.now in
+    let before = c.args.hand.now in
+    let is = c.lock_seat-seat.ensures in
+    let there = c.record_at.ensures ∙ ap (λ (k : Seat). record_in k before) is in
+    let slot = c.found_slot.ensures ∙ ap (λ (k : Seat). slot_in (note_at k m)) is in
+    let program =
+    c.new-clear.ensures.program before
+    ∙ ap (λ (d : Dinode). let p : P Dinode = put_entry sizes.inodestart n d c.found_slot.result Free in p) there
+    ∙ ap (λ (s : ℕ). let p : P Dinode = put_entry sizes.inodestart n (record_in (seat_of_lock n before) before) s Free in p) slot in
+    clear_is_part sizes path m n name before (record { seat = c.lock_seat-seat.result; clear = c.new-clear.result }) begins is program

@@ -1,0 +1,23 @@
+use Rattle.std.proofs.Common.{refl}
+use Rattle.atomic_programs.specs.Prog.{Ret}
+use Rattle.hands.specs.Ops.{answer_in}
+use Rattle.content_parts.specs.Entering.{entered_as}
+use Rattle.inode_parts.specs.Carries.{handed}
+use Rattle.inode_parts.specs.Enters.{enter_part_asked}
+use Rattle.inode_parts.specs.Parts.{Part}
+use Rattle.inode_parts.proofs.Enters.{enter_ends, enter_on}
+use Rattle.inode_parts.proofs.enter_part.EnterPart.next.Goals as goal
+
+pub returns-in-None-clause-goes : goal.returns-in-None-clause-goes
+returns-in-None-clause-goes c path before ready after =
+    let p = c.args.self.now in
+    let did = c.in-None.ensures in
+    enter_on path c.args.notes.now p before c.next.new.hand (answer_in (enter_part_asked p) c.args.answer c.args.hand.now) (did.beside before ready.0 after) (record { seat = p.seat; enter = c.next.new.self }) refl (did.goes before ready.0 after)
+
+pub returns-in-Some-clause-goes : goal.returns-in-Some-clause-goes
+returns-in-Some-clause-goes c path before ready after =
+    let p = c.args.self.now in
+    let did = c.in-Some.ensures in
+    let answer = answer_in (enter_part_asked p) c.args.answer c.args.hand.now in
+    let last : Part = Ret (handed path c.hear.new.notes c.hear.result c.hear.new.hand) in
+    enter_ends path c.args.notes.now p before c.next.new.hand answer (did.beside before ready.0 after) (entered_as c.in-Some.entered) last (c.hear.ensures.is path) (did.goes before ready.0 after)

@@ -1,0 +1,17 @@
+use Rattle.std.proofs.Common.{ap, ◌∙◌}
+use Rattle.fs_layout.specs.declared.inode.Dinode.{Dinode}
+use Rattle.hands.specs.declared.hand.Seat.{Seat}
+use Rattle.hand_controls.specs.HeldInodes.{record_in}
+use Rattle.content_parts.specs.Filling.{fill}
+use Rattle.inode_parts.proofs.Fills.{fill_is_part}
+use Rattle.inode_parts.proofs.fill_part.FillPart.begin.Goals as goal
+
+pub returns-clause-part : goal.returns-clause-part
+returns-clause-part c path notes =
+    let sizes = c.args.sizes.now in
+    let n = c.args.number in
+    let before = c.args.hand.now in
+    let is = c.lock_seat-seat.ensures in
+    let there = c.record_at-inode.ensures ∙ ap (λ (k : Seat). record_in k before) is in
+    let program = c.new-fill.ensures.program before ∙ ap (λ (d : Dinode). fill sizes n d c.args.parent) there in
+    fill_is_part sizes path notes n c.args.parent before (record { seat = c.lock_seat-seat.result; fill = c.new-fill.result }) c.requires.begins.0.0 is program

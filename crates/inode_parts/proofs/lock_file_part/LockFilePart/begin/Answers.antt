@@ -1,0 +1,14 @@
+use Rattle.hand_controls.specs.LockingFiles.{file_seat}
+use Rattle.inode_parts.proofs.FileLocks.{lock_file_is_part}
+use Rattle.inode_parts.proofs.Locking.{first_seat}
+use Rattle.inode_parts.proofs.lock_file_part.LockFilePart.begin.Goals as goal
+
+pub returns-clause-part : goal.returns-clause-part
+returns-clause-part c path m =
+    let free = first_seat (file_seat c.new-lock.result) c.args.hand.now c.new-lock.ensures.seat c.requires.begins.1 c.requires.begins.2 in
+    lock_file_is_part c.args.sizes.now path m c.args.fd c.args.hand.now c.new-lock.result (c.new-lock.ensures.program c.args.hand.now) free.0
+
+pub returns-clause-ready : goal.returns-clause-ready
+returns-clause-ready c =
+    let free = first_seat (file_seat c.new-lock.result) c.args.hand.now c.new-lock.ensures.seat c.requires.begins.1 c.requires.begins.2 in
+    (c.new-lock.ensures.ready c.args.hand.now c.requires.begins.1 c.requires.begins.3, free.1)

@@ -1,0 +1,74 @@
+use Rattle.std.proofs.Common.{refl, sym, subst}
+use Rattle.whole_calls.specs.Asks.{op_in}
+use Rattle.whole_calls.specs.Elements.{name_in}
+use Rattle.whole_calls.specs.declared.asks.Ask.{Ask}
+use Rattle.inode_parts.specs.Carries.{carry_in}
+use Rattle.inode_parts.specs.InodeParts.{part_left, AskTold, PartBegins, PartReady, PartTold}
+use Rattle.inode_parts.specs.OneSteps.{step_for}
+use Rattle.inode_parts.specs.Parts.{IsPart}
+use Rattle.inode_parts.specs.declared.part.InodePart.{InodePart}
+use Rattle.inode_parts.proofs.Begins.{is_part, is_ready, short_begins, told_for}
+use Rattle.inode_parts.specs.declared.part.InodePart.TheVariants as part
+use Rattle.inode_parts.proofs.part.InodePart.begin.Goals as goal
+
+pub returns-in-Store-clause-part : goal.returns-in-Store-clause-part
+returns-in-Store-clause-part c = rw c.in-Store.is (c.begin.ensures.part c.args.path.now c.args.notes.now)
+
+pub returns-in-Empty-clause-part : goal.returns-in-Empty-clause-part
+returns-in-Empty-clause-part c = rw c.in-Empty.is (c.begin-in-Empty.ensures.part c.args.path.now c.args.notes.now)
+
+pub begin-requires-in-Clear : goal.begin-requires-in-Clear
+begin-requires-in-Clear c =
+    let path = c.args.path.now in
+    let begins = subst (λ (a : Ask). PartBegins c.args.sizes.now path c.args.notes.now (op_in path a) c.args.hand.now) c.in-Clear.is c.requires.begins in
+    record { begins = (path, name_in path c.in-Clear.field-1, begins) }
+
+pub returns-in-Enter-clause-part : goal.returns-in-Enter-clause-part
+returns-in-Enter-clause-part c = rw c.in-Enter.is (c.begin-in-Enter.ensures.part c.args.path.now c.args.notes.now)
+
+pub returns-in-Clear-clause-part : goal.returns-in-Clear-clause-part
+returns-in-Clear-clause-part c =
+    let path = c.args.path.now in
+    let m = c.args.notes.now in
+    let begins = c.requires.begins in
+    subst (λ (a : Ask). PartBegins c.args.sizes.now path m (op_in path a) c.args.hand.now → IsPart c.args.sizes.now (carry_in path m c.args.hand.now) (op_in path a) (part_left path m (part.Clear c.begin-in-Clear.result) c.args.hand.now)) (sym c.in-Clear.is)
+    (λ begins. c.begin-in-Clear.ensures.part path (name_in path c.in-Clear.field-1) begins) begins
+
+pub returns-in-Fill-clause-part : goal.returns-in-Fill-clause-part
+returns-in-Fill-clause-part c = rw c.in-Fill.is (c.begin-in-Fill.ensures.part c.args.path.now c.args.notes.now)
+
+pub returns-in-Free-clause-part : goal.returns-in-Free-clause-part
+returns-in-Free-clause-part c = rw c.in-Free.is (c.begin-in-Free.ensures.part c.args.path.now c.args.notes.now)
+
+pub returns-in-Claim-clause-part : goal.returns-in-Claim-clause-part
+returns-in-Claim-clause-part c = rw c.in-Claim.is (c.begin-in-Claim.ensures.part c.args.path.now c.args.notes.now)
+
+pub returns-in-LockOpen-clause-part : goal.returns-in-LockOpen-clause-part
+returns-in-LockOpen-clause-part c = rw c.in-LockOpen.is (c.begin-in-LockOpen.ensures.part c.args.path.now c.args.notes.now c.in-LockOpen.field-1)
+
+pub returns-in-LockFile-clause-part : goal.returns-in-LockFile-clause-part
+returns-in-LockFile-clause-part c = rw c.in-LockFile.is (c.begin-in-LockFile.ensures.part c.args.path.now c.args.notes.now)
+
+pub returns-in-Take-clause-part : goal.returns-in-Take-clause-part
+returns-in-Take-clause-part c = rw c.in-Take.is (c.begin-in-Take.ensures.part c.args.path.now c.args.notes.now)
+
+pub returns-in-Take-clause-told : goal.returns-in-Take-clause-told
+returns-in-Take-clause-told c = c.begin-in-Take.ensures.told c.args.path.now (subst (λ (a : Ask). AskTold c.args.path.now a) c.in-Take.is c.requires.told)
+
+pub returns-in_default : goal.returns-in_default
+returns-in_default c =
+    let sizes = c.args.sizes.now in
+    let path = c.args.path.now in
+    let m = c.args.notes.now in
+    let h = c.args.hand.now in
+    let op = op_in path c.args.ask in
+    let no = c.in_default in
+    let has = short_begins sizes path m c.args.ask h c.requires.begins no.not-Store no.not-Empty no.not-Enter no.not-Clear no.not-Fill no.not-Free no.not-Claim no.not-LockOpen no.not-LockFile no.not-Take in
+    let is = c.one_or_leave.ensures.is path in
+    record {
+      part = subst (λ (p : InodePart). IsPart sizes (carry_in path m h) op (part_left path m p h)) (sym is) (is_part sizes path m h op has);
+      ready = subst (λ (p : InodePart). PartReady p h) (sym is) (is_ready op h has);
+      told = subst (λ (p : InodePart). PartTold path p) (sym is) (told_for path (step_for op h));
+      known = λ begins. (is, refl);
+      hand = refl;
+    }

@@ -1,0 +1,18 @@
+use Rattle.std.proofs.Common.{◌≡◌, subst}
+use Rattle.inode_table.specs.Programs.{store}
+use Rattle.hands.specs.declared.hand.Seat.{Seat}
+use Rattle.hands.specs.Hands.{with_record}
+use Rattle.hand_controls.specs.HeldInodes.{counted, number_in, record_in}
+use Rattle.hand_controls.specs.StoringRecords.{record_left}
+use Rattle.inode_parts.proofs.Stores.{store_is_part}
+use Rattle.inode_parts.proofs.store_part.StorePart.begin.Goals as goal
+
+pub returns-clause-part : goal.returns-clause-part
+returns-clause-part c path notes =
+    let sizes = c.args.sizes.now in
+    let before = c.args.hand.now in
+    let h = c.with_count-store.new.hand in
+    let is = c.lock_seat-seat.ensures in
+    let hand = subst (λ (k : Seat). h ≡ with_record k (counted c.args.count (record_in k before)) before) is c.with_count-store.ensures.hand in
+    let program = subst (λ (k : Seat). record_left c.with_count-store.result h ≡ store sizes.inodestart (number_in k before) (counted c.args.count (record_in k before))) is c.with_count-store.ensures.program in
+    store_is_part sizes path notes c.args.number c.args.count before (record { seat = c.lock_seat-seat.result; store = c.with_count-store.result }) h c.requires.begins.0.0 is hand program

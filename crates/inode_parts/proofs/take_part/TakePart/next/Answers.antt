@@ -1,0 +1,108 @@
+use Rattle.std.proofs.Common.{ℕ, List, true, None, sym, subst}
+use Rattle.std.specs.Prelude.{is_some, not}
+use Rattle.atomic_programs.specs.Prog.{Ret}
+use Rattle.directory.specs.Programs.{Entry, Named}
+use Rattle.hands.specs.Controls.{Goes}
+use Rattle.hands.specs.Ops.{answer_in}
+use Rattle.hand_controls.specs.LockingInodes.{lock_left, lock_asked, lock_seat}
+use Rattle.content_parts.specs.Searching.{search_left, search_asked}
+use Rattle.inodes_on_blocks.specs.Reading.{number_found}
+use Rattle.whole_calls.specs.Elements.{name_in}
+use Rattle.inode_parts.specs.Takes.{listed_ends, named_ends, note_of, TakeTold}
+use Rattle.inode_parts.specs.declared.note.Note.TheVariants as note
+use Rattle.inode_parts.specs.declared.take_part.TakePart.{TakePart}
+use Rattle.inode_parts.proofs.Taking.{search_on, search_over, seen_ends, take_on, take_over, taken_stays}
+use Rattle.inode_parts.proofs.take_part.TakePart.next.Goals as goal
+
+pub returns-in-None-clause-goes : goal.returns-in-None-clause-goes
+returns-in-None-clause-goes c before =
+    let q = c.in-Locking.query in
+    let r = c.in-Locking.lock in
+    let h = c.next.new.hand in
+    let s = c.next.new.self in
+    let did = c.in-None.ensures in
+    rw c.in-Locking.is (λ ready after.
+    take_on c.args.path.now c.args.notes.now q (lock_seat r) before h (lock_left r before) (answer_in (lock_asked r) c.args.answer c.args.hand.now) (did.beside before ready.0 after) (lock_seat s) (lock_left s h) did.about (did.goes before ready.0 after))
+
+pub returns-in-Is-clause-goes : goal.returns-in-Is-clause-goes
+returns-in-Is-clause-goes c before =
+    let path = c.args.path.now in
+    let r = c.in-Locking.lock in
+    let did = c.in-Some.ensures in
+    rw c.in-Locking.is (λ ready after.
+    take_over path c.args.notes.now c.in-Locking.query (lock_seat r) before c.next.new.hand (lock_left r before) (answer_in (lock_asked r) c.args.answer c.args.hand.now) (did.beside before ready.0 after) c.in-Some.seat _ did.ends.0
+    (sym (c.in-Is.ensures.program path)) (did.goes before ready.0 after))
+
+pub returns-in-Runs-clause-goes : goal.returns-in-Runs-clause-goes
+returns-in-Runs-clause-goes c before =
+    let path = c.args.path.now in
+    let r = c.in-Locking.lock in
+    let did = c.in-Some.ensures in
+    rw c.in-Locking.is (λ ready after.
+    take_over path c.args.notes.now c.in-Locking.query (lock_seat r) before c.next.new.hand (lock_left r before) (answer_in (lock_asked r) c.args.answer c.args.hand.now) (did.beside before ready.0 after) c.in-Some.seat _ did.ends.0
+    (sym (c.in-Runs.ensures.program path)) (did.goes before ready.0 after))
+
+pub returns-in-Runs-clause-told : goal.returns-in-Runs-clause-told
+returns-in-Runs-clause-told c =
+    let path = c.args.path.now in
+    c.in-Runs.ensures.told path (subst (λ (p : TakePart). TakeTold path p) c.in-Locking.is c.requires.told)
+
+pub returns-in-None-next-clause-goes : goal.returns-in-None-next-clause-goes
+returns-in-None-next-clause-goes c before =
+    let path = c.args.path.now in
+    let h = c.args.hand.now in
+    let e = c.in-Naming.element in
+    let s = c.in-Naming.search in
+    let t = c.next-in-Naming.new.self in
+    let inode = c.record_at-inode.result in
+    let did = c.in-None-next.ensures in
+    let answer = answer_in (search_asked s) c.args.answer h in
+    rw c.in-Naming.is (λ ready after.
+    search_on (λ c n d. named_ends path c n d e) path c.args.notes.now c.in-Naming.seat before h (Named (name_in path e)) s answer (did.beside before ready.0 after) inode c.record_at-inode.ensures t
+    (subst (λ (name : List ℕ). Goes (search_left (Named name) inode s before) answer (search_left (Named name) inode t h)) c.name.ensures (did.goes before ready.0 after)))
+
+pub returns-in-Some-next-clause-goes : goal.returns-in-Some-next-clause-goes
+returns-in-Some-next-clause-goes c before =
+    let path = c.args.path.now in
+    let m = c.args.notes.now in
+    let h = c.args.hand.now in
+    let k = c.in-Naming.seat in
+    let e = c.in-Naming.element in
+    let s = c.in-Naming.search in
+    let found = c.in-Some-next.found in
+    let inode = c.record_at-inode.result in
+    let is = c.record_at-inode.ensures in
+    let did = c.in-Some-next.ensures in
+    let answer = answer_in (search_asked s) c.args.answer h in
+    rw c.in-Naming.is (λ ready after.
+    let same = did.beside before ready.0 after in
+    search_over (λ c n d. named_ends path c n d e) path m k before h (Named (name_in path e)) s answer same inode is found _
+    (seen_ends path m c.named.new.notes k h (note_of e found) inode (number_found found) true c.named.result is (taken_stays k before h same ready.1) c.named.ensures.heard c.named.ensures.notes)
+    (subst (λ (name : List ℕ). Goes (search_left (Named name) inode s before) answer (Ret found)) c.name.ensures (did.goes before ready.0 after)))
+
+pub returns-in-None-next-2-clause-goes : goal.returns-in-None-next-2-clause-goes
+returns-in-None-next-2-clause-goes c before =
+    let path = c.args.path.now in
+    let h = c.args.hand.now in
+    let s = c.in-Listing.search in
+    let did = c.in-None-next-2.ensures in
+    rw c.in-Listing.is (λ ready after.
+    search_on (listed_ends path) path c.args.notes.now c.in-Listing.seat before h Entry s (answer_in (search_asked s) c.args.answer h) (did.beside before ready.0 after) c.record_at-inode-in-Listing.result c.record_at-inode-in-Listing.ensures
+    c.next-in-Listing.new.self (did.goes before ready.0 after))
+
+pub returns-in-Some-next-2-clause-goes : goal.returns-in-Some-next-2-clause-goes
+returns-in-Some-next-2-clause-goes c before =
+    let path = c.args.path.now in
+    let m = c.args.notes.now in
+    let h = c.args.hand.now in
+    let k = c.in-Listing.seat in
+    let s = c.in-Listing.search in
+    let found = c.in-Some-next-2.found in
+    let inode = c.record_at-inode-in-Listing.result in
+    let is = c.record_at-inode-in-Listing.ensures in
+    let did = c.in-Some-next-2.ensures in
+    rw c.in-Listing.is (λ ready after.
+    let same = did.beside before ready.0 after in
+    search_over (listed_ends path) path m k before h Entry s (answer_in (search_asked s) c.args.answer h) same inode is found _
+    (seen_ends path m c.listed.new.notes k h note.Nothing inode None (not (is_some found)) c.listed.result is (taken_stays k before h same ready.1) c.listed.ensures.heard c.listed.ensures.notes)
+    (did.goes before ready.0 after))

@@ -1,0 +1,47 @@
+use Rattle.std.proofs.Common.{◌≡◌, true, Option, None, sym, subst, ◌∙◌}
+use Rattle.std.specs.Prelude.{is_some, not}
+use Rattle.fs_layout.specs.declared.inode.Dinode.{Dinode}
+use Rattle.atomic_programs.specs.Prog.{Ret, bind}
+use Rattle.fs_machine.specs.Machines.{P}
+use Rattle.directory.specs.Programs.{lookup}
+use Rattle.directory.specs.declared.found.Found.{Found}
+use Rattle.content_parts.specs.Searching.{entries}
+use Rattle.hands.specs.Hands.{number_at}
+use Rattle.hand_controls.specs.HeldInodes.{record_in}
+use Rattle.inodes_on_blocks.specs.Reading.{number_found}
+use Rattle.whole_calls.specs.Elements.{name_in}
+use Rattle.inode_parts.specs.Sides.{beside_in}
+use Rattle.inode_parts.specs.Takes.{listed_ends, named_ends, note_of}
+use Rattle.inode_parts.specs.declared.note.Note.TheVariants as note
+use Rattle.inode_parts.proofs.Taking.{seen_ends}
+use Rattle.inode_parts.proofs.take_part.look.Goals as goal
+
+pub returns-in-Nothing-clause-program : goal.returns-in-Nothing-clause-program
+returns-in-Nothing-clause-program c path =
+    rw c.in-Nothing.is (sym
+    (seen_ends path c.args.notes.now c.set.new.self c.args.seat c.args.hand.now note.Nothing c.record_at-inode.result None true c.saw.result c.record_at-inode.ensures c.requires.taken c.saw.ensures c.set.ensures))
+
+pub returns-in-Is-clause-program : goal.returns-in-Is-clause-program
+returns-in-Is-clause-program c path =
+    let m = c.args.notes.now in
+    let k = c.args.seat in
+    let h = c.args.hand.now in
+    let e = c.in-Name.element in
+    let found = c.in-Is.found in
+    let is = c.record_at-inode.ensures in
+    let prog = subst (λ (d : Dinode). let p : P (Option Found) = lookup (name_in path e) d in Ret found ≡ p) is (c.in-Is.ensures.program (name_in path e) h) in
+    rw c.in-Name.is
+    (sym (seen_ends path m c.named.new.notes k h (note_of e found) c.record_at-inode.result (number_found found) true c.named.result is c.requires.taken c.named.ensures.heard c.named.ensures.notes)
+    ∙ (λ i. bind (prog i) (named_ends path (beside_in path m k h) (number_at k h) (record_in k h) e)))
+
+pub returns-in-Is-entries-clause-program : goal.returns-in-Is-entries-clause-program
+returns-in-Is-entries-clause-program c path =
+    let m = c.args.notes.now in
+    let k = c.args.seat in
+    let h = c.args.hand.now in
+    let found = c.in-Is-entries.found in
+    let is = c.record_at-inode.ensures in
+    let prog = subst (λ (d : Dinode). let p : P (Option Found) = entries d in Ret found ≡ p) is (c.in-Is-entries.ensures.program h) in
+    rw c.in-Entries.is
+    (sym (seen_ends path m c.listed.new.notes k h note.Nothing c.record_at-inode.result None (not (is_some found)) c.listed.result is c.requires.taken c.listed.ensures.heard c.listed.ensures.notes)
+    ∙ (λ i. bind (prog i) (listed_ends path (beside_in path m k h) (number_at k h) (record_in k h))))

@@ -1,0 +1,25 @@
+-- Operations that change an inode: what each asks of the hand, and how it ends.
+use Rattle.std.specs.Prelude.{◌<◌, ◌^◌, ℕ, List, IsSome}
+use Rattle.fs_layout.specs.declared.inode.Dinode.{Dinode}
+use Rattle.fs_layout.specs.declared.superblock.Super.{Super}
+use Rattle.atomic_programs.specs.Prog.{Ret}
+use Rattle.inode_table.specs.Programs.{inode_block}
+use Rattle.hands.specs.declared.hand.Hand.{Hand}
+use Rattle.hands.specs.declared.hand.Seat.{Seat}
+use Rattle.hands.specs.Hands.{with_record}
+use Rattle.hand_controls.specs.Emptying.{HasNoBuffer}
+use Rattle.hand_controls.specs.HeldInodes.{IsLoadedAt}
+use Rattle.whole_calls.specs.declared.asks.Heard.{Heard}
+use Rattle.inode_parts.specs.Carries.{handed, with_note}
+use Rattle.inode_parts.specs.OneSteps.{HasLock, seat_of_lock}
+use Rattle.inode_parts.specs.Parts.{Part}
+use Rattle.inode_parts.specs.declared.note.Note.TheVariants as note
+use Rattle.inode_parts.specs.declared.note.Notes.{Notes}
+
+-- the inode's lock is in hand, with its record; its block has a number; there is a transaction, and no buffer in hand
+abbrev pub MayChange : Super → ℕ → Hand → Type 0
+MayChange sizes n h = HasLock n h × IsLoadedAt (seat_of_lock n h) h × (inode_block sizes.inodestart n < 2 ^ 32) × IsSome h.txn × HasNoBuffer h
+
+-- this is heard; the inode at a seat has this record, and nothing more is known of it
+abbrev pub changed : List ℕ → Notes → Seat → Heard → Hand → Dinode → Part
+changed path m k x h d = Ret (handed path (with_note k note.Nothing m) x (with_record k d h))

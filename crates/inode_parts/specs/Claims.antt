@@ -1,0 +1,46 @@
+-- A new inode, as a part.
+use Rattle.std.specs.Prelude.{◌+◌, ◌<◌, ◌^◌, List, ℕ, IsSome}
+use Rattle.fs_layout.specs.declared.superblock.Super.{Super}
+use Rattle.atomic_programs.specs.Prog.{Ret, bind}
+use Rattle.inode_table.specs.NewInodes.{inode_blocks}
+use Rattle.inode_table.specs.declared.new_inode.Made.{Made}
+use Rattle.inode_table.specs.declared.new_inode.Made.TheVariants as made
+use Rattle.hands.specs.declared.hand.Hand.{Hand}
+use Rattle.hands.specs.declared.op.Op.{Op}
+use Rattle.hand_controls.specs.Emptying.{HasNoBuffer}
+use Rattle.hand_controls.specs.Making.{new_left, new_asked, NewReady}
+use Rattle.inodes_on_blocks.specs.Lowering.{Carry}
+use Rattle.whole_calls.specs.declared.asks.Claimed.{Claimed}
+use Rattle.whole_calls.specs.declared.asks.Claimed.TheVariants as claimed
+use Rattle.whole_calls.specs.declared.asks.Heard.TheVariants as heard
+use Rattle.inode_parts.specs.Carries.{carry_in}
+use Rattle.inode_parts.specs.OneSteps.{HasFreeSeat}
+use Rattle.inode_parts.specs.Parts.{Part}
+use Rattle.inode_parts.specs.declared.claim_part.ClaimPart.{ClaimPart}
+use Rattle.inode_parts.specs.declared.note.Notes.{Notes}
+
+abbrev pub claimed_by : Made → Claimed
+claimed_by (made.Inode n) = claimed.New n
+claimed_by made.NoPlace = claimed.NoPlace
+claimed_by made.NoInode = claimed.NoInode
+
+-- the locks stay as they are
+abbrev pub claim_ends : Carry → Made → Part
+claim_ends c a = Ret (record { answer = heard.Claimed (claimed_by a); carry = c })
+
+abbrev pub claim_left : List ℕ → Notes → ClaimPart → Hand → Part
+claim_left path m p h = bind (new_left p.claim h) (claim_ends (carry_in path m h))
+
+abbrev pub claim_asked : ClaimPart → Op
+claim_asked p = new_asked p.claim
+
+abbrev pub ClaimReady : ClaimPart → Hand → Type 0
+ClaimReady p h = NewReady p.claim h
+
+-- the disk has inodes, and their blocks have numbers
+abbrev pub HasInodeTable : Super → Type 0
+HasInodeTable sizes = (0 < sizes.ninodes) × (sizes.inodestart + inode_blocks sizes.ninodes < 2 ^ 32)
+
+-- what it asks of the hand
+abbrev pub ClaimBegins : Super → Hand → Type 0
+ClaimBegins sizes h = HasInodeTable sizes × HasFreeSeat h × HasNoBuffer h × IsSome h.txn

@@ -1,0 +1,44 @@
+-- A name cleared, as a part.
+use Rattle.std.specs.Prelude.{◌≡◌, ◌<◌, ℕ, List, true, IsSome}
+use Rattle.plain_tree.specs.Tree.{Name, same_name}
+use Rattle.fs_layout.specs.declared.superblock.Super.{Super}
+use Rattle.atomic_programs.specs.Prog.{bind}
+use Rattle.directory.specs.Programs.{most_slots}
+use Rattle.hands.specs.declared.hand.Hand.{Hand}
+use Rattle.hands.specs.declared.hand.Seat.{Seat}
+use Rattle.hands.specs.declared.op.Op.{Op}
+use Rattle.hands.specs.Hands.{inode_at}
+use Rattle.content_parts.specs.Clearing.{clear_left, clear_asked, ClearReady}
+use Rattle.whole_calls.specs.Elements.{name_in}
+use Rattle.whole_calls.specs.declared.asks.Heard.TheVariants as heard
+use Rattle.inode_parts.specs.Carries.{note_at}
+use Rattle.inode_parts.specs.Changes.{changed, MayChange}
+use Rattle.inode_parts.specs.OneSteps.{seat_of_lock}
+use Rattle.inode_parts.specs.Parts.{Part}
+use Rattle.inode_parts.specs.declared.note.Note.{Note}
+use Rattle.inode_parts.specs.declared.note.Note.TheVariants as note
+use Rattle.inode_parts.specs.declared.note.Notes.{Notes}
+use Rattle.inode_parts.specs.declared.clear_part.ClearPart.{ClearPart}
+
+abbrev pub clear_part_left : List ℕ → Notes → ClearPart → Hand → Part
+clear_part_left path m p h = bind (clear_left p.clear h) (changed path m p.seat heard.Did h)
+
+abbrev pub clear_part_asked : ClearPart → Op
+clear_part_asked p = clear_asked p.clear
+
+abbrev pub ClearPartReady : ClearPart → Hand → Type 0
+ClearPartReady p h = ClearReady p.clear h × IsSome (inode_at p.seat h)
+
+-- the search found this name, in a slot that a directory may have
+abbrev pub HasFound : List ℕ → Name → Note → Type 0
+HasFound path e (note.Finds x s) = (same_name (name_in path x) e ≡ true) × (s < most_slots)
+HasFound path e m = ⊥
+
+-- that slot
+abbrev pub slot_in : Note → ℕ
+slot_in (note.Finds x s) = s
+slot_in m = 0
+
+-- what it asks
+abbrev pub ClearBegins : Super → List ℕ → Notes → ℕ → Name → Hand → Type 0
+ClearBegins sizes path m n e h = MayChange sizes n h × HasFound path e (note_at (seat_of_lock n h) m)

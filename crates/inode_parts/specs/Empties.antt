@@ -1,0 +1,28 @@
+-- A content emptied, as a part.
+use Rattle.std.specs.Prelude.{ℕ, List}
+use Rattle.fs_layout.specs.declared.superblock.Super.{Super}
+use Rattle.atomic_programs.specs.Prog.{bind}
+use Rattle.hands.specs.declared.hand.Hand.{Hand}
+use Rattle.hands.specs.declared.hand.Seat.{Seat}
+use Rattle.hands.specs.declared.op.Op.{Op}
+use Rattle.hand_controls.specs.Emptying.{truncate_left, truncate_asked, emptying_of, TruncateReady}
+use Rattle.whole_calls.specs.declared.asks.Heard.TheVariants as heard
+use Rattle.inode_parts.specs.Changes.{changed, MayChange}
+use Rattle.inode_parts.specs.Parts.{Part}
+use Rattle.inode_parts.specs.declared.note.Notes.{Notes}
+use Rattle.inode_parts.specs.declared.empty_part.EmptyPart.{EmptyPart}
+
+abbrev pub empty_seat : EmptyPart → Seat
+empty_seat p = (emptying_of p.truncate).seat
+
+abbrev pub empty_part_left : List ℕ → Notes → EmptyPart → Hand → Part
+empty_part_left path m p h = bind (truncate_left p.truncate h) (changed path m (empty_seat p) heard.Did h)
+
+abbrev pub empty_part_asked : EmptyPart → Op
+empty_part_asked p = truncate_asked p.truncate
+
+abbrev pub EmptyPartReady : EmptyPart → Hand → Type 0
+EmptyPartReady p h = TruncateReady p.truncate h
+
+abbrev pub EmptyBegins : Super → ℕ → Hand → Type 0
+EmptyBegins sizes n h = MayChange sizes n h

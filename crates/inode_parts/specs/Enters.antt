@@ -1,0 +1,51 @@
+-- A name entered, as a part.
+use Rattle.std.specs.Prelude.{◌≤◌, ℕ, List, length, IsSome}
+use Rattle.fs_layout.specs.Name.{IsName}
+use Rattle.fs_layout.specs.Widths.{bits_per_block}
+use Rattle.fs_layout.specs.declared.inode.Dinode.{Dinode}
+use Rattle.fs_layout.specs.declared.superblock.Super.{Super}
+use Rattle.atomic_programs.specs.Prog.{Ret, bind}
+use Rattle.directory.specs.Entering.{EnteredState}
+use Rattle.directory.specs.declared.enter.Room.{Room}
+use Rattle.directory.specs.declared.enter.Room.TheVariants.{There, NoBlock, NoSlot}
+use Rattle.hands.specs.declared.hand.Hand.{Hand}
+use Rattle.hands.specs.declared.hand.Seat.{Seat}
+use Rattle.hands.specs.declared.op.Op.{Op}
+use Rattle.hands.specs.Hands.{inode_at}
+use Rattle.content_parts.specs.Entering.{enter_left, enter_asked, EnterReady}
+use Rattle.whole_calls.specs.declared.asks.Ask.{Ask}
+use Rattle.whole_calls.specs.declared.asks.Ask.TheVariants as ask
+use Rattle.whole_calls.specs.declared.asks.Entered.TheVariants as entry
+use Rattle.whole_calls.specs.declared.asks.Heard.TheVariants as heard
+use Rattle.inode_parts.specs.Carries.{handed}
+use Rattle.inode_parts.specs.Changes.{changed, MayChange}
+use Rattle.inode_parts.specs.Parts.{Part}
+use Rattle.inode_parts.specs.declared.note.Notes.{Notes}
+use Rattle.inode_parts.specs.declared.enter_part.EnterPart.{EnterPart}
+
+-- what is heard of the room for it; without a slot the directory is as it was
+abbrev pub entered_so : List ℕ → Notes → Seat → Hand → Dinode → Room → Part
+entered_so path m k h d There = changed path m k (heard.Entered entry.InPlace) h d
+entered_so path m k h d NoBlock = changed path m k (heard.Entered entry.NoBlock) h d
+entered_so path m k h d NoSlot = Ret (handed path m (heard.Entered entry.NoSlot) h)
+
+abbrev pub entered : List ℕ → Notes → Seat → Hand → EnteredState → Part
+entered path m k h r = entered_so path m k h r.inode r.room
+
+abbrev pub enter_part_left : List ℕ → Notes → EnterPart → Hand → Part
+enter_part_left path m p h = bind (enter_left p.enter h) (entered path m p.seat h)
+
+abbrev pub enter_part_asked : EnterPart → Op
+enter_part_asked p = enter_asked p.enter
+
+abbrev pub EnterPartReady : EnterPart → Hand → Type 0
+EnterPartReady p h = EnterReady p.enter h × IsSome (inode_at p.seat h)
+
+-- what it asks: the disk's blocks have bits, and the name is one
+abbrev pub EnterBegins : Super → ℕ → List ℕ → Hand → Type 0
+EnterBegins sizes n name h = MayChange sizes n h × (sizes.size ≤ bits_per_block) × IsName name
+
+-- a name that is asked for stands in the call's path
+abbrev pub AskStands : List ℕ → Ask → Type 0
+AskStands path (ask.Enter d e n) = (e.start ≤ e.end) × (e.end ≤ length path)
+AskStands path a = Unit {0}

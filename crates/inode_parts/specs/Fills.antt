@@ -1,0 +1,33 @@
+-- The names of a new directory written, as a part.
+use Rattle.std.specs.Prelude.{◌≤◌, ℕ, List, IsSome}
+use Rattle.fs_layout.specs.Widths.{bits_per_block}
+use Rattle.fs_layout.specs.declared.superblock.Super.{Super}
+use Rattle.atomic_programs.specs.Prog.{bind}
+use Rattle.hands.specs.declared.hand.Hand.{Hand}
+use Rattle.hands.specs.declared.hand.Seat.{Seat}
+use Rattle.hands.specs.declared.op.Op.{Op}
+use Rattle.hands.specs.Hands.{inode_at}
+use Rattle.content_parts.specs.Filling.{fill_left, fill_asked, FillReady}
+use Rattle.content_parts.specs.declared.fill.Filled.{Filled}
+use Rattle.whole_calls.specs.declared.asks.Heard.TheVariants as heard
+use Rattle.inode_parts.specs.Changes.{changed, MayChange}
+use Rattle.inode_parts.specs.Parts.{Part}
+use Rattle.inode_parts.specs.declared.note.Notes.{Notes}
+use Rattle.inode_parts.specs.declared.fill_part.FillPart.{FillPart}
+
+-- whether both were written is heard
+abbrev pub filled : List ℕ → Notes → Seat → Hand → Filled → Part
+filled path m k h f = changed path m k (heard.Is f.whole) h f.inode
+
+abbrev pub fill_part_left : List ℕ → Notes → FillPart → Hand → Part
+fill_part_left path m p h = bind (fill_left p.fill h) (filled path m p.seat h)
+
+abbrev pub fill_part_asked : FillPart → Op
+fill_part_asked p = fill_asked p.fill
+
+abbrev pub FillPartReady : FillPart → Hand → Type 0
+FillPartReady p h = FillReady p.fill h × IsSome (inode_at p.seat h)
+
+-- what it asks: the disk's blocks have bits
+abbrev pub FillBegins : Super → ℕ → Hand → Type 0
+FillBegins sizes n h = MayChange sizes n h × (sizes.size ≤ bits_per_block)

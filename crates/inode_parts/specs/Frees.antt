@@ -1,0 +1,36 @@
+-- An inode freed, as a part.
+use Rattle.std.specs.Prelude.{◌≡◌, ℕ, List, IsSome}
+use Rattle.plain_tree.specs.Tree.{put}
+use Rattle.fs_layout.specs.declared.superblock.Super.{Super}
+use Rattle.atomic_programs.specs.Prog.{Ret, bind}
+use Rattle.hands.specs.declared.hand.Hand.{Hand}
+use Rattle.hands.specs.declared.op.Op.{Op}
+use Rattle.hands.specs.Hands.{inode_at}
+use Rattle.hand_controls.specs.Emptying.{IsEmptying, HasNoBuffer}
+use Rattle.hand_controls.specs.FreeingInodes.{freeing_left, freeing_asked, freeing_of, FreeingReady}
+use Rattle.hand_controls.specs.HeldInodes.{number_in}
+use Rattle.inodes_on_blocks.specs.Lowering.{Carry, Emptied}
+use Rattle.whole_calls.specs.declared.asks.Heard.TheVariants as heard
+use Rattle.inode_parts.specs.OneSteps.{HasLock, IsAlone, seat_of_lock}
+use Rattle.inode_parts.specs.Parts.{Part}
+use Rattle.inode_parts.specs.Sides.{beside_in}
+use Rattle.inode_parts.specs.declared.note.Notes.{Notes}
+use Rattle.inode_parts.specs.declared.free_part.FreePart.{FreePart}
+
+-- nothing is had of it then
+abbrev pub free_ends : Carry → ℕ → Unit {0} → Part
+free_ends c n _ = Ret (record { answer = heard.Did; carry = put c n Emptied })
+
+abbrev pub free_left : List ℕ → Notes → FreePart → Hand → Part
+free_left path m p h = bind (freeing_left p.free h) (free_ends (beside_in path m p.seat h) (number_in p.seat h))
+
+abbrev pub free_asked : FreePart → Op
+free_asked p = freeing_asked p.free
+
+-- the lock is at its seat alone
+abbrev pub FreeReady : FreePart → Hand → Type 0
+FreeReady p h = FreeingReady p.free h × ((freeing_of p.free).seat ≡ p.seat) × IsSome (inode_at p.seat h) × IsAlone (number_in p.seat h) p.seat h
+
+-- what it asks of the hand
+abbrev pub FreeBegins : Super → ℕ → Hand → Type 0
+FreeBegins sizes n h = HasLock n h × IsEmptying (record { seat = seat_of_lock n h; sizes = sizes }) h × HasNoBuffer h

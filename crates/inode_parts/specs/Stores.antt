@@ -1,0 +1,29 @@
+-- An inode's count put, as a part.
+use Rattle.std.specs.Prelude.{◌≡◌, ◌<◌, ◌^◌, ℕ, List}
+use Rattle.fs_layout.specs.declared.superblock.Super.{Super}
+use Rattle.atomic_programs.specs.Prog.{Ret, bind}
+use Rattle.hands.specs.declared.hand.Hand.{Hand}
+use Rattle.hands.specs.declared.hand.Place.TheVariants.{First}
+use Rattle.hands.specs.declared.op.Op.{Op}
+use Rattle.hand_controls.specs.StoringRecords.{record_left, record_asked, record_place, record_seat, RecordReady}
+use Rattle.whole_calls.specs.declared.asks.Heard.TheVariants as heard
+use Rattle.inode_parts.specs.Carries.{handed, with_note}
+use Rattle.inode_parts.specs.Changes.{MayChange}
+use Rattle.inode_parts.specs.Parts.{Part}
+use Rattle.inode_parts.specs.declared.note.Note.TheVariants as note
+use Rattle.inode_parts.specs.declared.note.Notes.{Notes}
+use Rattle.inode_parts.specs.declared.store_part.StorePart.{StorePart}
+
+-- the record is in hand already
+abbrev pub store_part_left : List ℕ → Notes → StorePart → Hand → Part
+store_part_left path m p h = bind (record_left p.store h) (λ _. Ret (handed path (with_note p.seat note.Nothing m) heard.Did h))
+
+abbrev pub store_part_asked : StorePart → Op
+store_part_asked p = record_asked p.store
+
+abbrev pub StorePartReady : StorePart → Hand → Type 0
+StorePartReady p h = RecordReady p.store h × (record_seat p.store ≡ p.seat) × (record_place p.store ≡ First)
+
+-- what it asks of the hand: a record has no higher count
+abbrev pub StoreBegins : Super → (n count : ℕ) → Hand → Type 0
+StoreBegins sizes n count h = MayChange sizes n h × (count < 2 ^ 15)

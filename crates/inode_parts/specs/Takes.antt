@@ -1,0 +1,95 @@
+-- An inode locked, and what is looked for found in it, as a part.
+use Rattle.std.specs.Prelude.{◌≡◌, ◌<◌, ◌^◌, ℕ, List, Bool, true, not, Option, Some, None, is_some}
+use Rattle.plain_tree.specs.Tree.{put}
+use Rattle.fs_layout.specs.declared.inode.Dinode.{Dinode}
+use Rattle.fs_layout.specs.declared.superblock.Super.{Super}
+use Rattle.atomic_programs.specs.Prog.{Ret, bind}
+use Rattle.inode_table.specs.Programs.{inode_block}
+use Rattle.inode_data.specs.Beginnings.{begun_of}
+use Rattle.inode_data.specs.declared.begun.Begun.{Begun}
+use Rattle.directory.specs.Programs.{Entry, Named, lookup}
+use Rattle.directory.specs.declared.found.Found.{Found}
+use Rattle.hands.specs.declared.hand.Hand.{Hand}
+use Rattle.hands.specs.declared.hand.Seat.{Seat}
+use Rattle.hands.specs.declared.op.Op.{Op}
+use Rattle.hands.specs.Hands.{inode_at, number_at, reference_at}
+use Rattle.hand_controls.specs.Emptying.{HasNoBuffer}
+use Rattle.hand_controls.specs.HeldInodes.{number_in, record_in, IsLoadedAt}
+use Rattle.hand_controls.specs.LockingInodes.{lock_left, lock_asked, lock_seat, LockReady}
+use Rattle.content_parts.specs.Searching.{entries, search_left, search_asked, SearchReady}
+use Rattle.inodes_on_blocks.specs.Lowering.{Carry}
+use Rattle.inodes_on_blocks.specs.Reading.{number_found}
+use Rattle.whole_calls.specs.Elements.{name_in, IsElement}
+use Rattle.whole_calls.specs.declared.asks.Heard.{Heard}
+use Rattle.whole_calls.specs.declared.asks.Heard.TheVariants as heard
+use Rattle.whole_calls.specs.declared.asks.Query.{Query}
+use Rattle.whole_calls.specs.declared.asks.Query.TheVariants as query
+use Rattle.whole_calls.specs.declared.elements.Element.{Element}
+use Rattle.inode_parts.specs.Carries.{had_of, handed}
+use Rattle.inode_parts.specs.Faces.{face_unless_free}
+use Rattle.inode_parts.specs.OneSteps.{HasReference, IsAlone, seat_of_reference}
+use Rattle.inode_parts.specs.Parts.{Part}
+use Rattle.inode_parts.specs.Sides.{beside_in}
+use Rattle.inode_parts.specs.declared.note.Note.{Note}
+use Rattle.inode_parts.specs.declared.note.Note.TheVariants as note
+use Rattle.inode_parts.specs.declared.note.Notes.{Notes}
+use Rattle.inode_parts.specs.declared.take_part.TakePart.{TakePart}
+use Rattle.inode_parts.specs.declared.take_part.TakePart.TheVariants as take
+
+-- what was seen of inode n, and what is had of it
+abbrev pub seen : List ℕ → Carry → ℕ → Dinode → Note → Option ℕ → Bool → Part
+seen path c n d l found empty = Ret (record { answer = heard.Saw (record { face = face_unless_free d; found = found; empty = empty }); carry = put c n (had_of path l (Some d)) })
+
+-- the slot under a name
+abbrev pub note_of : Element → Option Found → Note
+note_of e None = note.Nothing
+note_of e (Some f) = note.Finds e f.slot
+
+abbrev pub named_ends : List ℕ → Carry → ℕ → Dinode → Element → Option Found → Part
+named_ends path c n d e o = seen path c n d (note_of e o) (number_found o) true
+
+abbrev pub listed_ends : List ℕ → Carry → ℕ → Dinode → Option Found → Part
+listed_ends path c n d o = seen path c n d note.Nothing None (not (is_some o))
+
+abbrev pub looked : List ℕ → Query → Carry → ℕ → Dinode → Part
+looked path query.Nothing c n d = seen path c n d note.Nothing None true
+looked path (query.Name e) c n d = bind (lookup (name_in path e) d) (named_ends path c n d e)
+looked path query.Entries c n d = bind (entries d) (listed_ends path c n d)
+
+abbrev pub take_left : List ℕ → Notes → TakePart → Hand → Part
+take_left path m (take.Locking q r) h = bind (lock_left r h) (looked path q (beside_in path m (lock_seat r) h) (number_at (lock_seat r) h))
+take_left path m (take.Naming k e s) h = bind (search_left (Named (name_in path e)) (record_in k h) s h) (named_ends path (beside_in path m k h) (number_at k h) (record_in k h) e)
+take_left path m (take.Listing k s) h = bind (search_left Entry (record_in k h) s h) (listed_ends path (beside_in path m k h) (number_at k h) (record_in k h))
+
+-- one that has begun to look, or has seen it at once
+abbrev pub taken_left : List ℕ → Notes → Begun TakePart Heard → Hand → Part
+taken_left path m begun h = begun_of (λ p. take_left path m p h) (λ x. handed path m x h) begun
+
+abbrev pub take_asked : TakePart → Op
+take_asked (take.Locking q r) = lock_asked r
+take_asked (take.Naming k e s) = search_asked s
+take_asked (take.Listing k s) = search_asked s
+
+-- a name that is looked for is an element of the path
+abbrev pub IsTold : List ℕ → Query → Type 0
+IsTold path query.Nothing = Unit {0}
+IsTold path (query.Name e) = IsElement path e
+IsTold path query.Entries = Unit {0}
+
+-- the inode of the reference is locked at this seat alone, and loaded
+abbrev pub IsTaken : Seat → Hand → Type 0
+IsTaken k h = IsLoadedAt k h × (number_in k h ≡ number_at k h) × IsAlone (number_at k h) k h
+
+abbrev pub TakeTold : List ℕ → TakePart → Type 0
+TakeTold path (take.Locking q r) = IsTold path q
+TakeTold path (take.Naming k e s) = IsElement path e
+TakeTold path (take.Listing k s) = Unit {0}
+
+abbrev pub TakeReady : TakePart → Hand → Type 0
+TakeReady (take.Locking q r) h = LockReady r h × IsAlone (number_at (lock_seat r) h) (lock_seat r) h × (h.second ≡ None)
+TakeReady (take.Naming k e s) h = SearchReady s h × IsTaken k h
+TakeReady (take.Listing k s) h = SearchReady s h × IsTaken k h
+
+-- what it asks of the hand
+abbrev pub TakeBegins : Super → ℕ → Hand → Type 0
+TakeBegins sizes n h = HasReference n h × (inode_at (seat_of_reference n h) h ≡ None) × IsAlone n (seat_of_reference n h) h × HasNoBuffer h × (inode_block sizes.inodestart n < 2 ^ 32)

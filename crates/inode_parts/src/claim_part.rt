@@ -1,0 +1,79 @@
+//! A new inode.
+ghost use Rattle.std.specs.Prelude.{◌≡◌, ℕ, List, Some, IfNone};
+ghost use Rattle.atomic_programs.specs.Prog.{asks};
+ghost use Rattle.hands.specs.Ops.{op_in, answer_in, CanDo, Prepared, IsAfter};
+ghost use Rattle.hands.specs.Controls.{Goes, left_after, bare};
+ghost use Rattle.hands.specs.declared.hand.Hand.{Hand as HandState};
+ghost use Rattle.hand_controls.specs.Making.{new_value};
+ghost use Rattle.inode_machine.specs.World.Op.{Claim};
+ghost use Rattle.inode_parts.specs.Carries.{carry_in, handed};
+ghost use Rattle.inode_parts.specs.Claims.{claim_left, claim_asked, claimed_by, ClaimBegins, ClaimReady};
+ghost use Rattle.inode_parts.specs.Parts.{IsPart};
+ghost use Rattle.inode_parts.specs.declared.note.Notes.{Notes as NotesState};
+ghost use Rattle.whole_calls.specs.Asks.{sort_of};
+
+use crate::note::Notes;
+use crate::opening::kind;
+use crate::places::free_seat;
+use fs_layout::Super;
+use hand_controls::NewInode;
+use hands::{Answer, Hand, Op, Routine};
+use whole_calls::{Heard, Sort};
+
+/// An inode is sought that is free, and recorded with its type. The reference to it is in hand then.
+#[derive(Clone, Copy, Drop)]
+pub struct ClaimPart {
+    pub claim: NewInode,
+}
+
+impl ClaimPart {
+    /// One of this type, on a disk of these sizes.
+    pub fn begin(sort: Sort, sizes: &Super, hand: &Hand) -> ClaimPart
+        requires begins { ClaimBegins sizes.now hand.now }
+        ensures part { (path : List ℕ) (notes : NotesState)
+            → IsPart sizes.now (carry_in path notes hand.now) (Claim (sort_of sort)) (claim_left path notes result hand.now) }
+        ensures ready { ClaimReady result hand.now }
+    {
+        let claim = NewInode::new(kind(sort), sizes, free_seat(hand));
+        ClaimPart { claim }
+    }
+
+    /// The next operation. The new record is written in its block's buffer.
+    pub fn op(&self, hand: &mut Hand) -> Op
+        requires ready { ClaimReady self.now hand.old }
+        ensures op { result ≡ claim_asked self.now }
+        ensures asks { (path : List ℕ) (notes : NotesState)
+            → asks (claim_left path notes self.now hand.old) ≡ Some (op_in hand.new result) }
+        ensures can { CanDo result hand.new }
+        ensures prepared { Prepared result hand.old hand.new }
+    {
+        self.claim.op(hand)
+    }
+
+    /// How it goes on; or what is heard.
+    pub fn next(&mut self, notes: &Notes, answer: Answer, hand: &mut Hand) -> Option<Heard>
+        requires came { (before : HandState) × ClaimReady self.old before × IsAfter (claim_asked self.old) before answer hand.old }
+        ensures goes { (path : List ℕ) (before : HandState) → ClaimReady self.old before
+            → IsAfter (claim_asked self.old) before answer hand.old
+            → Goes (claim_left path notes.now self.old before) (answer_in (claim_asked self.old) answer hand.old)
+            (left_after (claim_left path notes.now) (handed path notes.now) result self.new hand.new) }
+        ensures ready { IfNone result (ClaimReady self.new hand.new) }
+        ensures hand { bare hand.new ≡ bare hand.old }
+    {
+        match self.claim.next(answer, hand) {
+            None => None,
+            Some(made) => Some(Heard::Claimed(claimed(made))),
+        }
+    }
+}
+
+// What the search came to, as a call hears it.
+fn claimed(made: hand_controls::Claimed) -> whole_calls::Claimed
+    ensures { (h : HandState) → result ≡ claimed_by (new_value made h) }
+{
+    match made {
+        hand_controls::Claimed::Inode(number) => whole_calls::Claimed::New(number),
+        hand_controls::Claimed::NoPlace => whole_calls::Claimed::NoPlace,
+        hand_controls::Claimed::NoInode => whole_calls::Claimed::NoInode,
+    }
+}

@@ -1,0 +1,89 @@
+//! A name entered, as a part.
+ghost use Rattle.std.specs.Prelude.{◌≡◌, ℕ, List, Some, None, IsSome, IfNone};
+ghost use Rattle.atomic_programs.specs.Prog.{Ret, asks};
+ghost use Rattle.hands.specs.Hands.{inode_at};
+ghost use Rattle.hands.specs.Ops.{op_in, answer_in, CanDo, Prepared, IsAfter};
+ghost use Rattle.hands.specs.Controls.{Goes, bare, left_after};
+ghost use Rattle.hands.specs.declared.hand.Hand.{Hand as HandState};
+ghost use Rattle.content_parts.specs.Entering.{entered_as};
+ghost use Rattle.inode_machine.specs.World as above;
+ghost use Rattle.inode_parts.specs.Carries.{carry_in, handed};
+ghost use Rattle.inode_parts.specs.Enters.{enter_part_left, enter_part_asked, entered, EnterBegins, EnterPartReady};
+ghost use Rattle.inode_parts.specs.Parts.{IsPart};
+ghost use Rattle.inode_parts.specs.declared.note.Notes.{Notes as NotesState};
+
+use crate::note::Notes;
+use crate::places::lock_seat;
+use crate::records::{change, record_at};
+use content_parts::{Enter, Entered};
+use directory::Room;
+use fs_layout::Super;
+use hands::{Answer, Hand, Op, Routine, Seat};
+use inode_data::Begun;
+use whole_calls::{Entered as Entry, Heard};
+
+/// A name is entered in the directory whose lock is at this seat.
+#[derive(Drop)]
+pub struct EnterPart {
+    pub seat: Seat,
+    pub enter: Enter,
+}
+
+impl EnterPart {
+    /// Inode `child` by this name, in directory `number`, on a disk with this superblock.
+    pub fn begin(number: u32, child: u32, name: &[u8], sizes: &Super, hand: &Hand) -> EnterPart
+        requires begins { EnterBegins sizes.now number name.now hand.now }
+        ensures part { (path : List ℕ) (notes : NotesState)
+            → IsPart sizes.now (carry_in path notes hand.now) (above.Enter number name.now child) (enter_part_left path notes result hand.now) }
+        ensures ready { EnterPartReady result hand.now }
+    {
+        let seat = lock_seat(hand, number);
+        let inode = record_at(hand, seat);
+        match Enter::begin(number, &inode, sizes, child, name) {
+            Begun::Runs(enter) => EnterPart { seat, enter },
+            Begun::Is(_) => unreachable!(),
+        }
+    }
+
+    /// The next operation. Bytes to be recorded are written in their buffer.
+    pub fn op(&self, hand: &mut Hand) -> Op
+        requires ready { EnterPartReady self.now hand.old }
+        ensures op { result ≡ enter_part_asked self.now }
+        ensures asks { (path : List ℕ) (notes : NotesState) → asks (enter_part_left path notes self.now hand.old) ≡ Some (op_in hand.new result) }
+        ensures can { CanDo result hand.new }
+        ensures prepared { Prepared result hand.old hand.new }
+    {
+        self.enter.op(hand)
+    }
+
+    /// How it goes on; or what is heard. At its end the directory has its new record.
+    #[tactic(auto, using(crate::proofs::Enters::enter_on, crate::proofs::Enters::enter_ends))]
+    pub fn next(&mut self, notes: &mut Notes, answer: Answer, hand: &mut Hand) -> Option<Heard>
+        requires came { (before : HandState) × EnterPartReady self.old before × IsAfter (enter_part_asked self.old) before answer hand.old }
+        ensures goes { (path : List ℕ) (before : HandState) → EnterPartReady self.old before → IsAfter (enter_part_asked self.old) before answer hand.old
+            → Goes (enter_part_left path notes.old self.old before) (answer_in (enter_part_asked self.old) answer hand.old)
+            (left_after (enter_part_left path notes.new) (handed path notes.new) result self.new hand.new) }
+        ensures ready { IfNone result (EnterPartReady self.new hand.new) }
+        ensures hand { bare hand.new ≡ bare hand.old }
+    {
+        match self.enter.next(answer, hand) {
+            None => None,
+            Some(entered) => Some(hear(self.seat, &entered, notes, hand)),
+        }
+    }
+}
+
+// What is heard of it. The directory at this seat was stored, but where it has no slot left.
+fn hear(seat: Seat, outcome: &Entered, notes: &mut Notes, hand: &mut Hand) -> Heard
+    requires { IsSome (inode_at seat hand.old) }
+    ensures is { (path : List ℕ) → entered path notes.old seat hand.old (entered_as outcome.now) ≡ Ret (handed path notes.new result hand.new) }
+    ensures hand { bare hand.new ≡ bare hand.old }
+{
+    let room = match outcome.room {
+        Room::There => Entry::InPlace,
+        Room::NoBlock => Entry::NoBlock,
+        Room::NoSlot => return Heard::Entered(Entry::NoSlot),
+    };
+    change(seat, outcome.inode, notes, hand);
+    Heard::Entered(room)
+}

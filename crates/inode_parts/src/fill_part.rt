@@ -1,0 +1,72 @@
+//! The names of a new directory written, as a part.
+ghost use Rattle.std.specs.Prelude.{◌≡◌, ℕ, List, Some, None, IfNone};
+ghost use Rattle.atomic_programs.specs.Prog.{asks};
+ghost use Rattle.hands.specs.Ops.{op_in, answer_in, CanDo, Prepared, IsAfter};
+ghost use Rattle.hands.specs.Controls.{Goes, bare, left_after};
+ghost use Rattle.hands.specs.declared.hand.Hand.{Hand as HandState};
+ghost use Rattle.inode_machine.specs.World as above;
+ghost use Rattle.inode_parts.specs.Carries.{carry_in, handed};
+ghost use Rattle.inode_parts.specs.Fills.{fill_part_left, fill_part_asked, FillBegins, FillPartReady};
+ghost use Rattle.inode_parts.specs.Parts.{IsPart};
+ghost use Rattle.inode_parts.specs.declared.note.Notes.{Notes as NotesState};
+
+use crate::note::Notes;
+use crate::places::lock_seat;
+use crate::records::{change, record_at};
+use content_parts::Fill;
+use fs_layout::Super;
+use hands::{Answer, Hand, Op, Routine, Seat};
+use whole_calls::Heard;
+
+/// "." and ".." are written in the new directory whose lock is at this seat.
+#[derive(Drop)]
+pub struct FillPart {
+    pub seat: Seat,
+    pub fill: Fill,
+}
+
+impl FillPart {
+    /// Directory `number`, which stands in this one, on a disk with this superblock.
+    #[tactic(auto, using(crate::proofs::Fills::fill_is_part))]
+    pub fn begin(number: u32, parent: u32, sizes: &Super, hand: &Hand) -> FillPart
+        requires begins { FillBegins sizes.now number hand.now }
+        ensures part { (path : List ℕ) (notes : NotesState)
+            → IsPart sizes.now (carry_in path notes hand.now) (above.Fill number parent) (fill_part_left path notes result hand.now) }
+        ensures ready { FillPartReady result hand.now }
+    {
+        let seat = lock_seat(hand, number);
+        let inode = record_at(hand, seat);
+        let fill = Fill::new(number, &inode, sizes, parent);
+        FillPart { seat, fill }
+    }
+
+    /// The next operation. Bytes to be recorded are written in their buffer.
+    pub fn op(&self, hand: &mut Hand) -> Op
+        requires ready { FillPartReady self.now hand.old }
+        ensures op { result ≡ fill_part_asked self.now }
+        ensures asks { (path : List ℕ) (notes : NotesState) → asks (fill_part_left path notes self.now hand.old) ≡ Some (op_in hand.new result) }
+        ensures can { CanDo result hand.new }
+        ensures prepared { Prepared result hand.old hand.new }
+    {
+        self.fill.op(hand)
+    }
+
+    /// How it goes on; or what is heard. At its end the directory has its new record.
+    #[tactic(auto, using(crate::proofs::Fills::fill_on, crate::proofs::Fills::fill_ends))]
+    pub fn next(&mut self, notes: &mut Notes, answer: Answer, hand: &mut Hand) -> Option<Heard>
+        requires came { (before : HandState) × FillPartReady self.old before × IsAfter (fill_part_asked self.old) before answer hand.old }
+        ensures goes { (path : List ℕ) (before : HandState) → FillPartReady self.old before → IsAfter (fill_part_asked self.old) before answer hand.old
+            → Goes (fill_part_left path notes.old self.old before) (answer_in (fill_part_asked self.old) answer hand.old)
+            (left_after (fill_part_left path notes.new) (handed path notes.new) result self.new hand.new) }
+        ensures ready { IfNone result (FillPartReady self.new hand.new) }
+        ensures hand { bare hand.new ≡ bare hand.old }
+    {
+        match self.fill.next(answer, hand) {
+            None => None,
+            Some(filled) => {
+                change(self.seat, filled.inode, notes, hand);
+                Some(Heard::Is(filled.whole))
+            }
+        }
+    }
+}

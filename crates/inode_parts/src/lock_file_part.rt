@@ -1,0 +1,72 @@
+//! What a descriptor names locked, to read it.
+ghost use Rattle.std.specs.Prelude.{◌≡◌, ℕ, List, Some, IfNone};
+ghost use Rattle.atomic_programs.specs.Prog.{asks};
+ghost use Rattle.hands.specs.Ops.{op_in, answer_in, CanDo, Prepared, IsAfter};
+ghost use Rattle.hands.specs.Controls.{Goes, left_after, bare};
+ghost use Rattle.hands.specs.declared.hand.Hand.{Hand as HandState};
+ghost use Rattle.inode_machine.specs.World.Op.{LockFile as Locks};
+ghost use Rattle.inode_parts.specs.Carries.{carry_in, handed};
+ghost use Rattle.inode_parts.specs.FileLocks.{lock_file_left, lock_file_asked, LockBegins, LockFileReady};
+ghost use Rattle.inode_parts.specs.Parts.{IsPart};
+ghost use Rattle.inode_parts.specs.declared.note.Notes.{Notes as NotesState};
+
+use crate::answers::cause;
+use crate::note::{Note, Notes};
+use fs_layout::Super;
+use fs_tables::Want;
+use hand_controls::{FileLocked, LockFile};
+use hands::{Answer, Hand, Op, Routine, Seat};
+use whole_calls::{Heard, Locked};
+
+/// The lock of what this descriptor names is taken, where that may be read.
+#[derive(Clone, Copy, Drop)]
+pub struct LockFilePart {
+    pub fd: u32,
+    pub lock: LockFile,
+}
+
+impl LockFilePart {
+    /// On a disk of these sizes.
+    pub fn begin(fd: u32, sizes: &Super, hand: &Hand) -> LockFilePart
+        requires begins { LockBegins sizes.now hand.now }
+        ensures part { (path : List ℕ) (notes : NotesState)
+            → IsPart sizes.now (carry_in path notes hand.now) (Locks fd) (lock_file_left path notes result hand.now) }
+        ensures ready { LockFileReady result hand.now }
+    {
+        let lock = LockFile::new(sizes.inodestart, Seat::One, Want::Read, fd);
+        LockFilePart { fd, lock }
+    }
+
+    /// The next operation.
+    pub fn op(&self, hand: &mut Hand) -> Op
+        requires ready { LockFileReady self.now hand.old }
+        ensures op { result ≡ lock_file_asked self.now }
+        ensures asks { (path : List ℕ) (notes : NotesState)
+            → asks (lock_file_left path notes self.now hand.old) ≡ Some (op_in hand.new result) }
+        ensures can { CanDo result hand.new }
+        ensures prepared { Prepared result hand.old hand.new }
+    {
+        self.lock.op(hand)
+    }
+
+    /// How it goes on; or what is heard.
+    pub fn next(&mut self, notes: &mut Notes, answer: Answer, hand: &mut Hand) -> Option<Heard>
+        requires came { (before : HandState) × LockFileReady self.old before × IsAfter (lock_file_asked self.old) before answer hand.old }
+        ensures goes { (path : List ℕ) (before : HandState) → LockFileReady self.old before
+            → IsAfter (lock_file_asked self.old) before answer hand.old
+            → Goes (lock_file_left path notes.old self.old before) (answer_in (lock_file_asked self.old) answer hand.old)
+            (left_after (lock_file_left path notes.new) (handed path notes.new) result self.new hand.new) }
+        ensures ready { IfNone result (LockFileReady self.new hand.new) }
+        ensures hand { bare hand.new ≡ bare hand.old }
+    {
+        match self.lock.next(answer, hand) {
+            None => None,
+            Some(FileLocked::Refused(why)) => Some(Heard::Locked(Locked::Refused(cause(why)))),
+            Some(FileLocked::Locked(held)) => {
+                let offset = held.file.offset;
+                notes.set(held.seat, Note::Opened(self.fd, offset));
+                Some(Heard::Locked(Locked::Locks(held.file.number, u64::from(offset))))
+            }
+        }
+    }
+}

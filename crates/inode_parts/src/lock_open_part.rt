@@ -1,0 +1,69 @@
+//! What a descriptor names locked, to write it.
+ghost use Rattle.std.specs.Prelude.{◌≡◌, ℕ, List, Some, IfNone};
+ghost use Rattle.atomic_programs.specs.Prog.{asks};
+ghost use Rattle.hands.specs.Ops.{op_in, answer_in, CanDo, Prepared, IsAfter};
+ghost use Rattle.hands.specs.Controls.{Goes, left_after, bare};
+ghost use Rattle.hands.specs.declared.hand.Hand.{Hand as HandState};
+ghost use Rattle.inode_machine.specs.World.Op.{LockOpen as Locks};
+ghost use Rattle.inode_parts.specs.Carries.{carry_in, handed};
+ghost use Rattle.inode_parts.specs.FileLocks.{lock_open_left, lock_open_asked, LockBegins, LockOpenReady};
+ghost use Rattle.inode_parts.specs.Parts.{IsPart};
+ghost use Rattle.inode_parts.specs.declared.note.Notes.{Notes as NotesState};
+
+use crate::note::{Note, Notes};
+use fs_layout::Super;
+use hand_controls::LockOpen;
+use hands::{Answer, Hand, Op, Routine, Seat};
+use whole_calls::Heard;
+
+/// The lock of what this descriptor names is taken, which is known to be open.
+#[derive(Clone, Copy, Drop)]
+pub struct LockOpenPart {
+    pub fd: u32,
+    pub lock: LockOpen,
+}
+
+impl LockOpenPart {
+    /// On a disk of these sizes.
+    pub fn begin(fd: u32, sizes: &Super, hand: &Hand) -> LockOpenPart
+        requires begins { LockBegins sizes.now hand.now }
+        ensures part { (path : List ℕ) (notes : NotesState) (number : ℕ)
+            → IsPart sizes.now (carry_in path notes hand.now) (Locks fd number) (lock_open_left path notes result hand.now) }
+        ensures ready { LockOpenReady result hand.now }
+    {
+        let lock = LockOpen::new(sizes.inodestart, Seat::One, fd);
+        LockOpenPart { fd, lock }
+    }
+
+    /// The next operation.
+    pub fn op(&self, hand: &mut Hand) -> Op
+        requires ready { LockOpenReady self.now hand.old }
+        ensures op { result ≡ lock_open_asked self.now }
+        ensures asks { (path : List ℕ) (notes : NotesState)
+            → asks (lock_open_left path notes self.now hand.old) ≡ Some (op_in hand.new result) }
+        ensures can { CanDo result hand.new }
+        ensures prepared { Prepared result hand.old hand.new }
+    {
+        self.lock.op(hand)
+    }
+
+    /// How it goes on; or what is heard.
+    pub fn next(&mut self, notes: &mut Notes, answer: Answer, hand: &mut Hand) -> Option<Heard>
+        requires came { (before : HandState) × LockOpenReady self.old before × IsAfter (lock_open_asked self.old) before answer hand.old }
+        ensures goes { (path : List ℕ) (before : HandState) → LockOpenReady self.old before
+            → IsAfter (lock_open_asked self.old) before answer hand.old
+            → Goes (lock_open_left path notes.old self.old before) (answer_in (lock_open_asked self.old) answer hand.old)
+            (left_after (lock_open_left path notes.new) (handed path notes.new) result self.new hand.new) }
+        ensures ready { IfNone result (LockOpenReady self.new hand.new) }
+        ensures hand { bare hand.new ≡ bare hand.old }
+    {
+        match self.lock.next(answer, hand) {
+            None => None,
+            Some(held) => {
+                let offset = held.file.offset;
+                notes.set(held.seat, Note::Opened(self.fd, offset));
+                Some(Heard::At(held.file.number, u64::from(offset)))
+            }
+        }
+    }
+}

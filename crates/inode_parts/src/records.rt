@@ -1,0 +1,49 @@
+// Inodes changed whose locks are in hand.
+ghost use Rattle.std.specs.Prelude.{◌≡◌, IsSome};
+ghost use Rattle.std.specs.Option.{MatchOption, option_map_or};
+ghost use Rattle.inode_table.specs.Programs.{record_of};
+ghost use Rattle.hands.specs.Controls.{bare};
+ghost use Rattle.hands.specs.Hands.{inode_at, no_inode, with_record};
+ghost use Rattle.hand_controls.specs.HeldInodes.{record_in, IsLoadedAt};
+ghost use Rattle.inode_parts.specs.Carries.{with_note};
+ghost use Rattle.inode_parts.specs.declared.note.Note.TheVariants as note;
+
+use crate::note::{Note, Notes};
+use fs_layout::Dinode;
+use fs_tables::Inode;
+use hands::{Hand, Seat};
+use inode_data::record;
+use sleep_lock::Guard;
+
+fn record_of(place: &Option<Guard<Inode>>) -> Dinode
+    requires { MatchOption place.now ⊥ (λ g. IsSome g.value.content) }
+    ensures { result ≡ record_of (option_map_or (λ g. g.value) place.now no_inode) }
+{
+    match place {
+        Some(guard) => record(guard),
+        None => unreachable!(),
+    }
+}
+
+// The record of the inode at a seat.
+pub(crate) fn record_at(hand: &Hand, seat: Seat) -> Dinode
+    requires { IsLoadedAt seat hand.now }
+    ensures { result ≡ record_in seat hand.now }
+{
+    match seat {
+        Seat::One => record_of(&hand.one),
+        Seat::Two => record_of(&hand.two),
+    }
+}
+
+// The inode at a seat has this record from now on, and nothing more is known of it.
+#[tactic(auto, using(crate::proofs::Changing::bare_record))]
+pub(crate) fn change(seat: Seat, inode: Dinode, notes: &mut Notes, hand: &mut Hand)
+    requires { IsSome (inode_at seat hand.old) }
+    ensures notes { notes.new ≡ with_note seat note.Nothing notes.old }
+    ensures record { hand.new ≡ with_record seat inode hand.old }
+    ensures hand { bare hand.new ≡ bare hand.old }
+{
+    hand.set_record(seat, inode);
+    notes.set(seat, Note::Nothing);
+}

@@ -1,0 +1,197 @@
+//! An inode locked, and what is looked for found in it.
+ghost use Rattle.std.specs.Prelude.{◌≡◌, ℕ, List, true, not, Some, None, is_some, IfNone};
+ghost use Rattle.atomic_programs.specs.Prog.{asks};
+ghost use Rattle.hands.specs.Hands.{number_at};
+ghost use Rattle.hands.specs.Ops.{op_in, answer_in, CanDo, Prepared, IsAfter};
+ghost use Rattle.hands.specs.Controls.{Goes, left_after, bare};
+ghost use Rattle.hands.specs.declared.hand.Hand.{Hand as HandState};
+ghost use Rattle.hand_controls.specs.Emptying.{HasNoBuffer};
+ghost use Rattle.hand_controls.specs.HeldInodes.{record_in};
+ghost use Rattle.inode_data.specs.Beginnings.{IfBegun};
+ghost use Rattle.inode_machine.specs.World.Op.{Take};
+ghost use Rattle.inode_parts.specs.Carries.{carry_in, handed, with_note};
+ghost use Rattle.inode_parts.specs.Faces.{face_unless_free};
+ghost use Rattle.inode_parts.specs.Sides.{beside_in};
+ghost use Rattle.inode_parts.specs.Parts.{IsPart};
+ghost use Rattle.inode_parts.specs.Takes.{looked, note_of, taken_left, take_left, take_asked, IsTaken, IsTold, TakeBegins, TakeReady, TakeTold};
+ghost use Rattle.inode_parts.specs.declared.note.Note.TheVariants as note;
+ghost use Rattle.inode_parts.specs.declared.note.Notes.{Notes as NotesState};
+ghost use Rattle.inodes_on_blocks.specs.Reading.{number_found};
+ghost use Rattle.whole_calls.specs.Asks.{query_in};
+ghost use Rattle.whole_calls.specs.declared.asks.Heard.TheVariants as heard;
+ghost use Rattle.whole_calls.specs.Elements.{name_in, IsElement};
+
+use crate::faces::{face_unless_free, record_at};
+use crate::note::{Note, Notes};
+use crate::places::reference_seat;
+use content_parts::Search;
+use directory::{Found, Sought};
+use fs_layout::{Dinode, Super};
+use hand_controls::LockInode;
+use hands::{Answer, Hand, Op, Routine, Seat};
+use inode_data::Begun;
+use whole_calls::{Element, Heard, Query, Sight};
+
+/// The lock of an inode is taken, to which a reference is in hand, and the inode is looked at.
+#[derive(Clone, Copy, Drop)]
+pub enum TakePart {
+    /// It is locked and loaded, to look for this.
+    Locking(Query, LockInode),
+    /// A name is sought in the directory at this seat.
+    Naming(Seat, Element, Search),
+    /// An entry is sought, past the first two.
+    Listing(Seat, Search),
+}
+
+impl TakePart {
+    /// The inode of this number, on a disk of these sizes.
+    pub fn begin(number: u32, query: Query, sizes: &Super, hand: &Hand) -> TakePart
+        requires begins { TakeBegins sizes.now number hand.now }
+        ensures part { (path : List ℕ) (notes : NotesState)
+            → IsPart sizes.now (carry_in path notes hand.now) (Take number (query_in path query)) (take_left path notes result hand.now) }
+        ensures ready { TakeReady result hand.now }
+        ensures told { (path : List ℕ) → IsTold path query → TakeTold path result }
+    {
+        let seat = reference_seat(hand, number);
+        let lock = LockInode::new(sizes.inodestart, seat);
+        TakePart::Locking(query, lock)
+    }
+
+    /// The next operation.
+    pub fn op(&self, hand: &mut Hand) -> Op
+        requires ready { TakeReady self.now hand.old }
+        ensures op { result ≡ take_asked self.now }
+        ensures asks { (path : List ℕ) (notes : NotesState) → asks (take_left path notes self.now hand.old) ≡ Some (op_in hand.new result) }
+        ensures can { CanDo result hand.new }
+        ensures prepared { Prepared result hand.old hand.new }
+    {
+        match self {
+            TakePart::Locking(_, lock) => lock.op(hand),
+            TakePart::Naming(_, _, search) => search.op(hand),
+            TakePart::Listing(_, search) => search.op(hand),
+        }
+    }
+
+    /// How it goes on, in a call with this path; or what is heard.
+    pub fn next(
+        &mut self,
+        path: &[u8],
+        notes: &mut Notes,
+        answer: Answer,
+        hand: &mut Hand,
+    ) -> Option<Heard>
+        requires told { TakeTold path.now self.old }
+        requires came { (before : HandState) × TakeReady self.old before × IsAfter (take_asked self.old) before answer hand.old }
+        ensures goes { (before : HandState) → TakeReady self.old before → IsAfter (take_asked self.old) before answer hand.old
+            → Goes (take_left path.now notes.old self.old before) (answer_in (take_asked self.old) answer hand.old)
+            (left_after (take_left path.now notes.new) (handed path.now notes.new) result self.new hand.new) }
+        ensures ready { IfNone result (TakeReady self.new hand.new) }
+        ensures told { IfNone result (TakeTold path.now self.new) }
+        ensures hand { bare hand.new ≡ bare hand.old }
+    {
+        match self {
+            TakePart::Locking(query, lock) => match lock.next(answer, hand) {
+                None => None,
+                Some(seat) => match look(*query, seat, notes, hand) {
+                    Begun::Is(heard) => Some(heard),
+                    Begun::Runs(part) => {
+                        *self = part;
+                        None
+                    }
+                },
+            },
+            TakePart::Naming(seat, element, search) => {
+                let inode = record_at(hand, *seat);
+                let sought = Sought::Name(name(path, element));
+                match search.next(&inode, sought, answer, hand) {
+                    None => None,
+                    Some(found) => Some(named(&inode, *seat, *element, found, notes)),
+                }
+            }
+            TakePart::Listing(seat, search) => {
+                let inode = record_at(hand, *seat);
+                match search.next(&inode, Sought::Entry, answer, hand) {
+                    None => None,
+                    Some(found) => Some(listed(&inode, *seat, found, notes)),
+                }
+            }
+        }
+    }
+}
+
+// The name of an element.
+fn name<'a>(path: &'a [u8], element: &Element) -> &'a [u8]
+    requires { IsElement path.now element.now }
+    ensures { result.now ≡ name_in path.now element.now }
+{
+    &path[element.start..element.end]
+}
+
+// Looks for this in the inode at a seat, which is locked and loaded.
+fn look(query: Query, seat: Seat, notes: &mut Notes, hand: &Hand) -> Begun<TakePart, Heard>
+    requires taken { IsTaken seat hand.now }
+    requires free { HasNoBuffer hand.now }
+    ensures program { (path : List ℕ) → taken_left path notes.new result hand.now
+        ≡ looked path query (beside_in path notes.old seat hand.now) (number_at seat hand.now) (record_in seat hand.now) }
+    ensures ready { IfBegun (λ p. TakeReady p hand.now) (λ _. Unit {0}) result }
+    ensures told { (path : List ℕ) → IsTold path query → IfBegun (λ p. TakeTold path p) (λ _. Unit {0}) result }
+{
+    let inode = record_at(hand, seat);
+    match query {
+        Query::Nothing => {
+            notes.set(seat, Note::Nothing);
+            Begun::Is(saw(&inode, None, true))
+        }
+        Query::Name(element) => match Search::lookup(&inode) {
+            Begun::Is(found) => Begun::Is(named(&inode, seat, element, found, notes)),
+            Begun::Runs(search) => Begun::Runs(TakePart::Naming(seat, element, search)),
+        },
+        Query::Entries => match Search::entries(&inode) {
+            Begun::Is(found) => Begun::Is(listed(&inode, seat, found, notes)),
+            Begun::Runs(search) => Begun::Runs(TakePart::Listing(seat, search)),
+        },
+    }
+}
+
+// What was seen of an inode.
+fn saw(inode: &Dinode, found: Option<u32>, empty: bool) -> Heard
+    ensures { result ≡ heard.Saw (record { face = face_unless_free inode.now; found = found; empty = empty }) }
+{
+    Heard::Saw(Sight {
+        face: face_unless_free(inode),
+        found,
+        empty,
+    })
+}
+
+// The same where a name was sought; its slot is noted.
+fn named(
+    inode: &Dinode,
+    seat: Seat,
+    element: Element,
+    found: Option<Found>,
+    notes: &mut Notes,
+) -> Heard
+    ensures heard { result ≡ heard.Saw (record { face = face_unless_free inode.now; found = number_found found; empty = true }) }
+    ensures notes { notes.new ≡ with_note seat (note_of element found) notes.old }
+{
+    match found {
+        Some(found) => {
+            notes.set(seat, Note::Finds(element, found.slot));
+            saw(inode, Some(found.number), true)
+        }
+        None => {
+            notes.set(seat, Note::Nothing);
+            saw(inode, None, true)
+        }
+    }
+}
+
+// The same where an entry was sought.
+fn listed(inode: &Dinode, seat: Seat, found: Option<Found>, notes: &mut Notes) -> Heard
+    ensures heard { result ≡ heard.Saw (record { face = face_unless_free inode.now; found = None; empty = not (is_some found) }) }
+    ensures notes { notes.new ≡ with_note seat note.Nothing notes.old }
+{
+    notes.set(seat, Note::Nothing);
+    saw(inode, None, found.is_none())
+}
