@@ -1,0 +1,13 @@
+//! Laws about calls over whole inodes, by what is in hand.
+ghost use Rattle.std.specs.Prelude.{ℕ, List, []};
+ghost use Rattle.plain_tree.specs.declared.call.Call.TheVariants as calls;
+ghost use Rattle.call_hands.specs.Expecting.{RunsAlone};
+
+/// Each operation of these calls finds in hand what it asks, whatever those before it answered, and at the end nothing is in hand.
+pub fn calls_find_what_they_ask()
+    ensures close { (fd : ℕ) → RunsAlone [] (calls.Close fd) }
+    ensures inherit { (child : ℕ) → RunsAlone [] (calls.Inherit child) }
+    ensures fstat { (fd : ℕ) → RunsAlone [] (calls.Fstat fd) }
+    ensures chdir { (path : List ℕ) → RunsAlone path (calls.Chdir path) }
+    ensures unlink { (path : List ℕ) → RunsAlone path (calls.Unlink path) }
+{}
