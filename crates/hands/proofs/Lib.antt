@@ -2,3 +2,4 @@ pub mod Fits
 pub mod Performing
 pub mod Stepping
 pub mod Going
+pub mod Dying

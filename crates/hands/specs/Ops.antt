@@ -5,6 +5,7 @@ use Rattle.sleep_lock.specs.SleepLock.{GuardState}
 use Rattle.buffer_cache.specs.Buffers.{BufferState}
 use Rattle.group_log.specs.declared.log.Left.{Left}
 use Rattle.group_log.specs.declared.log.Left.TheVariants.{Free, Commits}
+use Rattle.fs_tables.specs.Limits.{descriptor_count}
 use Rattle.fs_tables.specs.declared.inodes.Inode.{Inode}
 use Rattle.fs_tables.specs.declared.files.Refused.TheVariants as refused
 use Rattle.fs_tables.specs.declared.slots.Doubled.TheVariants as doubled
@@ -95,8 +96,9 @@ Prepared op before h = h ≡ before
 
 -- ---- what is in hand after it
 
+-- an inode that is to be freed is loaded
 abbrev pub IsDown : Seat → Answer → Hand → Hand → Type 0
-IsDown k (Is true) before h = (g : GuardState Inode) × (h ≡ with_inode k (Some g) before) × (g.value.number ≡ number_at k before)
+IsDown k (Is true) before h = (g : GuardState Inode) × (h ≡ with_inode k (Some g) before) × (g.value.number ≡ number_at k before) × IsSome g.value.content
 IsDown k (Is false) before h = h ≡ with_reference k None before
 IsDown k a before h = ⊥
 
@@ -132,6 +134,12 @@ abbrev pub IsHanded : Seat → Answer → Hand → Hand → Type 0
 IsHanded k (Is true) before h = (n : ℕ) × (h ≡ with_reference k (Some n) before)
 IsHanded k a before h = h ≡ before
 
+-- past the last descriptor it is the directory
+abbrev pub IsLent : Seat → ℕ → Answer → Hand → Hand → Type 0
+IsLent k from (Is true) before h = (n : ℕ) × (h ≡ with_reference k (Some n) before)
+IsLent k from (Given fd more) before h = (from < descriptor_count) × (h ≡ before)
+IsLent k from a before h = ⊥
+
 abbrev pub IsAfter : Op → Hand → Answer → Hand → Type 0
 IsAfter Join before a h = (t : ℕ) × (h ≡ with_txn (Some t) before)
 IsAfter Leave before a h = h ≡ with_txn None before
@@ -157,7 +165,7 @@ IsAfter TakePlace before a h = h ≡ before
 IsAfter (TakeDescriptor k file) before a h = IsOpened k a before h
 IsAfter (Double fd) before a h = h ≡ before
 IsAfter (Close k fd) before a h = IsHanded k a before h
-IsAfter (GiveTo k child from) before a h = IsHanded k a before h
+IsAfter (GiveTo k child from) before a h = IsLent k from a before h
 IsAfter (Claim p k) before a h = IsClaimed p k a before h
 IsAfter Reply before a h = h ≡ before
 

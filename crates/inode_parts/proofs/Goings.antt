@@ -14,7 +14,7 @@ use Rattle.fs_tables.specs.declared.files.Want.TheVariants as want
 use Rattle.fs_machine.specs.Steps as steps
 use Rattle.hands.specs.Controls.{Goes}
 use Rattle.hands.specs.Hands.{inode_at, inode_in, number_at, reference_at, with_inode}
-use Rattle.hands.specs.Ops.{IsAfter, IsHanded, IsJoined, IsKept, IsOpened, answer_in, doubled_by, given_by, joined_by, number_by, refused_by, shut_by, yes_in}
+use Rattle.hands.specs.Ops.{IsAfter, IsHanded, IsJoined, IsKept, IsLent, IsOpened, answer_in, doubled_by, given_by, joined_by, number_by, refused_by, shut_by, yes_in}
 use Rattle.hands.specs.declared.hand.Hand.{Hand}
 use Rattle.hands.specs.declared.hand.Seat.{Seat}
 use Rattle.hands.specs.declared.hand.Seat.TheVariants.{One, Two}
@@ -96,6 +96,16 @@ module _ (path : List ℕ) (m : Notes) (before h : Hand) where
   handed_in k (answers.Doubled d) e = same_in path m before h e
   handed_in k (answers.Given fd more) e = same_in path m before h e
 
+  lent_in : (k : Seat) (from : ℕ) (a : Answer) → IsLent k from a before h → carry_in path m before ≡ carry_in path m h
+  lent_in k from (answers.Is true) e = beside_reference path m k (Some e.0) before h e.1
+  lent_in k from (answers.Is false) e = absurd e
+  lent_in k from answers.Nothing e = absurd e
+  lent_in k from (answers.Refused why) e = absurd e
+  lent_in k from (answers.Number n) e = absurd e
+  lent_in k from (answers.File f) e = absurd e
+  lent_in k from (answers.Doubled d) e = absurd e
+  lent_in k from (answers.Given fd more) e = same_in path m before h e.1
+
   module _ (k : Seat) (a : Answer) where
     pub give_goes : StepReady (step.Give k) before → IsAfter (ops.Unlock k) before a h → Goes (step_left path m (step.Give k) before) (answer_in (ops.Unlock k) a h) (Ret (handed path m heard.Did h))
     give_goes ready after = λ i. Ret (record { answer = heard.Did; carry = (gave path m k before ready.0 ready.1 ∙ sym (ap (carry_in path m) after)) i })
@@ -135,13 +145,13 @@ module _ (path : List ℕ) (m : Notes) (before h : Hand) where
         → Goes (step_left path m (step.Lend k child from) before) (answer_in (ops.GiveTo k child from) a h) (Ret (handed path m (heard.Loan x) h))
     unfolding answer_in
     lent_goes child from n x named e after =
-        still_goes (steps.Give child from) loan_heard (answer_in (ops.GiveTo k child from) a h) (heard.Loan x) (ap (λ (n : ℕ). loan_heard (given_by a n)) (sym named) ∙ sym e) (handed_in k a after)
+        still_goes (steps.Give child from) loan_heard (answer_in (ops.GiveTo k child from) a h) (heard.Loan x) (ap (λ (n : ℕ). loan_heard (given_by a n)) (sym named) ∙ sym e) (lent_in k from a after)
 
     pub moved_goes : (child n x : ℕ) → n ≡ number_at k h → x ≡ old_directory (given_by a n) → IsAfter (ops.GiveTo k child descriptor_count) before a h
         → Goes (step_left path m (step.LendDirectory k child) before) (answer_in (ops.GiveTo k child descriptor_count) a h) (Ret (handed path m (heard.Old x) h))
     unfolding answer_in
     moved_goes child n x named e after =
-        still_goes (steps.Give child descriptor_count) (λ a. heard.Old (old_directory a)) (answer_in (ops.GiveTo k child descriptor_count) a h) (heard.Old x) (ap heard.Old (ap (λ (n : ℕ). old_directory (given_by a n)) (sym named) ∙ sym e)) (handed_in k a after)
+        still_goes (steps.Give child descriptor_count) (λ a. heard.Old (old_directory a)) (answer_in (ops.GiveTo k child descriptor_count) a h) (heard.Old x) (ap heard.Old (ap (λ (n : ℕ). old_directory (given_by a n)) (sym named) ∙ sym e)) (lent_in k descriptor_count a after)
 
   module _ (a : Answer) where
     pub slot_goes : (x : Bool) → x ≡ yes_in a → IsAfter ops.TakePlace before a h → Goes (step_left path m step.Slot before) (answer_in ops.TakePlace a h) (Ret (handed path m (heard.Is x) h))

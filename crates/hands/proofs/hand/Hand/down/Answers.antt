@@ -8,6 +8,7 @@ use Rattle.fs_machine.specs.Premises.{Honest}
 use Rattle.hands.specs.Hands.{HandFits, inode_at, inode_in, with_inode, with_reference}
 use Rattle.hands.specs.Ops.{answer_in, dropped_by}
 use Rattle.hands.proofs.Fits.{inode-there, tables-stay, inode-taken, refers, reference-back, inode-in, number-there}
+use Rattle.hands.proofs.Dying.{dies_loaded}
 use Rattle.std.proofs.Common.{true}
 use Rattle.fs_tables.specs.declared.inodes.Inode.{Inode}
 use Rattle.hands.proofs.hand.Hand.down.Goals as goal
@@ -59,7 +60,7 @@ returns-in-Dying g c =
       kind = refl;
       honest = tt;
       still = tt;
-      hand = (guard, there, own.number ∙ sym number);
+      hand = (guard, there, own.number ∙ sym number, dies_loaded hart c.in-Dying.reference n guard.value.content Passes old new (did.ran Passes));
       fits = subst (λ h. HandFits hart new h) (sym there)
           (inode-taken hart old new hand c.requires.fits k guard (ap (part_of g.D.Device.contents g.D.Device.failures) did.log)
           (record { hand = own.hand; number = refl; locked = own.locked }) did.rest (λ l f owns e. did.apart l f owns (e ∙ own.number)));

@@ -1,4 +1,4 @@
-use Rattle.std.proofs.Common.{ℕ, Some, refl, sym, ap, ◌∙◌, subst, inl}
+use Rattle.std.proofs.Common.{◌<◌, ◌≤◌, arith, ℕ, Some, refl, sym, ap, ◌∙◌, subst, inl}
 use Rattle.atomic_programs.specs.Prog.{Ran}
 use Rattle.fs_machine.specs.LogPart.{Passes, part_of}
 use Rattle.fs_machine.specs.Steps.{state_of}
@@ -7,7 +7,11 @@ use Rattle.hands.specs.Hands.{HandFits, reference_at}
 use Rattle.hands.specs.Ops.{answer_in}
 use Rattle.hands.proofs.Fits.{tables-stay, refers, number-there, reference-there}
 use Rattle.fs_tables.specs.declared.slots.Given.TheVariants as given
+use Rattle.fs_tables.specs.Limits.{descriptor_count}
 use Rattle.hands.proofs.hand.Hand.give_to.Goals as goal
+
+below : (a b : ℕ) → (b ≤ a → ⊥) → a < b
+below a b above = omega (arith, above)
 
 pub returns-in-Descriptor : goal.returns-in-Descriptor
 unfolding Honest answer_in
@@ -22,7 +26,7 @@ returns-in-Descriptor g c =
       kind = refl;
       honest = tt;
       still = tt;
-      hand = refl;
+      hand = (below c.args.from descriptor_count did.past, refl);
       fits = tables-stay hart old new hand c.requires.fits (ap (part_of g.D.Device.contents g.D.Device.failures) did.log) did.rest;
       others = did.others;
       called = inl (ap (λ l. l.cache.device) did.log);
