@@ -1,17 +1,9 @@
 //! What an inode's record tells.
-ghost use Rattle.std.specs.Prelude.{◌≡◌, ℤ, IsSome};
-ghost use Rattle.std.specs.Option.{MatchOption, option_map_or};
-ghost use Rattle.inode_table.specs.Programs.{record_of};
+ghost use Rattle.std.specs.Prelude.{◌≡◌};
 ghost use Rattle.inodes_on_blocks.specs.Reading.{natural};
-ghost use Rattle.hands.specs.Hands.{no_inode};
-ghost use Rattle.hand_controls.specs.HeldInodes.{record_in, IsLoadedAt};
 ghost use Rattle.inode_parts.specs.Faces.{face_by, face_unless_free, sort_by};
 
 use fs_layout::Dinode;
-use fs_tables::Inode;
-use hands::{Hand, Seat};
-use inode_data::record;
-use sleep_lock::Guard;
 use whole_calls::{Face, Sort};
 
 const FREE: i16 = 0;
@@ -39,8 +31,8 @@ fn count(nlink: i16) -> u16
     if nlink < 0 { 0 } else { nlink as u16 }
 }
 
-/// Its type, count and size.
-pub(crate) fn face(inode: &Dinode) -> Face
+// Its type, count and size.
+fn face(inode: &Dinode) -> Face
     ensures { result ≡ face_by inode.now }
 {
     Face {
@@ -50,7 +42,7 @@ pub(crate) fn face(inode: &Dinode) -> Face
     }
 }
 
-/// The same; a free one tells nothing.
+/// Its type, count and size; a free one tells nothing.
 pub(crate) fn face_unless_free(inode: &Dinode) -> Option<Face>
     ensures { result ≡ face_unless_free inode.now }
 {
@@ -59,33 +51,4 @@ pub(crate) fn face_unless_free(inode: &Dinode) -> Option<Face>
     } else {
         Some(face(inode))
     }
-}
-
-fn record_of(place: &Option<Guard<Inode>>) -> Dinode
-    requires { MatchOption place.now ⊥ (λ g. IsSome g.value.content) }
-    ensures { result ≡ record_of (option_map_or (λ g. g.value) place.now no_inode) }
-{
-    match place {
-        Some(guard) => record(guard),
-        None => unreachable!(),
-    }
-}
-
-/// The record of the inode at a seat, which is loaded.
-pub(crate) fn record_at(hand: &Hand, seat: Seat) -> Dinode
-    requires { IsLoadedAt seat hand.now }
-    ensures { result ≡ record_in seat hand.now }
-{
-    match seat {
-        Seat::One => record_of(&hand.one),
-        Seat::Two => record_of(&hand.two),
-    }
-}
-
-/// What that tells.
-pub(crate) fn face_at(hand: &Hand, seat: Seat) -> Face
-    requires { IsLoadedAt seat hand.now }
-    ensures { result ≡ face_by (record_in seat hand.now) }
-{
-    face(&record_at(hand, seat))
 }

@@ -21,9 +21,10 @@ ghost use Rattle.whole_calls.specs.Asks.{query_in};
 ghost use Rattle.whole_calls.specs.declared.asks.Heard.TheVariants as heard;
 ghost use Rattle.whole_calls.specs.Elements.{name_in, IsElement};
 
-use crate::faces::{face_unless_free, record_at};
+use crate::faces::face_unless_free;
 use crate::note::{Note, Notes};
 use crate::places::reference_seat;
+use crate::records::record_at;
 use content_parts::Search;
 use directory::{Found, Sought};
 use fs_layout::{Dinode, Super};
