@@ -42,7 +42,7 @@ CameTo k n before h = (g : GuardState Inode) × (h ≡ with_inode k (Some g) bef
 abbrev pub Locked : ℕ → Hand → Hand → Type 0
 Locked n before h = CameTo (seat_of_reference n before) n before h
 
--- .. with a reference
+-- .. with a reference, which was listed by a walk (the hand's operations don't make this yet: they keep such a reference in its seat)
 abbrev pub Relocked : ℕ → Hand → Hand → Type 0
 Relocked n before h = CameTo (free_seat before) n (with_reference (free_seat before) (Some n) before) h
 
