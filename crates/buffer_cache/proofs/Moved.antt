@@ -4,10 +4,11 @@ use Rattle.std.specs.List.{range_with_len}
 use Rattle.std.proofs.lemmas.List.{append_assoc}
 use Rattle.buffer_cache.specs.Lists.{change_to_end, count_of}
 use Rattle.buffer_cache.specs.Order.{is_same}
-use Rattle.buffer_cache.specs.Links.{IsPath, follow, IsRing}
+use Rattle.buffer_cache.specs.Links.{first_or, IsPath, follow, IsRing}
 use Rattle.buffer_cache.proofs.Firsts.{pick}
 use Rattle.buffer_cache.proofs.Seated.{same_number}
-use Rattle.buffer_cache.proofs.Rings.{count_here, count_join, last_split, ring_again, Unlinked, Linked, linked}
+use Rattle.buffer_cache.proofs.Ordered.{range_apart}
+use Rattle.buffer_cache.proofs.Rings.{behind_first, count_here, count_join, last_split, ring_again, Unlinked, Linked, linked}
 
 there_counted : (n : ℕ) (front back : List ℕ) → 1 ≤ count_of (is_same n) (front ++ n ∷ back)
 there_counted n [] back =
@@ -80,3 +81,25 @@ moved_last last x y n x1 y1 x2 y2 ring out long_x long_y lt x_is y_is = record {
 
     again : IsRing last x2 y2 × (follow x2 last last ≡ ms ++ n ∷ [])
     again = ring_again last x2 y2 (ms ++ n ∷ []) path each
+
+last_of : (last n : ℕ) (ms front : List ℕ) → last ∷ ms ≡ front ++ n ∷ [] → n < last → (fs : List ℕ) × (ms ≡ fs ++ n ∷ [])
+last_of last n ms [] is lt = let same : last ≡ n = ap (λ (l : List ℕ). first_or l 0) is in absurd (omega (arith, same, lt))
+last_of last n ms (f ∷ fs) is lt = (fs, ap behind_first is)
+
+-- the youngest stands where it would be moved to
+pub youngest_stays : (last : ℕ) (x y : List ℕ) (n : ℕ) → IsRing last x y → n < last → get_or y last 0 ≡ n → follow x last last ≡ change_to_end (is_same n) (λ k. k) (follow x last last)
+youngest_stays last x y n ring lt is =
+    at.1 ∙ sym (moved_here n at.0 [] once) ∙ ap (λ (l : List ℕ). change_to_end (is_same n) (λ k. k) l) (sym at.1)
+  where
+    split : (front : List ℕ) × (last ∷ follow x last last ≡ front ++ get_or y last 0 ∷ [])
+    split = last_split x y last (follow x last last) last ring.path
+
+    at : (fs : List ℕ) × (follow x last last ≡ fs ++ n ∷ [])
+    at = last_of last n (follow x last last) split.0 (split.1 ∙ ap (λ (k : ℕ). split.0 ++ k ∷ []) is) lt
+
+    once : count_of (is_same n) (at.0 ++ n ∷ []) ≤ 1
+    once =
+        let a = ap (λ (l : List ℕ). count_of (is_same n) l) at.1 in
+        let b = ring.each (is_same n) in
+        let c = range_apart n 0 last in
+        omega (arith, a, b, c)

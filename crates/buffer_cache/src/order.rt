@@ -66,6 +66,10 @@ impl Order {
         requires { number < buffer_count }
         ensures { self.new ≡ change_to_end (is_same number) (λ n. n) self.old }
     {
+        // what was in use last is often given back again: it stands where it has to
+        if self.older[BUFFERS] == number {
+            return;
+        }
         unlink(&mut self.younger, &mut self.older, number);
         let youngest = self.older[BUFFERS];
         link_behind(&mut self.younger, &mut self.older, youngest, number);

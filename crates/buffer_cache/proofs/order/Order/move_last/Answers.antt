@@ -1,8 +1,8 @@
-use Rattle.std.proofs.Common.{ℕ, List, refl, ◌∙◌, ap, arith}
+use Rattle.std.proofs.Common.{ℕ, List, refl, sym, ◌∙◌, ap, arith}
 use Rattle.buffer_cache.specs.Lists.{change_to_end}
 use Rattle.buffer_cache.specs.Order.{is_same}
 use Rattle.buffer_cache.proofs.Rings.{unlinked}
-use Rattle.buffer_cache.proofs.Moved.{moved_last}
+use Rattle.buffer_cache.proofs.Moved.{moved_last, youngest_stays}
 use Rattle.buffer_cache.proofs.order.Order.move_last.Goals as goal
 
 pub unlink-requires-clause-before : goal.unlink-requires-clause-before
@@ -51,3 +51,9 @@ returns c =
     let out = unlinked 46 in_.younger in_.older c.args.number x y c.self.invariant (omega arith) (omega arith) c.requires c.unlink.ensures.next c.unlink.ensures.previous in
     (moved_last 46 in_.younger in_.older c.args.number x y c.link_behind.new.next c.link_behind.new.previous c.self.invariant out (omega arith) (omega arith) c.requires c.link_behind.ensures.next c.link_behind.ensures.previous).view
     ∙ ap (λ (l : List ℕ). change_to_end (is_same c.args.number) (λ k. k) l) c.self.view_is
+
+pub returns-then-self-number : goal.returns-then-self-number
+returns-then-self-number c =
+    let in_ = c.self.inside in
+    let stays = youngest_stays 46 in_.younger in_.older c.args.number c.self.invariant c.requires c.if-self-number.true in
+    sym c.self.view_is ∙ stays ∙ ap (λ (l : List ℕ). change_to_end (is_same c.args.number) (λ k. k) l) c.self.view_is
