@@ -11,8 +11,8 @@ use Rattle.inode_machine.specs.Inodes.{Face}
 use Rattle.inode_machine.specs.Moving.{inherit_end, inherit_program, lend_from, lend_on, lent_directory}
 use Rattle.inode_machine.specs.Parts.{P, done, drop, failed, say}
 use Rattle.inode_machine.specs.World as above
-use Rattle.call_hands.specs.Expecting.{BeginsWith}
-use Rattle.call_hands.specs.Holding.{Having, Leaves, Runs}
+use Rattle.inode_parts.specs.Expecting.{BeginsWith}
+use Rattle.inode_parts.specs.Holding.{Having, Leaves, Runs}
 use Rattle.call_hands.proofs.Seats.{InHand, Nothing, Refers, empty_in}
 use Rattle.call_hands.proofs.Holdings.{free_found, none_locked, opened, referred, stays}
 use Rattle.call_hands.proofs.Running as running

@@ -16,8 +16,8 @@ use Rattle.inode_parts.specs.Clears.{HasFound}
 use Rattle.inode_parts.specs.OneSteps.{HasFreeSeat, HasLock, HasReference, IsAlone, free_seat, locks, other, seat_of_lock, seat_of_reference}
 use Rattle.inode_parts.specs.declared.note.Note.{Note}
 use Rattle.inode_parts.specs.declared.note.Notes.{Notes}
-use Rattle.call_hands.specs.Expecting.{MayLock, MayRelock}
-use Rattle.call_hands.specs.Holding.{CameTo, Having, Leaves, Opened, Relocked, Stand}
+use Rattle.inode_parts.specs.Expecting.{MayLock, MayRelock}
+use Rattle.inode_parts.specs.Holding.{CameTo, Having, Leaves, Opened, Relocked, Stand}
 use Rattle.call_hands.proofs.Seats.{Apart, Finds, Held, HeldAt, InHand, IsClosed, IsHeld, IsLoaded, Locks, Nothing, Opens, Refers, alone, at_free, at_lock, at_reference, beside_both, beside_lock, beside_record, beside_reference, lock_at, lock_kept, lock_seat, lock_stays, lock_there, none_is, reference_kept, reference_stays, reference_there, reference_with, updated, with_other_txn}
 
 -- the same hand

@@ -8,8 +8,8 @@ use Rattle.inode_machine.specs.World as above
 use Rattle.inode_machine.specs.World.Mark.{Frees}
 use Rattle.inode_parts.specs.Carries.{note_at}
 use Rattle.inode_parts.specs.OneSteps.{other, seat_of_reference}
-use Rattle.call_hands.specs.Expecting.{BeginsWith}
-use Rattle.call_hands.specs.Holding.{Having, Leaves, Runs}
+use Rattle.inode_parts.specs.Expecting.{BeginsWith}
+use Rattle.inode_parts.specs.Holding.{Having, Leaves, Runs}
 use Rattle.call_hands.proofs.Seats.{Apart, Freed, Held, InHand, Locks, Nothing, Opens, Refers, in_empty}
 use Rattle.call_hands.proofs.Holdings.{at_its_lock, down_found, dropped, gave, joined, left, lock_found, locked, no_txn, reference_found, reloaded, stays}
 

@@ -18,7 +18,7 @@ use Rattle.inode_parts.specs.Clears.{HasFound}
 use Rattle.inode_parts.specs.OneSteps.{free_seat, locks, other, refers, seat_of_lock, seat_of_reference}
 use Rattle.inode_parts.specs.declared.note.Note.{Note}
 use Rattle.inode_parts.specs.declared.note.Notes.{Notes}
-use Rattle.call_hands.specs.Holding.{Having}
+use Rattle.inode_parts.specs.Holding.{Having}
 
 -- at a seat: nothing; a reference to inode n; its lock too, with the record, and also with a name that was found; or without the record; the lock alone
 pub data Held : Type 0 where

@@ -18,8 +18,8 @@ use Rattle.inode_machine.specs.Parts.{P, Stop, done, failed, full, give_up, look
 use Rattle.inode_machine.specs.World as above
 use Rattle.inode_parts.specs.Carries.{note_at}
 use Rattle.inode_parts.specs.Clears.{HasFound}
-use Rattle.call_hands.specs.Expecting.{BeginsWith}
-use Rattle.call_hands.specs.Holding.{Having, IsCounted, Leaves, Runs}
+use Rattle.inode_parts.specs.Expecting.{BeginsWith}
+use Rattle.inode_parts.specs.Holding.{Having, IsCounted, Leaves, Runs}
 use Rattle.call_hands.proofs.Seats.{Apart, Finds, Held, InHand, Locks, Nothing, Refers, empty_in, swapped}
 use Rattle.call_hands.proofs.Holdings.{at_its_lock, found, free_found, locked, locked_seat, lock_found, referred, reloaded, take_found, unreferred}
 use Rattle.call_hands.proofs.Running as running

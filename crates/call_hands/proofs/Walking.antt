@@ -17,8 +17,8 @@ use Rattle.inode_machine.specs.World as above
 use Rattle.inode_machine.specs.World.Mark.{Frees}
 use Rattle.inode_parts.specs.Carries.{note_at}
 use Rattle.inode_parts.specs.OneSteps.{other, seat_of_lock, seat_of_reference}
-use Rattle.call_hands.specs.Expecting.{BeginsWith}
-use Rattle.call_hands.specs.Holding.{CameTo, Having, IsCounted, Leaves, Runs, Stand}
+use Rattle.inode_parts.specs.Expecting.{BeginsWith}
+use Rattle.inode_parts.specs.Holding.{CameTo, Having, IsCounted, Leaves, Runs, Stand}
 use Rattle.call_hands.proofs.Seats.{Apart, Held, InHand, Locks, Nothing, Refers, empty_in, swapped}
 use Rattle.call_hands.proofs.Holdings.{at_its_lock, dropped, found, free_found, locked, locked_seat, lock_found, reference_found, referred, relocked, relocking, settled, take_found, unreferred}
 use Rattle.call_hands.proofs.Running as running

@@ -1,7 +1,7 @@
 //! Laws about calls over whole inodes, by what is in hand.
 ghost use Rattle.std.specs.Prelude.{ℕ, List, []};
 ghost use Rattle.plain_tree.specs.declared.call.Call.TheVariants as calls;
-ghost use Rattle.call_hands.specs.Expecting.{RunsAlone};
+ghost use Rattle.inode_parts.specs.Expecting.{RunsAlone};
 
 /// Each operation of these calls finds in hand what it asks, whatever those before it answered, and at the end nothing is in hand.
 pub fn calls_find_what_they_ask()

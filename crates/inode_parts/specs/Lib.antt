@@ -14,4 +14,6 @@ pub mod FileLocks
 pub mod Faces
 pub mod Takes
 pub mod InodeParts
+pub mod Holding
+pub mod Expecting
 pub mod Calls

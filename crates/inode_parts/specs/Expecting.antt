@@ -11,7 +11,7 @@ use Rattle.inode_machine.specs.World as above
 use Rattle.inode_parts.specs.Carries.{note_at}
 use Rattle.inode_parts.specs.Clears.{HasFound}
 use Rattle.inode_parts.specs.OneSteps.{Begins, HasLock, HasReference, IsAlone, free_seat, seat_of_lock, seat_of_reference}
-use Rattle.call_hands.specs.Holding.{Having, Runs}
+use Rattle.inode_parts.specs.Holding.{Having, Runs}
 
 -- the inode's lock is in hand, with its record, and there is a transaction
 abbrev pub HasChangeable : ℕ → Hand → Type 0
