@@ -146,8 +146,8 @@ impl<D: Device> World<D> {
         told.outcome(&mut self.replied)
     }
 
-    /// Where the log's commit is.
-    pub(crate) fn phase(&self) -> Phase
+    /// Where the log's commit is: none is under way, or so many of its blocks were copied.
+    pub fn phase(&self) -> Phase
         ensures { result ≡ self.now.harts.core.log.phase }
     {
         self.harts.phase()
