@@ -8,23 +8,23 @@ use Rattle.console.specs.declared.doing.Doing.{Doing}
 use Rattle.console.specs.declared.fault.ConsoleFault.{ConsoleFault}
 use Rattle.console.specs.Commands.{state}
 use Rattle.console.specs.Notes.{NotesOf, no_notes}
-use Rattle.console.specs.Prompts.{PromptsAll, PromptsReader, doing_text, state_text}
+use Rattle.console.specs.Prompts.{PromptsAll, PromptsReader, calls_text, doing_text}
 use Rattle.console.specs.Queues.{Left, none_left}
 use Rattle.console.specs.Runs.{EndsSo, most_noted}
 use Rattle.console.specs.Sessions.{SessionOf, doing_at}
 
--- ---- the state
+-- ---- calls under way
 
-pub state_more : (known next end : Option (List ℕ)) (harts : List ℕ) (doing : List (Option Doing)) (i hart : ℕ) → i < length harts → hart ≡ get_or harts i 0 → Appends known next (doing_text hart (doing_at hart doing))
-    → Appends next end (state_text (drop (i + 1) harts) doing) → Appends known end (state_text (drop i harts) doing)
-unfolding state_text
-state_more known next end harts doing i hart lt is line rest =
+pub calls_more : (known next end : Option (List ℕ)) (harts : List ℕ) (doing : List (Option Doing)) (i hart : ℕ) → i < length harts → hart ≡ get_or harts i 0 → Appends known next (doing_text hart (doing_at hart doing))
+    → Appends next end (calls_text (drop (i + 1) harts) doing) → Appends known end (calls_text (drop i harts) doing)
+unfolding calls_text
+calls_more known next end harts doing i hart lt is line rest =
     let split : drop i harts ≡ hart ∷ drop (i + 1) harts = at_drop_more (λ hs. hs) harts i 0 lt ∙ ap (λ h. h ∷ drop (i + 1) harts) (sym is) in
-    subst (λ hs. Appends known end (state_text hs doing)) (sym split) (appends_both known next end (doing_text hart (doing_at hart doing)) (state_text (drop (i + 1) harts) doing) line rest)
+    subst (λ hs. Appends known end (calls_text hs doing)) (sym split) (appends_both known next end (doing_text hart (doing_at hart doing)) (calls_text (drop (i + 1) harts) doing) line rest)
 
-pub state_end : (known : Option (List ℕ)) (harts : List ℕ) (doing : List (Option Doing)) (i : ℕ) → length harts ≤ i → Appends known known (state_text (drop i harts) doing)
-unfolding state_text
-state_end known harts doing i le = subst (λ hs. Appends known known (state_text hs doing)) (sym (at_drop_all (λ hs. hs) harts i le)) (appends_nothing known)
+pub calls_end : (known : Option (List ℕ)) (harts : List ℕ) (doing : List (Option Doing)) (i : ℕ) → length harts ≤ i → Appends known known (calls_text (drop i harts) doing)
+unfolding calls_text
+calls_end known harts doing i le = subst (λ hs. Appends known known (calls_text hs doing)) (sym (at_drop_all (λ hs. hs) harts i le)) (appends_nothing known)
 
 -- ---- all lines, and what stands behind them
 

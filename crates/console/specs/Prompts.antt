@@ -1,8 +1,10 @@
 -- What comes of lines that are typed at a prompt (docs/SCRIPT.md): each is answered before the next is read.
-use Rattle.std.specs.Prelude.{◌≡◌, ◌⊎◌, ℕ, ◌+◌, Bool, true, false, List, [], ◌∷◌, ◌++◌, replicate, Option, Some, None, IfSome, Result, Ok, Err, Vec, codes, decimal}
+use Rattle.std.specs.Prelude.{◌≡◌, ◌⊎◌, ℕ, ◌+◌, ◌==◌, if◌then◌else◌, Bool, true, false, List, [], ◌∷◌, ◌++◌, replicate, Option, Some, None, IfSome, Result, Ok, Err, Vec, codes, decimal}
 use Rattle.std.specs.Io.KnownBytes.{Appends}
 use Rattle.std.specs.declared.alloc.Global.{Global}
 use Rattle.block_device.specs.Blocks.{blocks_of}
+use Rattle.group_log.specs.declared.phase.Phase.{Phase}
+use Rattle.group_log.specs.declared.phase.Phase.TheVariants.{Open, Staging, Installing, Halted}
 use Rattle.fs_machine.specs.declared.kind.Kind.{Kind}
 use Rattle.hart_core.specs.Mounting.{Rests}
 use Rattle.script.specs.Asking.{Asked, Nothing, Help, State, Quit, Run, asked_in, typed_lines}
@@ -19,7 +21,7 @@ use Rattle.console.specs.Notes.{NotesOf, no_notes}
 use Rattle.console.specs.Queues.{Left, none_left}
 use Rattle.console.specs.Runs.{EndsSo, RunsNone, most_noted}
 use Rattle.console.specs.Scripts.{HandsOut, TakesNoImage}
-use Rattle.console.specs.Sessions.{SessionOf, doing_at}
+use Rattle.console.specs.Sessions.{SessionOf, doing_at, is_joined, locks_of}
 use Rattle.console.specs.Verbs.{word_of}
 
 -- ---- what is told
@@ -33,19 +35,38 @@ abbrev pub step_text : Option Kind → List ℕ
 step_text None = codes " started"
 step_text (Some kind) = codes " after " ++ kind_word kind
 
+-- of how many inodes it has the locks
+abbrev pub locks_text : ℕ → List ℕ
+locks_text n = if n == 0 then [] else if n == 1 then codes ", 1 lock" else codes ", " ++ decimal n ++ codes " locks"
+
+abbrev pub joined_text : Bool → List ℕ
+joined_text true = codes ", in a transaction"
+joined_text false = []
+
 abbrev pub waits_text : Bool → List ℕ
 waits_text true = codes ", waits\n"
 waits_text false = codes "\n"
 
--- a hart that has a call: which, its last step, and whether the step that was tried since waited
+-- a hart that has a call: which, its last step, what it has since, and whether the step that was tried since waited
 abbrev pub doing_text : ℕ → Option Doing → List ℕ
 doing_text hart None = []
-doing_text hart (Some d) = decimal hart ++ codes " " ++ word_of d.verb ++ step_text d.last ++ waits_text d.waits
+doing_text hart (Some d) = decimal hart ++ codes " " ++ word_of d.verb ++ step_text d.last ++ locks_text (locks_of d) ++ joined_text (is_joined d) ++ waits_text d.waits
 
 -- of each of these harts
-unfoldable pub state_text : List ℕ → List (Option Doing) → List ℕ
-state_text [] doing = []
-state_text (hart ∷ harts) doing = doing_text hart (doing_at hart doing) ++ state_text harts doing
+unfoldable pub calls_text : List ℕ → List (Option Doing) → List ℕ
+calls_text [] doing = []
+calls_text (hart ∷ harts) doing = doing_text hart (doing_at hart doing) ++ calls_text harts doing
+
+-- where the log's commit is
+abbrev pub phase_text : Phase → List ℕ
+phase_text Open = codes "log open\n"
+phase_text (Staging copied) = codes "log commits, " ++ decimal copied ++ codes " copied into it\n"
+phase_text (Installing copied) = codes "log commits, " ++ decimal copied ++ codes " copied home\n"
+phase_text Halted = codes "log halted\n"
+
+-- all of a file system on which lines are typed
+abbrev pub state_text : {D : Type 0} → List ℕ → SessionOf D → List ℕ
+state_text harts s = calls_text harts s.doing ++ phase_text s.world.harts.core.log.phase
 
 -- a bad line, and why it is bad
 abbrev pub bad_text : ℕ → List ℕ → List ℕ
@@ -107,7 +128,7 @@ module _ {D : Type 0} (contents : D → List (List ℕ)) (failures : D → ℕ) 
   abbrev pub does : Asked → Behaviour (RunOf D) Bool
   does Nothing = gives true
   does Help = followed_by (prints (λ s. help)) (λ u. gives true)
-  does State = followed_by (prints (λ s. state_text all_harts s.session.doing)) (λ u. gives true)
+  does State = followed_by (prints (λ s. state_text all_harts s.session)) (λ u. gives true)
   does Quit = gives false
   does (Run l) = followed_by (line contents failures l) (λ u. gives true)
 

@@ -1,6 +1,7 @@
 -- A mounted file system that a console runs, and what happens to it.
-use Rattle.std.specs.Prelude.{◌≡◌, ℕ, ◌+◌, min, true, false, List, replicate, set, get_or, Option, Some, None}
+use Rattle.std.specs.Prelude.{◌≡◌, ℕ, ◌+◌, ◌-◌, min, nat_lt, Bool, true, false, List, replicate, set, get_or, Option, Some, None}
 use Rattle.fs_machine.specs.declared.kind.Kind.{Kind}
+use Rattle.fs_machine.specs.declared.kind.Kind.TheVariants as kinds
 use Rattle.atomic_programs.specs.Calls.{with_answer}
 use Rattle.hart_core.specs.declared.events.Event.{Event}
 use Rattle.hart_core.specs.declared.events.Event.TheVariants as event
@@ -26,6 +27,14 @@ begun verb = record { verb = verb; ran = replicate 12 0; last = None; waits = fa
 
 abbrev pub count_of : Kind → Doing → ℕ
 count_of kind d = get_or d.ran (kind_place kind) 0
+
+-- how many inodes' locks it has: it has taken so many more than it has given up
+abbrev pub locks_of : Doing → ℕ
+locks_of d = count_of kinds.Lock d - count_of kinds.Unlock d
+
+-- it has joined a transaction, and not left it since
+abbrev pub is_joined : Doing → Bool
+is_joined d = nat_lt (count_of kinds.Leave d) (count_of kinds.Join d)
 
 abbrev pub with_step : Kind → Doing → Doing
 with_step kind d = record d { ran = set d.ran (kind_place kind) (one_more (count_of kind d)); last = Some kind; waits = false }

@@ -1,6 +1,6 @@
 //! What a hart's call has done so far.
 ghost use Rattle.std.specs.Prelude.{◌≡◌};
-ghost use Rattle.console.specs.Sessions.{begun, count_of, done_after, stepped, with_step, with_wait};
+ghost use Rattle.console.specs.Sessions.{begun, count_of, done_after, is_joined, locks_of, stepped, with_step, with_wait};
 
 use crate::numbers::{KINDS, kind_place};
 use crate::verb::Verb;
@@ -36,6 +36,21 @@ impl Doing {
         ensures { result ≡ count_of kind self.now }
     {
         self.ran[kind_place(kind)]
+    }
+
+    /// How many inodes' locks it has: it has taken so many more than it has given up.
+    pub fn locks(&self) -> u32
+        ensures { result ≡ locks_of self.now }
+    {
+        self.count(Kind::Lock)
+            .saturating_sub(self.count(Kind::Unlock))
+    }
+
+    /// Whether it is in a transaction: it has joined one, and not left it since.
+    pub fn is_joined(&self) -> bool
+        ensures { result ≡ is_joined self.now }
+    {
+        self.count(Kind::Leave) < self.count(Kind::Join)
     }
 
     fn with_step(self, kind: Kind) -> Doing

@@ -44,7 +44,7 @@ upto H KIND N      makes steps up to H's Nth lock, unlock, get, read, put, join,
 end H              makes steps of H until its call ends, or waits
 do H CALL ..       starts a call, and makes steps of H until it ends, or waits
 all                makes steps of all harts in turn, until each is idle, or waits
-state              tells of each hart's call: its last step, and whether it waits
+state              tells of each call: its last step, locks, transaction, wait; and where the log's commit is
 help               tells which lines there are
 quit               ends the input, as exit does
 # ..               is a comment
@@ -70,7 +70,7 @@ fn tell<W: Write>(out: &mut W, text: &str) -> Result<(), ConsoleFault>
 
 fn tell_state<D: Device, W: Write>(session: &Session<D>, out: &mut W) -> Result<(), ConsoleFault>
     ensures written { IsWritten result }
-    ensures prints { OnOk result (Appends (W.contents out.old) (W.contents out.new) (state_text all_harts session.now.doing)) }
+    ensures prints { OnOk result (Appends (W.contents out.old) (W.contents out.new) (state_text all_harts session.now)) }
 {
     write_state(session, out, &ALL_HARTS).map_err(ConsoleFault::Write)
 }

@@ -8,6 +8,7 @@ ghost use Rattle.console.specs.Sessions.{Happens, doing_at, hart_in};
 use crate::doing::{Doing, done_after};
 use crate::verb::Verb;
 use block_device::Device;
+use group_log::Phase;
 use hart_core::{Came, Event, World};
 use image_tree::MountFault;
 use std::alloc::Global;
@@ -80,6 +81,13 @@ impl<D: Device> Session<D> {
         } else {
             None
         }
+    }
+
+    /// Where the log's commit is.
+    pub(crate) fn phase(&self) -> Phase
+        ensures { result ≡ self.now.world.harts.core.log.phase }
+    {
+        self.world.phase()
     }
 
     /// Makes an event, of a call with this word.

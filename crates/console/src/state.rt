@@ -1,7 +1,7 @@
-//! What each hart's call has done so far, for whoever types lines.
+//! How far each hart's call has come, and where the log's commit is, for whoever types lines.
 ghost use Rattle.std.specs.Prelude.{◌≡◌, ◌++◌, OnOk, codes, decimal};
 ghost use Rattle.std.specs.Io.KnownBytes.{Appends};
-ghost use Rattle.console.specs.Prompts.{doing_text, state_text, step_text, waits_text};
+ghost use Rattle.console.specs.Prompts.{calls_text, doing_text, joined_text, locks_text, phase_text, state_text, step_text, waits_text};
 ghost use Rattle.console.specs.Sessions.{doing_at};
 
 use crate::doing::Doing;
@@ -9,17 +9,30 @@ use crate::numbers::kind_word;
 use crate::session::Session;
 use block_device::Device;
 use fs_machine::Kind;
+use group_log::Phase;
 use std::io;
 use std::io::Write;
 
-/// A line for each of these harts that has a call: which, the kind of its last step, and whether the step that was tried since
-/// waited.
+/// A line for each of these harts that has a call, and one of the log: where its commit is.
 pub fn write_state<D: Device, W: Write>(
     session: &Session<D>,
     out: &mut W,
     harts: &[u8],
 ) -> io::Result<()>
-    ensures { OnOk result (Appends (W.contents out.old) (W.contents out.new) (state_text harts.now session.now.doing)) }
+    ensures { OnOk result (Appends (W.contents out.old) (W.contents out.new) (state_text harts.now session.now)) }
+{
+    write_calls(session, out, harts)?;
+    write_phase(out, session.phase())
+}
+
+// Of each hart that has a call: which, the kind of its last step, how many inodes' locks it has, whether it is in a transaction, and
+// whether the step that was tried since waited.
+fn write_calls<D: Device, W: Write>(
+    session: &Session<D>,
+    out: &mut W,
+    harts: &[u8],
+) -> io::Result<()>
+    ensures { OnOk result (Appends (W.contents out.old) (W.contents out.new) (calls_text harts.now session.now.doing)) }
 {
     for hart in harts {
         write_doing(session, out, *hart)?;
@@ -42,6 +55,8 @@ fn write_call<W: Write>(out: &mut W, hart: u8, doing: &Doing) -> io::Result<()>
     let word = doing.verb.word();
     write!(out, "{hart} {word}")?;
     write_step(out, doing.last)?;
+    write_locks(out, doing.locks())?;
+    write_joined(out, doing.is_joined())?;
     write_wait(out, doing.waits)
 }
 
@@ -61,6 +76,28 @@ fn write_kind<W: Write>(out: &mut W, word: &str) -> io::Result<()>
     write!(out, " after {word}")
 }
 
+fn write_locks<W: Write>(out: &mut W, count: u32) -> io::Result<()>
+    ensures { OnOk result (Appends (W.contents out.old) (W.contents out.new) (locks_text count)) }
+{
+    if count == 0 {
+        Ok(())
+    } else if count == 1 {
+        write!(out, ", 1 lock")
+    } else {
+        write!(out, ", {count} locks")
+    }
+}
+
+fn write_joined<W: Write>(out: &mut W, joined: bool) -> io::Result<()>
+    ensures { OnOk result (Appends (W.contents out.old) (W.contents out.new) (joined_text joined)) }
+{
+    if joined {
+        write!(out, ", in a transaction")
+    } else {
+        Ok(())
+    }
+}
+
 fn write_wait<W: Write>(out: &mut W, waits: bool) -> io::Result<()>
     ensures { OnOk result (Appends (W.contents out.old) (W.contents out.new) (waits_text waits)) }
 {
@@ -68,5 +105,16 @@ fn write_wait<W: Write>(out: &mut W, waits: bool) -> io::Result<()>
         writeln!(out, ", waits")
     } else {
         writeln!(out)
+    }
+}
+
+fn write_phase<W: Write>(out: &mut W, phase: Phase) -> io::Result<()>
+    ensures { OnOk result (Appends (W.contents out.old) (W.contents out.new) (phase_text phase)) }
+{
+    match phase {
+        Phase::Open => writeln!(out, "log open"),
+        Phase::Staging(copied) => writeln!(out, "log commits, {copied} copied into it"),
+        Phase::Installing(copied) => writeln!(out, "log commits, {copied} copied home"),
+        Phase::Halted => writeln!(out, "log halted"),
     }
 }

@@ -71,15 +71,20 @@ fn each_line_is_answered(rt: HostRuntime) -> Result<(), Fail> {
 #[test]
 fn the_state_is_told(rt: HostRuntime) -> Result<(), Fail> {
     for (lines, answers) in [
-        ("state\n", "> > \n"),
+        ("state\n", "> log open\n> \n"),
         (
             "do 0 open / 0\ndo 1 open / 0\n7 mkdir /d\n0 read 0 3\nupto 0 lock 1\nstate\n1 read 0 9\nend 1\nstate\nend 0\nstate\n",
-            "> 0 open fd 0\n> 1 open fd 0\n> > > > 0 read after lock\n7 mkdir started\n> > 1 waits\n> 0 read after lock\n1 read started, waits\n7 mkdir started\n> 0 read 3 01002e\n> 1 read started, waits\n7 mkdir started\n> \n",
+            "> 0 open fd 0\n> 1 open fd 0\n> > > > 0 read after lock, 1 lock\n7 mkdir started\nlog open\n> > 1 waits\n> 0 read after lock, 1 lock\n1 read started, waits\n7 mkdir started\nlog open\n> 0 read 3 01002e\n> 1 read started, waits\n7 mkdir started\nlog open\n> \n",
         ),
         // The step that ran after a wait is the last one then.
         (
             "do 0 open / 0\ndo 1 open / 0\n0 read 0 3\nupto 0 lock 1\n1 read 0 9\nend 1\nupto 0 unlock 1\nstep 1 1\nstate\n",
-            "> 0 open fd 0\n> 1 open fd 0\n> > > > 1 waits\n> > > 0 read after unlock\n1 read after lock\n> \n",
+            "> 0 open fd 0\n> 1 open fd 0\n> > > > 1 waits\n> > > 0 read after unlock\n1 read after lock, 1 lock\nlog open\n> \n",
+        ),
+        // Four blocks are copied into the log, and then home.
+        (
+            "0 mkdir /d\nupto 0 join 1\nstate\nupto 0 lock 3\nstate\nupto 0 leave 1\nstate\nupto 0 commit 4\nstate\nupto 0 commit 5\nstate\nupto 0 commit 10\nstate\nend 0\nstate\n",
+            "> > > 0 mkdir after join, in a transaction\nlog open\n> > 0 mkdir after lock, 2 locks, in a transaction\nlog open\n> > 0 mkdir after leave\nlog commits, 0 copied into it\n> > 0 mkdir after commit\nlog commits, 4 copied into it\n> > 0 mkdir after commit\nlog commits, 0 copied home\n> > 0 mkdir after commit\nlog open\n> 0 mkdir ok\n> log open\n> \n",
         ),
     ] {
         let (out, fault) = answer(rt.alloc(), Mode::default(), lines.as_bytes())?;

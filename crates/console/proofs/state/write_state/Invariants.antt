@@ -1,9 +1,0 @@
-use Rattle.std.proofs.Common.{ℕ, List, Option, drop}
-use Rattle.std.specs.Io.KnownBytes.{Appends}
-use Rattle.console.specs.Prompts.{state_text}
-use Rattle.console.proofs.state.write_state.Given as goal
-
--- whatever the lines of the harts that are left lead to is what all lines lead to
-abbrev pub invariant-loop-hart : goal.invariant-loop-hart
-invariant-loop-hart g l =
-    (end : Option (List ℕ)) → Appends (g.W.Write.contents l.out) end (state_text (drop l.hart-index l.harts) l.session.doing) → Appends (g.W.Write.contents l.fn.out) end (state_text l.harts l.session.doing)
