@@ -16,7 +16,7 @@ pub enum Asked {
     Nothing,
     /// Which lines there are.
     Help,
-    /// What each hart's call has done so far.
+    /// How far each hart's call has come, and where the log's commit is.
     State,
     /// That no more lines are read.
     Quit,
