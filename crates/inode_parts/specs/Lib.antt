@@ -15,5 +15,6 @@ pub mod Faces
 pub mod Takes
 pub mod InodeParts
 pub mod Holding
+pub mod Leaving
 pub mod Expecting
 pub mod Calls

@@ -1,0 +1,16 @@
+-- How an operation goes on: it is still under way, or over.
+use Rattle.std.specs.Prelude.{◌≡◌, ℕ, List, [], Option, Some, None}
+use Rattle.hands.specs.declared.hand.Hand.{Hand}
+use Rattle.inode_machine.specs.World as above
+use Rattle.whole_calls.specs.Asks.{answer_to}
+use Rattle.whole_calls.specs.declared.asks.Heard.{Heard}
+use Rattle.inode_parts.specs.Holding.{Having, Leaves}
+use Rattle.inode_parts.specs.declared.note.Notes.{Notes}
+
+abbrev pub having : Hand → Notes → Having
+having h m = record { hand = h; notes = m }
+
+-- where nothing is heard it is still amid, and nothing was learned; else it leaves what its operation does
+abbrev pub StaysOrLeaves : (Hand → Type 0) → List ℕ → above.Op → Option Heard → Having → Having → Type 0
+StaysOrLeaves Amid path op None before after = Amid after.hand × (after.notes ≡ before.notes)
+StaysOrLeaves Amid path op (Some x) before after = Leaves path op (answer_to [] op x) before after
