@@ -25,3 +25,4 @@ pub mod Goings
 pub mod Lowering
 pub mod Dups
 pub mod Calling
+pub mod Amid

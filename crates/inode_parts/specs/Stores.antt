@@ -1,5 +1,5 @@
 -- An inode's count put, as a part.
-use Rattle.std.specs.Prelude.{◌≡◌, ◌<◌, ◌^◌, ℕ, List}
+use Rattle.std.specs.Prelude.{◌≡◌, ◌<◌, ◌^◌, ℕ, List, None}
 use Rattle.fs_layout.specs.declared.superblock.Super.{Super}
 use Rattle.atomic_programs.specs.Prog.{Ret, bind}
 use Rattle.hands.specs.declared.hand.Hand.{Hand}
@@ -8,7 +8,7 @@ use Rattle.hands.specs.declared.op.Op.{Op}
 use Rattle.hand_controls.specs.StoringRecords.{record_left, record_asked, record_place, record_seat, RecordReady}
 use Rattle.whole_calls.specs.declared.asks.Heard.TheVariants as heard
 use Rattle.inode_parts.specs.Carries.{handed, with_note}
-use Rattle.inode_parts.specs.Changes.{MayChange}
+use Rattle.inode_parts.specs.Changes.{IsAmid, MayChange}
 use Rattle.inode_parts.specs.Parts.{Part}
 use Rattle.inode_parts.specs.declared.note.Note.TheVariants as note
 use Rattle.inode_parts.specs.declared.note.Notes.{Notes}
@@ -22,7 +22,11 @@ abbrev pub store_part_asked : StorePart → Op
 store_part_asked p = record_asked p.store
 
 abbrev pub StorePartReady : StorePart → Hand → Type 0
-StorePartReady p h = RecordReady p.store h × (record_seat p.store ≡ p.seat) × (record_place p.store ≡ First)
+StorePartReady p h = RecordReady p.store h × (record_seat p.store ≡ p.seat) × (record_place p.store ≡ First) × (h.second ≡ None)
+
+-- of inode n
+abbrev pub StoreAmid : ℕ → Hand → StorePart → Hand → Type 0
+StoreAmid n start p now = IsAmid n start p.seat now
 
 -- what it asks of the hand: a record has no higher count
 abbrev pub StoreBegins : Super → (n count : ℕ) → Hand → Type 0

@@ -6,8 +6,9 @@ ghost use Rattle.hands.specs.Controls.{Goes, bare, left_after};
 ghost use Rattle.hands.specs.declared.hand.Hand.{Hand as HandState};
 ghost use Rattle.inode_machine.specs.World.Op.{Store};
 ghost use Rattle.inode_parts.specs.Carries.{carry_in, handed};
+ghost use Rattle.inode_parts.specs.Leaving.{having, StaysOrLeaves};
 ghost use Rattle.inode_parts.specs.Parts.{IsPart};
-ghost use Rattle.inode_parts.specs.Stores.{store_part_left, store_part_asked, StoreBegins, StorePartReady};
+ghost use Rattle.inode_parts.specs.Stores.{store_part_left, store_part_asked, StoreAmid, StoreBegins, StorePartReady};
 ghost use Rattle.inode_parts.specs.declared.note.Notes.{Notes as NotesState};
 
 use crate::note::{Note, Notes};
@@ -32,6 +33,7 @@ impl StorePart {
         ensures part { (path : List ℕ) (notes : NotesState)
             → IsPart sizes.now (carry_in path notes hand.old) (Store number count) (store_part_left path notes result hand.new) }
         ensures ready { StorePartReady result hand.new }
+        ensures amid { StoreAmid number hand.old result hand.new }
         ensures hand { bare hand.new ≡ bare hand.old }
     {
         let seat = lock_seat(hand, number);
@@ -58,6 +60,9 @@ impl StorePart {
             → Goes (store_part_left path notes.old self.old before) (answer_in (store_part_asked self.old) answer hand.now)
             (left_after (store_part_left path notes.new) (handed path notes.new) result self.new hand.now) }
         ensures ready { IfNone result (StorePartReady self.new hand.now) }
+        ensures leaves { (path : List ℕ) (n count : ℕ) (start before : HandState)
+            → StoreAmid n start self.old before → StorePartReady self.old before → IsAfter (store_part_asked self.old) before answer hand.now
+            → StaysOrLeaves (StoreAmid n start self.new) path (Store n count) result (having start notes.old) (having hand.now notes.new) }
     {
         match self.store.next(answer, hand) {
             None => None,

@@ -1,10 +1,12 @@
-use Rattle.std.proofs.Common.{◌≡◌, subst}
+use Rattle.std.proofs.Common.{◌≡◌, ap, subst, ◌∙◌}
 use Rattle.inode_table.specs.Programs.{store}
 use Rattle.hands.specs.declared.hand.Seat.{Seat}
 use Rattle.hands.specs.Hands.{with_record}
 use Rattle.hand_controls.specs.HeldInodes.{counted, number_in, record_in}
 use Rattle.hand_controls.specs.StoringRecords.{record_left}
 use Rattle.inode_parts.proofs.Stores.{store_is_part}
+use Rattle.inode_parts.proofs.Amid.{record_beside}
+use Rattle.inode_parts.specs.Changes.{beside_inode}
 use Rattle.inode_parts.proofs.store_part.StorePart.begin.Goals as goal
 
 pub returns-clause-part : goal.returns-clause-part
@@ -16,3 +18,10 @@ returns-clause-part c path notes =
     let hand = subst (λ (k : Seat). h ≡ with_record k (counted c.args.count (record_in k before)) before) is c.with_count-store.ensures.hand in
     let program = subst (λ (k : Seat). record_left c.with_count-store.result h ≡ store sizes.inodestart (number_in k before) (counted c.args.count (record_in k before))) is c.with_count-store.ensures.program in
     store_is_part sizes path notes c.args.number c.args.count before (record { seat = c.lock_seat-seat.result; store = c.with_count-store.result }) h c.requires.begins.0.0 is hand program
+
+pub returns-clause-amid : goal.returns-clause-amid
+returns-clause-amid c =
+    let before = c.args.hand.now in
+    let k = c.lock_seat-seat.result in
+    let d = counted c.args.count (record_in k before) in
+    (c.lock_seat-seat.ensures, c.requires.begins.0.4, ap (beside_inode k) c.with_count-store.ensures.hand ∙ record_beside k d before)
