@@ -12,7 +12,7 @@ use Rattle.content_parts.specs.Clearing.{clear_left, clear_asked, ClearReady}
 use Rattle.whole_calls.specs.Elements.{name_in}
 use Rattle.whole_calls.specs.declared.asks.Heard.TheVariants as heard
 use Rattle.inode_parts.specs.Carries.{note_at}
-use Rattle.inode_parts.specs.Changes.{changed, MayChange}
+use Rattle.inode_parts.specs.Changes.{changed, IsAmid, MayChange}
 use Rattle.inode_parts.specs.OneSteps.{seat_of_lock}
 use Rattle.inode_parts.specs.Parts.{Part}
 use Rattle.inode_parts.specs.declared.note.Note.{Note}
@@ -28,6 +28,10 @@ clear_part_asked p = clear_asked p.clear
 
 abbrev pub ClearPartReady : ClearPart → Hand → Type 0
 ClearPartReady p h = ClearReady p.clear h × IsSome (inode_at p.seat h)
+
+-- in directory n
+abbrev pub ClearAmid : ℕ → Hand → ClearPart → Hand → Type 0
+ClearAmid n start p now = IsAmid n start p.seat now
 
 -- the search found this name, in a slot that a directory may have
 abbrev pub HasFound : List ℕ → Name → Note → Type 0

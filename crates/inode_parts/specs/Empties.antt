@@ -7,7 +7,7 @@ use Rattle.hands.specs.declared.hand.Seat.{Seat}
 use Rattle.hands.specs.declared.op.Op.{Op}
 use Rattle.hand_controls.specs.Emptying.{truncate_left, truncate_asked, emptying_of, TruncateReady}
 use Rattle.whole_calls.specs.declared.asks.Heard.TheVariants as heard
-use Rattle.inode_parts.specs.Changes.{changed, MayChange}
+use Rattle.inode_parts.specs.Changes.{changed, IsAmid, MayChange}
 use Rattle.inode_parts.specs.Parts.{Part}
 use Rattle.inode_parts.specs.declared.note.Notes.{Notes}
 use Rattle.inode_parts.specs.declared.empty_part.EmptyPart.{EmptyPart}
@@ -23,6 +23,10 @@ empty_part_asked p = truncate_asked p.truncate
 
 abbrev pub EmptyPartReady : EmptyPart → Hand → Type 0
 EmptyPartReady p h = TruncateReady p.truncate h
+
+-- that of inode n
+abbrev pub EmptyAmid : ℕ → Hand → EmptyPart → Hand → Type 0
+EmptyAmid n start p now = IsAmid n start (empty_seat p) now
 
 abbrev pub EmptyBegins : Super → ℕ → Hand → Type 0
 EmptyBegins sizes n h = MayChange sizes n h

@@ -1,5 +1,5 @@
 -- A name entered, as a part.
-use Rattle.std.specs.Prelude.{◌≤◌, ℕ, List, length, IsSome}
+use Rattle.std.specs.Prelude.{◌≤◌, ℕ, List, length}
 use Rattle.fs_layout.specs.Name.{IsName}
 use Rattle.fs_layout.specs.Widths.{bits_per_block}
 use Rattle.fs_layout.specs.declared.inode.Dinode.{Dinode}
@@ -11,14 +11,14 @@ use Rattle.directory.specs.declared.enter.Room.TheVariants.{There, NoBlock, NoSl
 use Rattle.hands.specs.declared.hand.Hand.{Hand}
 use Rattle.hands.specs.declared.hand.Seat.{Seat}
 use Rattle.hands.specs.declared.op.Op.{Op}
-use Rattle.hands.specs.Hands.{inode_at}
+use Rattle.hand_controls.specs.HeldInodes.{IsLoadedAt}
 use Rattle.content_parts.specs.Entering.{enter_left, enter_asked, EnterReady}
 use Rattle.whole_calls.specs.declared.asks.Ask.{Ask}
 use Rattle.whole_calls.specs.declared.asks.Ask.TheVariants as ask
 use Rattle.whole_calls.specs.declared.asks.Entered.TheVariants as entry
 use Rattle.whole_calls.specs.declared.asks.Heard.TheVariants as heard
 use Rattle.inode_parts.specs.Carries.{handed}
-use Rattle.inode_parts.specs.Changes.{changed, MayChange}
+use Rattle.inode_parts.specs.Changes.{changed, IsAmid, MayChange}
 use Rattle.inode_parts.specs.Parts.{Part}
 use Rattle.inode_parts.specs.declared.note.Notes.{Notes}
 use Rattle.inode_parts.specs.declared.enter_part.EnterPart.{EnterPart}
@@ -39,7 +39,11 @@ abbrev pub enter_part_asked : EnterPart → Op
 enter_part_asked p = enter_asked p.enter
 
 abbrev pub EnterPartReady : EnterPart → Hand → Type 0
-EnterPartReady p h = EnterReady p.enter h × IsSome (inode_at p.seat h)
+EnterPartReady p h = EnterReady p.enter h × IsLoadedAt p.seat h
+
+-- into directory n
+abbrev pub EnterAmid : ℕ → Hand → EnterPart → Hand → Type 0
+EnterAmid n start p now = IsAmid n start p.seat now
 
 -- what it asks: the disk's blocks have bits, and the name is one
 abbrev pub EnterBegins : Super → ℕ → List ℕ → Hand → Type 0

@@ -10,7 +10,7 @@ use Rattle.hands.specs.Hands.{inode_at}
 use Rattle.content_parts.specs.Filling.{fill_left, fill_asked, FillReady}
 use Rattle.content_parts.specs.declared.fill.Filled.{Filled}
 use Rattle.whole_calls.specs.declared.asks.Heard.TheVariants as heard
-use Rattle.inode_parts.specs.Changes.{changed, MayChange}
+use Rattle.inode_parts.specs.Changes.{changed, IsAmid, MayChange}
 use Rattle.inode_parts.specs.Parts.{Part}
 use Rattle.inode_parts.specs.declared.note.Notes.{Notes}
 use Rattle.inode_parts.specs.declared.fill_part.FillPart.{FillPart}
@@ -27,6 +27,10 @@ fill_part_asked p = fill_asked p.fill
 
 abbrev pub FillPartReady : FillPart → Hand → Type 0
 FillPartReady p h = FillReady p.fill h × IsSome (inode_at p.seat h)
+
+-- into directory n
+abbrev pub FillAmid : ℕ → Hand → FillPart → Hand → Type 0
+FillAmid n start p now = IsAmid n start p.seat now
 
 -- what it asks: the disk's blocks have bits
 abbrev pub FillBegins : Super → ℕ → Hand → Type 0

@@ -11,6 +11,7 @@ use Rattle.hand_controls.specs.FreeingInodes.{freeing_left, freeing_asked, freei
 use Rattle.hand_controls.specs.HeldInodes.{number_in}
 use Rattle.inodes_on_blocks.specs.Lowering.{Carry, Emptied}
 use Rattle.whole_calls.specs.declared.asks.Heard.TheVariants as heard
+use Rattle.inode_parts.specs.Changes.{IsAmid}
 use Rattle.inode_parts.specs.OneSteps.{HasLock, IsAlone, seat_of_lock}
 use Rattle.inode_parts.specs.Parts.{Part}
 use Rattle.inode_parts.specs.Sides.{beside_in}
@@ -30,6 +31,10 @@ free_asked p = freeing_asked p.free
 -- the lock is at its seat alone
 abbrev pub FreeReady : FreePart → Hand → Type 0
 FreeReady p h = FreeingReady p.free h × ((freeing_of p.free).seat ≡ p.seat) × IsSome (inode_at p.seat h) × IsAlone (number_in p.seat h) p.seat h
+
+-- that of inode n
+abbrev pub FreeAmid : ℕ → Hand → FreePart → Hand → Type 0
+FreeAmid n start p now = IsAmid n start p.seat now
 
 -- what it asks of the hand
 abbrev pub FreeBegins : Super → ℕ → Hand → Type 0

@@ -7,7 +7,8 @@ ghost use Rattle.hands.specs.Controls.{Goes, bare, left_after};
 ghost use Rattle.hands.specs.declared.hand.Hand.{Hand as HandState};
 ghost use Rattle.inode_machine.specs.World as above;
 ghost use Rattle.inode_parts.specs.Carries.{carry_in, handed, note_at};
-ghost use Rattle.inode_parts.specs.Clears.{clear_part_left, clear_part_asked, slot_in, ClearBegins, ClearPartReady, HasFound};
+ghost use Rattle.inode_parts.specs.Clears.{clear_part_left, clear_part_asked, slot_in, ClearAmid, ClearBegins, ClearPartReady, HasFound};
+ghost use Rattle.inode_parts.specs.Leaving.{having, StaysOrLeaves};
 ghost use Rattle.inode_parts.specs.Parts.{IsPart};
 ghost use Rattle.inode_parts.specs.declared.note.Notes.{Notes as NotesState};
 
@@ -34,6 +35,7 @@ impl ClearPart {
         ensures part { (path : List ℕ) (name : Name) → ClearBegins sizes.now path notes.now number name hand.now
             → IsPart sizes.now (carry_in path notes.now hand.now) (above.Clear number name) (clear_part_left path notes.now result hand.now) }
         ensures ready { ClearPartReady result hand.now }
+        ensures amid { ClearAmid number hand.now result hand.now }
     {
         let seat = lock_seat(hand, number);
         let clear = Clear::new(Slot {
@@ -64,6 +66,9 @@ impl ClearPart {
             → Goes (clear_part_left path notes.old self.old before) (answer_in (clear_part_asked self.old) answer hand.old)
             (left_after (clear_part_left path notes.new) (handed path notes.new) result self.new hand.new) }
         ensures ready { IfNone result (ClearPartReady self.new hand.new) }
+        ensures leaves { (path : List ℕ) (n : ℕ) (name : Name) (start before : HandState)
+            → ClearAmid n start self.old before → ClearPartReady self.old before → IsAfter (clear_part_asked self.old) before answer hand.old
+            → StaysOrLeaves (ClearAmid n start self.new) path (above.Clear n name) result (having start notes.old) (having hand.new notes.new) }
         ensures hand { bare hand.new ≡ bare hand.old }
     {
         match self.clear.next(answer, hand) {

@@ -6,7 +6,8 @@ ghost use Rattle.hands.specs.Controls.{Goes, bare, left_after};
 ghost use Rattle.hands.specs.declared.hand.Hand.{Hand as HandState};
 ghost use Rattle.inode_machine.specs.World.Op.{Empty};
 ghost use Rattle.inode_parts.specs.Carries.{carry_in, handed};
-ghost use Rattle.inode_parts.specs.Empties.{empty_part_left, empty_part_asked, EmptyBegins, EmptyPartReady};
+ghost use Rattle.inode_parts.specs.Empties.{empty_part_left, empty_part_asked, EmptyAmid, EmptyBegins, EmptyPartReady};
+ghost use Rattle.inode_parts.specs.Leaving.{having, StaysOrLeaves};
 ghost use Rattle.inode_parts.specs.Parts.{IsPart};
 ghost use Rattle.inode_parts.specs.declared.note.Notes.{Notes as NotesState};
 
@@ -31,6 +32,7 @@ impl EmptyPart {
         ensures part { (path : List ℕ) (notes : NotesState)
             → IsPart sizes.now (carry_in path notes hand.old) (Empty number) (empty_part_left path notes result hand.new) }
         ensures ready { EmptyPartReady result hand.new }
+        ensures amid { EmptyAmid number hand.old result hand.new }
         ensures hand { bare hand.new ≡ bare hand.old }
     {
         let seat = lock_seat(hand, number);
@@ -58,6 +60,9 @@ impl EmptyPart {
             → Goes (empty_part_left path notes.old self.old before) (answer_in (empty_part_asked self.old) answer hand.old)
             (left_after (empty_part_left path notes.new) (handed path notes.new) result self.new hand.new) }
         ensures ready { IfNone result (EmptyPartReady self.new hand.new) }
+        ensures leaves { (path : List ℕ) (n : ℕ) (start before : HandState)
+            → EmptyAmid n start self.old before → EmptyPartReady self.old before → IsAfter (empty_part_asked self.old) before answer hand.old
+            → StaysOrLeaves (EmptyAmid n start self.new) path (Empty n) result (having start notes.old) (having hand.new notes.new) }
         ensures hand { bare hand.new ≡ bare hand.old }
     {
         match self.truncate.next(answer, hand) {

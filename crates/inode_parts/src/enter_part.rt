@@ -1,14 +1,19 @@
 //! A name entered, as a part.
-ghost use Rattle.std.specs.Prelude.{◌≡◌, ℕ, List, Some, None, IsSome, IfNone};
+ghost use Rattle.std.specs.Prelude.{◌≡◌, ℕ, List, Some, None, IfNone};
+ghost use Rattle.plain_tree.specs.Tree.{Name};
 ghost use Rattle.atomic_programs.specs.Prog.{Ret, asks};
-ghost use Rattle.hands.specs.Hands.{inode_at};
 ghost use Rattle.hands.specs.Ops.{op_in, answer_in, CanDo, Prepared, IsAfter};
 ghost use Rattle.hands.specs.Controls.{Goes, bare, left_after};
 ghost use Rattle.hands.specs.declared.hand.Hand.{Hand as HandState};
+ghost use Rattle.hand_controls.specs.Emptying.{HasNoBuffer};
+ghost use Rattle.hand_controls.specs.HeldInodes.{IsLoadedAt};
 ghost use Rattle.content_parts.specs.Entering.{entered_as};
 ghost use Rattle.inode_machine.specs.World as above;
 ghost use Rattle.inode_parts.specs.Carries.{carry_in, handed};
-ghost use Rattle.inode_parts.specs.Enters.{enter_part_left, enter_part_asked, entered, EnterBegins, EnterPartReady};
+ghost use Rattle.inode_parts.specs.Changes.{IsAmid};
+ghost use Rattle.inode_parts.specs.Enters.{enter_part_left, enter_part_asked, entered, EnterAmid, EnterBegins, EnterPartReady};
+ghost use Rattle.inode_parts.specs.Holding.{Changed, StandBeside};
+ghost use Rattle.inode_parts.specs.Leaving.{having, StaysOrLeaves};
 ghost use Rattle.inode_parts.specs.Parts.{IsPart};
 ghost use Rattle.inode_parts.specs.declared.note.Notes.{Notes as NotesState};
 
@@ -36,6 +41,7 @@ impl EnterPart {
         ensures part { (path : List ℕ) (notes : NotesState)
             → IsPart sizes.now (carry_in path notes hand.now) (above.Enter number name.now child) (enter_part_left path notes result hand.now) }
         ensures ready { EnterPartReady result hand.now }
+        ensures amid { EnterAmid number hand.now result hand.now }
     {
         let seat = lock_seat(hand, number);
         let inode = record_at(hand, seat);
@@ -64,6 +70,9 @@ impl EnterPart {
             → Goes (enter_part_left path notes.old self.old before) (answer_in (enter_part_asked self.old) answer hand.old)
             (left_after (enter_part_left path notes.new) (handed path notes.new) result self.new hand.new) }
         ensures ready { IfNone result (EnterPartReady self.new hand.new) }
+        ensures leaves { (path : List ℕ) (n child : ℕ) (name : Name) (start before : HandState)
+            → EnterAmid n start self.old before → EnterPartReady self.old before → IsAfter (enter_part_asked self.old) before answer hand.old
+            → StaysOrLeaves (EnterAmid n start self.new) path (above.Enter n name child) result (having start notes.old) (having hand.new notes.new) }
         ensures hand { bare hand.new ≡ bare hand.old }
     {
         match self.enter.next(answer, hand) {
@@ -75,8 +84,10 @@ impl EnterPart {
 
 // What is heard of it. The directory at this seat was stored, but where it has no slot left.
 fn hear(seat: Seat, outcome: &Entered, notes: &mut Notes, hand: &mut Hand) -> Heard
-    requires { IsSome (inode_at seat hand.old) }
+    requires { IsLoadedAt seat hand.old }
     ensures is { (path : List ℕ) → entered path notes.old seat hand.old (entered_as outcome.now) ≡ Ret (handed path notes.new result hand.new) }
+    ensures leaves { (n : ℕ) (start : HandState) → IsAmid n start seat hand.old → HasNoBuffer hand.old
+        → Changed n start hand.new × StandBeside n (having start notes.old) (having hand.new notes.new) }
     ensures hand { bare hand.new ≡ bare hand.old }
 {
     let room = match outcome.room {

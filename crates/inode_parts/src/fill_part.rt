@@ -6,7 +6,8 @@ ghost use Rattle.hands.specs.Controls.{Goes, bare, left_after};
 ghost use Rattle.hands.specs.declared.hand.Hand.{Hand as HandState};
 ghost use Rattle.inode_machine.specs.World as above;
 ghost use Rattle.inode_parts.specs.Carries.{carry_in, handed};
-ghost use Rattle.inode_parts.specs.Fills.{fill_part_left, fill_part_asked, FillBegins, FillPartReady};
+ghost use Rattle.inode_parts.specs.Fills.{fill_part_left, fill_part_asked, FillAmid, FillBegins, FillPartReady};
+ghost use Rattle.inode_parts.specs.Leaving.{having, StaysOrLeaves};
 ghost use Rattle.inode_parts.specs.Parts.{IsPart};
 ghost use Rattle.inode_parts.specs.declared.note.Notes.{Notes as NotesState};
 
@@ -33,6 +34,7 @@ impl FillPart {
         ensures part { (path : List ℕ) (notes : NotesState)
             → IsPart sizes.now (carry_in path notes hand.now) (above.Fill number parent) (fill_part_left path notes result hand.now) }
         ensures ready { FillPartReady result hand.now }
+        ensures amid { FillAmid number hand.now result hand.now }
     {
         let seat = lock_seat(hand, number);
         let inode = record_at(hand, seat);
@@ -59,6 +61,9 @@ impl FillPart {
             → Goes (fill_part_left path notes.old self.old before) (answer_in (fill_part_asked self.old) answer hand.old)
             (left_after (fill_part_left path notes.new) (handed path notes.new) result self.new hand.new) }
         ensures ready { IfNone result (FillPartReady self.new hand.new) }
+        ensures leaves { (path : List ℕ) (n parent : ℕ) (start before : HandState)
+            → FillAmid n start self.old before → FillPartReady self.old before → IsAfter (fill_part_asked self.old) before answer hand.old
+            → StaysOrLeaves (FillAmid n start self.new) path (above.Fill n parent) result (having start notes.old) (having hand.new notes.new) }
         ensures hand { bare hand.new ≡ bare hand.old }
     {
         match self.fill.next(answer, hand) {

@@ -6,7 +6,8 @@ ghost use Rattle.hands.specs.Controls.{Goes, left_after, bare};
 ghost use Rattle.hands.specs.declared.hand.Hand.{Hand as HandState};
 ghost use Rattle.inode_machine.specs.World.{Free};
 ghost use Rattle.inode_parts.specs.Carries.{carry_in, handed};
-ghost use Rattle.inode_parts.specs.Frees.{free_left, free_asked, FreeBegins, FreeReady};
+ghost use Rattle.inode_parts.specs.Frees.{free_left, free_asked, FreeAmid, FreeBegins, FreeReady};
+ghost use Rattle.inode_parts.specs.Leaving.{having, StaysOrLeaves};
 ghost use Rattle.inode_parts.specs.Parts.{IsPart};
 ghost use Rattle.inode_parts.specs.declared.note.Notes.{Notes as NotesState};
 
@@ -31,6 +32,7 @@ impl FreePart {
         ensures part { (path : List ℕ) (notes : NotesState)
             → IsPart sizes.now (carry_in path notes hand.old) (Free number) (free_left path notes result hand.new) }
         ensures ready { FreeReady result hand.new }
+        ensures amid { FreeAmid number hand.old result hand.new }
         ensures hand { bare hand.new ≡ bare hand.old }
     {
         let seat = lock_seat(hand, number);
@@ -57,6 +59,9 @@ impl FreePart {
             → Goes (free_left path notes.old self.old before) (answer_in (free_asked self.old) answer hand.old)
             (left_after (free_left path notes.new) (handed path notes.new) result self.new hand.new) }
         ensures ready { IfNone result (FreeReady self.new hand.new) }
+        ensures leaves { (path : List ℕ) (n : ℕ) (start before : HandState)
+            → FreeAmid n start self.old before → FreeReady self.old before → IsAfter (free_asked self.old) before answer hand.old
+            → StaysOrLeaves (FreeAmid n start self.new) path (Free n) result (having start notes.old) (having hand.new notes.new) }
         ensures hand { bare hand.new ≡ bare hand.old }
     {
         match self.free.next(answer, hand) {

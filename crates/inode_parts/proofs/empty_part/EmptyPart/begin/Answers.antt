@@ -1,10 +1,11 @@
-use Rattle.std.proofs.Common.{◌≡◌, ap, subst, ◌∙◌}
+use Rattle.std.proofs.Common.{◌≡◌, sym, ap, subst, ◌∙◌}
 use Rattle.inode_data.specs.Freeing.{truncate}
 use Rattle.hands.specs.declared.hand.Seat.{Seat}
 use Rattle.hand_controls.specs.Emptying.{beside_emptying, truncate_left}
 use Rattle.hand_controls.specs.HeldInodes.{number_in, record_in}
 use Rattle.hand_controls.specs.declared.truncate.Emptying.{Emptying}
 use Rattle.inode_parts.proofs.Empties.{empty_is_part}
+use Rattle.inode_parts.specs.Changes.{IsAmid}
 use Rattle.inode_parts.proofs.empty_part.EmptyPart.begin.Goals as goal
 
 pub returns-clause-part : goal.returns-clause-part
@@ -17,3 +18,8 @@ returns-clause-part c path notes =
     let beside = subst (λ (k : Seat). beside_emptying (about_seat k) h ≡ beside_emptying (about_seat k) before) is c.begin.ensures.beside in
     let program = subst (λ (k : Seat). truncate_left c.begin.result h ≡ truncate sizes (number_in k before) (record_in k before)) is c.begin.ensures.program in
     empty_is_part sizes path notes c.args.number before (record { truncate = c.begin.result }) h c.requires.begins.0 (c.begin.ensures.about ∙ ap about_seat is) beside program
+
+pub returns-clause-amid : goal.returns-clause-amid
+returns-clause-amid c =
+    let h = c.begin.new.hand in
+    subst (λ (e : Emptying). IsAmid c.args.number c.args.hand.now e.seat h) (sym c.begin.ensures.about) (c.lock_seat-seat.ensures, c.requires.begins.4, c.begin.ensures.beside)

@@ -6,6 +6,7 @@ use Rattle.inode_parts.specs.Carries.{handed}
 use Rattle.inode_parts.specs.Enters.{enter_part_asked}
 use Rattle.inode_parts.specs.Parts.{Part}
 use Rattle.inode_parts.proofs.Enters.{enter_ends, enter_on}
+use Rattle.inode_parts.proofs.Amid.{buffers_beside, still_amid, still_loaded}
 use Rattle.inode_parts.proofs.enter_part.EnterPart.next.Goals as goal
 
 pub returns-in-None-clause-goes : goal.returns-in-None-clause-goes
@@ -21,3 +22,17 @@ returns-in-Some-clause-goes c path before ready after =
     let answer = answer_in (enter_part_asked p) c.args.answer c.args.hand.now in
     let last : Part = Ret (handed path c.hear.new.notes c.hear.result c.hear.new.hand) in
     enter_ends path c.args.notes.now p before c.next.new.hand answer (did.beside before ready.0 after) (entered_as c.in-Some.entered) last (c.hear.ensures.is path) (did.goes before ready.0 after)
+
+pub returns-in-None-clause-leaves : goal.returns-in-None-clause-leaves
+returns-in-None-clause-leaves c path n child name start before amid ready after =
+    let k = c.args.self.now.seat in
+    let h = c.next.new.hand in
+    (still_amid n start k before h (buffers_beside k before h (c.in-None.ensures.beside before ready.0 after)) amid, refl)
+
+pub returns-in-Some-clause-leaves : goal.returns-in-Some-clause-leaves
+returns-in-Some-clause-leaves c path n child name start before amid ready after =
+    let k = c.args.self.now.seat in
+    let h = c.next.new.hand in
+    let did = c.in-Some.ensures in
+    let still = still_amid n start k before h (buffers_beside k before h (did.beside before ready.0 after)) amid in
+    c.hear.ensures.leaves n start still did.ends

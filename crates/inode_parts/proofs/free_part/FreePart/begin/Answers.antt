@@ -14,3 +14,6 @@ pub returns-clause-ready : goal.returns-clause-ready
 returns-clause-ready c =
     let there = free_there c.args.sizes.now c.args.number c.lock_seat-seat.result c.args.hand.now c.begin-free.new.hand c.lock_seat-seat.ensures c.requires.begins c.begin-free.ensures.beside in
     (c.begin-free.ensures.ready, ap (λ (e : Emptying). e.seat) c.begin-free.ensures.about, there.0, there.1)
+
+pub returns-clause-amid : goal.returns-clause-amid
+returns-clause-amid c = (c.lock_seat-seat.ensures, c.requires.begins.2, c.begin-free.ensures.beside)

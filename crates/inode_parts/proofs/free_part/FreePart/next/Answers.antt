@@ -1,7 +1,11 @@
-use Rattle.std.proofs.Common.{[]}
+use Rattle.std.proofs.Common.{◌≡◌, [], refl, subst}
 use Rattle.hands.specs.Ops.{answer_in}
 use Rattle.hand_controls.specs.FreeingInodes.{freeing_asked, freeing_of}
 use Rattle.inode_parts.proofs.Frees.{free_on, free_over, free_stays}
+use Rattle.hands.specs.declared.hand.Seat.{Seat}
+use Rattle.inode_parts.specs.Changes.{beside_inode}
+use Rattle.inode_parts.specs.declared.note.Note.TheVariants as note
+use Rattle.inode_parts.proofs.Amid.{reloads, stands, still_amid}
 use Rattle.inode_parts.proofs.free_part.FreePart.next.Goals as goal
 
 pub returns-in-None-clause-goes : goal.returns-in-None-clause-goes
@@ -23,3 +27,19 @@ returns-in-Some-clause-goes c path before ready after =
     let p = c.args.self.now in
     let did = c.in-Some.ensures in
     free_over path c.args.notes.now p.seat p.free before c.next.new.hand (answer_in (freeing_asked p.free) c.args.answer c.args.hand.now) ready.1 (did.beside before ready.0 after) c.set.new.self c.set.ensures ready.2 ready.3 did.ends.0 (did.goes before ready.0 after)
+
+pub returns-in-None-clause-leaves : goal.returns-in-None-clause-leaves
+returns-in-None-clause-leaves c path n start before amid ready after =
+    let p = c.args.self.now in
+    let h = c.next.new.hand in
+    let same = subst (λ (k : Seat). beside_inode k h ≡ beside_inode k before) ready.1 (c.in-None.ensures.beside before ready.0 after) in
+    (still_amid n start p.seat before h same amid, refl)
+
+pub returns-in-Some-clause-leaves : goal.returns-in-Some-clause-leaves
+returns-in-Some-clause-leaves c path n start before amid ready after =
+    let p = c.args.self.now in
+    let h = c.next.new.hand in
+    let did = c.in-Some.ensures in
+    let same = subst (λ (k : Seat). beside_inode k h ≡ beside_inode k before) ready.1 (did.beside before ready.0 after) in
+    let still = still_amid n start p.seat before h same amid in
+    (reloads n start h p.seat still did.ends.1, stands n start h p.seat still did.ends.1 c.args.notes.now c.set.new.self note.Freed c.set.ensures)
