@@ -10,7 +10,7 @@ use Rattle.hands.specs.declared.hand.Place.{Place}
 use Rattle.hands.specs.declared.hand.Place.TheVariants.{First, Second}
 use Rattle.hands.specs.declared.hand.Seat.{Seat}
 use Rattle.hands.specs.declared.hand.Seat.TheVariants.{One, Two}
-use Rattle.hands.specs.Hands.{buffer_at, inode_at, recorded, with_buffer, with_record}
+use Rattle.hands.specs.Hands.{inode_at, recorded, with_buffer, with_record}
 use Rattle.hand_controls.specs.Emptying.{HasNoBuffer}
 use Rattle.hand_controls.specs.HeldInodes.{unloaded, without_content, IsLoadedAt}
 use Rattle.content_parts.specs.InHand.{beside_buffers}
@@ -18,7 +18,7 @@ use Rattle.inode_parts.specs.Carries.{note_at, with_note}
 use Rattle.inode_parts.specs.Changes.{beside_inode, IsAmid}
 use Rattle.inode_parts.specs.Holding.{Changed, Reloaded, StandBeside}
 use Rattle.inode_parts.specs.Leaving.{having}
-use Rattle.inode_parts.specs.OneSteps.{other, seat_of_lock}
+use Rattle.inode_parts.specs.OneSteps.{other}
 use Rattle.inode_parts.specs.declared.note.Note.{Note}
 use Rattle.inode_parts.specs.declared.note.Notes.{Notes}
 
@@ -42,9 +42,6 @@ buffers_beside Two before h same = ap (unloaded Two) same
 pub same_inode : (k : Seat) (before h : Hand) → beside_buffers tt h ≡ beside_buffers tt before → inode_at k h ≡ inode_at k before
 same_inode One before h same = ap (λ (h : Hand). h.one) same
 same_inode Two before h same = ap (λ (h : Hand). h.two) same
-
-pub still_loaded : (k : Seat) (before h : Hand) → beside_buffers tt h ≡ beside_buffers tt before → IsLoadedAt k before → IsLoadedAt k h
-still_loaded k before h same there = subst (λ (o : Option (GuardState Inode)). MatchOption o ⊥ (λ g. IsSome g.value.content)) (sym (same_inode k before h same)) there
 
 pub still_there : (k : Seat) (before h : Hand) → beside_buffers tt h ≡ beside_buffers tt before → IsSome (inode_at k before) → IsSome (inode_at k h)
 still_there k before h same there = subst (λ (o : Option (GuardState Inode)). IsSome o) (sym (same_inode k before h same)) there
@@ -93,11 +90,8 @@ module _ (n : ℕ) (start h : Hand) (k : Seat) (amid : IsAmid n start k h) (none
       subst (λ (k : Seat). note_at (other k) m2 ≡ note_at (other k) m) amid.0
       (ap (note_at (other k)) noted ∙ noted_beside k x m)
 
-  changes_it : IsLoadedAt k h → Changed n start h
-  changes_it there = (reloads, subst (λ (k : Seat). IsLoadedAt k h) amid.0 there)
-
   pub leaves_changed : (m m2 : Notes) (x : Note) → m2 ≡ with_note k x m → IsLoadedAt k h → Changed n start h × StandBeside n (having start m) (having h m2)
-  leaves_changed m m2 x noted there = (changes_it there, stands m m2 x noted)
+  leaves_changed m m2 x noted there = ((reloads, subst (λ (k : Seat). IsLoadedAt k h) amid.0 there), stands m m2 x noted)
 
 -- where its record is set at the end
 pub leaves_set : (n : ℕ) (start h after : Hand) (k : Seat) (d : Dinode) (m m2 : Notes) (x : Note) → IsAmid n start k h → HasNoBuffer h → IsSome (inode_at k h) → after ≡ with_record k d h → m2 ≡ with_note k x m

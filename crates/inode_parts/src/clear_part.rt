@@ -67,8 +67,10 @@ impl ClearPart {
             (left_after (clear_part_left path notes.new) (handed path notes.new) result self.new hand.new) }
         ensures ready { IfNone result (ClearPartReady self.new hand.new) }
         ensures leaves { (path : List ℕ) (n : ℕ) (name : Name) (start before : HandState)
-            → ClearAmid n start self.old before → ClearPartReady self.old before → IsAfter (clear_part_asked self.old) before answer hand.old
-            → StaysOrLeaves (ClearAmid n start self.new) path (above.Clear n name) result (having start notes.old) (having hand.new notes.new) }
+            → ClearAmid n start self.old before → ClearPartReady self.old before
+            → IsAfter (clear_part_asked self.old) before answer hand.old
+            → StaysOrLeaves (ClearAmid n start self.new) path (above.Clear n name) result
+            (having start notes.old) (having hand.new notes.new) }
         ensures hand { bare hand.new ≡ bare hand.old }
     {
         match self.clear.next(answer, hand) {

@@ -61,8 +61,10 @@ impl EmptyPart {
             (left_after (empty_part_left path notes.new) (handed path notes.new) result self.new hand.new) }
         ensures ready { IfNone result (EmptyPartReady self.new hand.new) }
         ensures leaves { (path : List ℕ) (n : ℕ) (start before : HandState)
-            → EmptyAmid n start self.old before → EmptyPartReady self.old before → IsAfter (empty_part_asked self.old) before answer hand.old
-            → StaysOrLeaves (EmptyAmid n start self.new) path (Empty n) result (having start notes.old) (having hand.new notes.new) }
+            → EmptyAmid n start self.old before → EmptyPartReady self.old before
+            → IsAfter (empty_part_asked self.old) before answer hand.old
+            → StaysOrLeaves (EmptyAmid n start self.new) path (Empty n) result
+            (having start notes.old) (having hand.new notes.new) }
         ensures hand { bare hand.new ≡ bare hand.old }
     {
         match self.truncate.next(answer, hand) {

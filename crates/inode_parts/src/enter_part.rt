@@ -71,8 +71,10 @@ impl EnterPart {
             (left_after (enter_part_left path notes.new) (handed path notes.new) result self.new hand.new) }
         ensures ready { IfNone result (EnterPartReady self.new hand.new) }
         ensures leaves { (path : List ℕ) (n child : ℕ) (name : Name) (start before : HandState)
-            → EnterAmid n start self.old before → EnterPartReady self.old before → IsAfter (enter_part_asked self.old) before answer hand.old
-            → StaysOrLeaves (EnterAmid n start self.new) path (above.Enter n name child) result (having start notes.old) (having hand.new notes.new) }
+            → EnterAmid n start self.old before → EnterPartReady self.old before
+            → IsAfter (enter_part_asked self.old) before answer hand.old
+            → StaysOrLeaves (EnterAmid n start self.new) path (above.Enter n name child) result
+            (having start notes.old) (having hand.new notes.new) }
         ensures hand { bare hand.new ≡ bare hand.old }
     {
         match self.enter.next(answer, hand) {

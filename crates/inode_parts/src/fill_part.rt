@@ -62,8 +62,10 @@ impl FillPart {
             (left_after (fill_part_left path notes.new) (handed path notes.new) result self.new hand.new) }
         ensures ready { IfNone result (FillPartReady self.new hand.new) }
         ensures leaves { (path : List ℕ) (n parent : ℕ) (start before : HandState)
-            → FillAmid n start self.old before → FillPartReady self.old before → IsAfter (fill_part_asked self.old) before answer hand.old
-            → StaysOrLeaves (FillAmid n start self.new) path (above.Fill n parent) result (having start notes.old) (having hand.new notes.new) }
+            → FillAmid n start self.old before → FillPartReady self.old before
+            → IsAfter (fill_part_asked self.old) before answer hand.old
+            → StaysOrLeaves (FillAmid n start self.new) path (above.Fill n parent) result
+            (having start notes.old) (having hand.new notes.new) }
         ensures hand { bare hand.new ≡ bare hand.old }
     {
         match self.fill.next(answer, hand) {

@@ -60,8 +60,10 @@ impl FreePart {
             (left_after (free_left path notes.new) (handed path notes.new) result self.new hand.new) }
         ensures ready { IfNone result (FreeReady self.new hand.new) }
         ensures leaves { (path : List ℕ) (n : ℕ) (start before : HandState)
-            → FreeAmid n start self.old before → FreeReady self.old before → IsAfter (free_asked self.old) before answer hand.old
-            → StaysOrLeaves (FreeAmid n start self.new) path (Free n) result (having start notes.old) (having hand.new notes.new) }
+            → FreeAmid n start self.old before → FreeReady self.old before
+            → IsAfter (free_asked self.old) before answer hand.old
+            → StaysOrLeaves (FreeAmid n start self.new) path (Free n) result
+            (having start notes.old) (having hand.new notes.new) }
         ensures hand { bare hand.new ≡ bare hand.old }
     {
         match self.free.next(answer, hand) {

@@ -61,8 +61,10 @@ impl StorePart {
             (left_after (store_part_left path notes.new) (handed path notes.new) result self.new hand.now) }
         ensures ready { IfNone result (StorePartReady self.new hand.now) }
         ensures leaves { (path : List ℕ) (n count : ℕ) (start before : HandState)
-            → StoreAmid n start self.old before → StorePartReady self.old before → IsAfter (store_part_asked self.old) before answer hand.now
-            → StaysOrLeaves (StoreAmid n start self.new) path (Store n count) result (having start notes.old) (having hand.now notes.new) }
+            → StoreAmid n start self.old before → StorePartReady self.old before
+            → IsAfter (store_part_asked self.old) before answer hand.now
+            → StaysOrLeaves (StoreAmid n start self.new) path (Store n count) result
+            (having start notes.old) (having hand.now notes.new) }
     {
         match self.store.next(answer, hand) {
             None => None,

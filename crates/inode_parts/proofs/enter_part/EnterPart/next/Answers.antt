@@ -6,7 +6,7 @@ use Rattle.inode_parts.specs.Carries.{handed}
 use Rattle.inode_parts.specs.Enters.{enter_part_asked}
 use Rattle.inode_parts.specs.Parts.{Part}
 use Rattle.inode_parts.proofs.Enters.{enter_ends, enter_on}
-use Rattle.inode_parts.proofs.Amid.{buffers_beside, still_amid, still_loaded}
+use Rattle.inode_parts.proofs.Amid.{buffers_beside, still_amid}
 use Rattle.inode_parts.proofs.enter_part.EnterPart.next.Goals as goal
 
 pub returns-in-None-clause-goes : goal.returns-in-None-clause-goes
