@@ -16,6 +16,7 @@ pub mod Claims
 pub mod Locking
 pub mod FileLocks
 pub mod FileEnds
+pub mod Coming
 pub mod Lefts
 pub mod Telling
 pub mod Searched

@@ -15,6 +15,7 @@ use Rattle.inodes_on_blocks.specs.Lowering.{Carry}
 use Rattle.whole_calls.specs.declared.asks.Heard.TheVariants as heard
 use Rattle.whole_calls.specs.declared.asks.Locked.TheVariants as locked
 use Rattle.inode_parts.specs.Carries.{had_of}
+use Rattle.inode_parts.specs.Coming.{Comes}
 use Rattle.inode_parts.specs.OneSteps.{other}
 use Rattle.inode_parts.specs.Parts.{Part}
 use Rattle.inode_parts.specs.Sides.{beside_in}
@@ -42,6 +43,10 @@ lock_file_asked p = file_asked p.lock
 abbrev pub LockFileReady : LockFilePart → Hand → Type 0
 LockFileReady p h = FileReady p.lock h × (inode_at (other (file_seat p.lock)) h ≡ None)
 
+-- it is this descriptor's, whose lock comes
+abbrev pub LockFileAmid : (fd : ℕ) → Hand → LockFilePart → Hand → Type 0
+LockFileAmid fd start p now = (p.fd ≡ fd) × Comes (file_seat p.lock) start now
+
 -- ---- to write it
 
 abbrev pub open_ends : List ℕ → (fd : ℕ) → Carry → OpenFile × Dinode → Part
@@ -55,3 +60,6 @@ lock_open_asked p = open_asked p.lock
 
 abbrev pub LockOpenReady : LockOpenPart → Hand → Type 0
 LockOpenReady p h = OpenReady p.lock h × (inode_at (other (open_seat p.lock)) h ≡ None)
+
+abbrev pub LockOpenAmid : (fd : ℕ) → Hand → LockOpenPart → Hand → Type 0
+LockOpenAmid fd start p now = (p.fd ≡ fd) × Comes (open_seat p.lock) start now

@@ -16,5 +16,6 @@ pub mod Takes
 pub mod InodeParts
 pub mod Holding
 pub mod Leaving
+pub mod Coming
 pub mod Expecting
 pub mod Calls

@@ -6,7 +6,8 @@ ghost use Rattle.hands.specs.Controls.{Goes, left_after, bare};
 ghost use Rattle.hands.specs.declared.hand.Hand.{Hand as HandState};
 ghost use Rattle.inode_machine.specs.World.Op.{LockFile as Locks};
 ghost use Rattle.inode_parts.specs.Carries.{carry_in, handed};
-ghost use Rattle.inode_parts.specs.FileLocks.{lock_file_left, lock_file_asked, LockBegins, LockFileReady};
+ghost use Rattle.inode_parts.specs.FileLocks.{lock_file_left, lock_file_asked, LockBegins, LockFileAmid, LockFileReady};
+ghost use Rattle.inode_parts.specs.Leaving.{having, StaysOrLeaves};
 ghost use Rattle.inode_parts.specs.Parts.{IsPart};
 ghost use Rattle.inode_parts.specs.declared.note.Notes.{Notes as NotesState};
 
@@ -32,6 +33,7 @@ impl LockFilePart {
         ensures part { (path : List ℕ) (notes : NotesState)
             → IsPart sizes.now (carry_in path notes hand.now) (Locks fd) (lock_file_left path notes result hand.now) }
         ensures ready { LockFileReady result hand.now }
+        ensures amid { LockFileAmid fd hand.now result hand.now }
     {
         let lock = LockFile::new(sizes.inodestart, Seat::One, Want::Read, fd);
         LockFilePart { fd, lock }
@@ -57,6 +59,9 @@ impl LockFilePart {
             → Goes (lock_file_left path notes.old self.old before) (answer_in (lock_file_asked self.old) answer hand.old)
             (left_after (lock_file_left path notes.new) (handed path notes.new) result self.new hand.new) }
         ensures ready { IfNone result (LockFileReady self.new hand.new) }
+        ensures leaves { (path : List ℕ) (fd : ℕ) (start before : HandState) → LockFileAmid fd start self.old before
+            → LockFileReady self.old before → IsAfter (lock_file_asked self.old) before answer hand.old
+            → StaysOrLeaves (LockFileAmid fd start self.new) path (Locks fd) result (having start notes.old) (having hand.new notes.new) }
         ensures hand { bare hand.new ≡ bare hand.old }
     {
         match self.lock.next(answer, hand) {

@@ -6,7 +6,8 @@ ghost use Rattle.hands.specs.Controls.{Goes, left_after, bare};
 ghost use Rattle.hands.specs.declared.hand.Hand.{Hand as HandState};
 ghost use Rattle.inode_machine.specs.World.Op.{LockOpen as Locks};
 ghost use Rattle.inode_parts.specs.Carries.{carry_in, handed};
-ghost use Rattle.inode_parts.specs.FileLocks.{lock_open_left, lock_open_asked, LockBegins, LockOpenReady};
+ghost use Rattle.inode_parts.specs.FileLocks.{lock_open_left, lock_open_asked, LockBegins, LockOpenAmid, LockOpenReady};
+ghost use Rattle.inode_parts.specs.Leaving.{having, StaysOrLeaves};
 ghost use Rattle.inode_parts.specs.Parts.{IsPart};
 ghost use Rattle.inode_parts.specs.declared.note.Notes.{Notes as NotesState};
 
@@ -30,6 +31,7 @@ impl LockOpenPart {
         ensures part { (path : List ℕ) (notes : NotesState) (number : ℕ)
             → IsPart sizes.now (carry_in path notes hand.now) (Locks fd number) (lock_open_left path notes result hand.now) }
         ensures ready { LockOpenReady result hand.now }
+        ensures amid { LockOpenAmid fd hand.now result hand.now }
     {
         let lock = LockOpen::new(sizes.inodestart, Seat::One, fd);
         LockOpenPart { fd, lock }
@@ -55,6 +57,10 @@ impl LockOpenPart {
             → Goes (lock_open_left path notes.old self.old before) (answer_in (lock_open_asked self.old) answer hand.old)
             (left_after (lock_open_left path notes.new) (handed path notes.new) result self.new hand.new) }
         ensures ready { IfNone result (LockOpenReady self.new hand.new) }
+        ensures leaves { (path : List ℕ) (fd number : ℕ) (start before : HandState) → LockOpenAmid fd start self.old before
+            → LockOpenReady self.old before → IsAfter (lock_open_asked self.old) before answer hand.old
+            → StaysOrLeaves (LockOpenAmid fd start self.new) path (Locks fd number) result
+            (having start notes.old) (having hand.new notes.new) }
         ensures hand { bare hand.new ≡ bare hand.old }
     {
         match self.lock.next(answer, hand) {

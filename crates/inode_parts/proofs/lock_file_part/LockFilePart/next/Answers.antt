@@ -9,6 +9,7 @@ use Rattle.hands.specs.Ops.{answer_in}
 use Rattle.hand_controls.specs.LockingFiles.{file_left, file_asked, file_seat, file_value, FileEnds}
 use Rattle.inode_parts.specs.FileLocks.{file_ends}
 use Rattle.inode_parts.proofs.Locking.{lock_on, lock_over, other_free}
+use Rattle.inode_parts.proofs.Coming.{comes_on, file_learned, file_opens, never_came}
 use Rattle.inode_parts.proofs.FileEnds.{locked_at, refused_so}
 use Rattle.inode_parts.proofs.lock_file_part.LockFilePart.next.Goals as goal
 
@@ -55,3 +56,30 @@ returns-in-Some-Locked-clause-goes c path before ready after =
     let same = did.beside before ready.0 after in
     lock_over (file_ends path p.fd) path c.args.notes.now k before h (file_left p.lock before) answer same (Locks held.file (Some (record_in held.seat h))) _
     (locked_at path c.args.notes.now c.set.new.self h held k ends.0 ends.1 (other_free k k before h refl same ready.1) p.fd c.from.result c.from.ensures c.set.ensures) goes
+
+pub returns-in-None-clause-leaves : goal.returns-in-None-clause-leaves
+returns-in-None-clause-leaves c path fd start before amid ready after =
+    let did = c.in-None.ensures in
+    ((amid.0, comes_on (file_seat c.args.self.now.lock) (file_seat c.next.new.self) start before c.next.new.hand did.about (did.beside before ready.0 after) amid.1), refl)
+
+pub returns-in-Some-Refused-clause-leaves : goal.returns-in-Some-Refused-clause-leaves
+returns-in-Some-Refused-clause-leaves c path fd start before amid ready after =
+    let p = c.args.self.now in
+    let k = file_seat p.lock in
+    let h = c.next.new.hand in
+    let did = c.in-Some-Refused.ensures in
+    let ends = subst (λ (x : FileLocked). FileEnds p.lock x h) c.in-Some-Refused.field-0-is did.ends in
+    (never_came k start h (comes_on k k start before h refl (did.beside before ready.0 after) amid.1) ends.1 ends.0, tt)
+
+pub returns-in-Some-Locked-clause-leaves : goal.returns-in-Some-Locked-clause-leaves
+returns-in-Some-Locked-clause-leaves c path fd start before amid ready after =
+    let p = c.args.self.now in
+    let k = file_seat p.lock in
+    let h = c.next.new.hand in
+    let f = c.in-Some-Locked.held in
+    let did = c.in-Some-Locked.ensures in
+    let ends = subst (λ (x : FileLocked). FileEnds p.lock x h) c.in-Some-Locked.field-0-is did.ends in
+    let same = did.beside before ready.0 after in (
+      file_opens k start before h f ends.0 ends.1 same amid.1,
+      file_learned k start before h f ends.0 ends.1 same amid.1 c.args.notes.now c.set.new.self fd p.fd c.from.result ready.1 amid.0 c.from.ensures c.set.ensures,
+    )

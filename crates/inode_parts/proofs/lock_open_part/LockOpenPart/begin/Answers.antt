@@ -1,5 +1,7 @@
+use Rattle.std.proofs.Common.{refl}
 use Rattle.hand_controls.specs.LockingFiles.{open_seat}
 use Rattle.inode_parts.proofs.FileLocks.{lock_open_is_part}
+use Rattle.inode_parts.proofs.Coming.{comes_first}
 use Rattle.inode_parts.proofs.Locking.{first_seat}
 use Rattle.inode_parts.proofs.lock_open_part.LockOpenPart.begin.Goals as goal
 
@@ -12,3 +14,9 @@ pub returns-clause-ready : goal.returns-clause-ready
 returns-clause-ready c =
     let free = first_seat (open_seat c.new-lock.result) c.args.hand.now c.new-lock.ensures.seat c.requires.begins.1 c.requires.begins.2 in
     (c.new-lock.ensures.ready c.args.hand.now c.requires.begins.1 c.requires.begins.3, free.1)
+
+pub returns-clause-amid : goal.returns-clause-amid
+returns-clause-amid c =
+    let k = open_seat c.new-lock.result in
+    let free = first_seat k c.args.hand.now c.new-lock.ensures.seat c.requires.begins.1 c.requires.begins.2 in
+    (refl, comes_first k c.args.hand.now free.0 c.requires.begins.3)

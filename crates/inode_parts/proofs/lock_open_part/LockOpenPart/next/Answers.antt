@@ -4,6 +4,7 @@ use Rattle.hands.specs.Ops.{answer_in}
 use Rattle.hand_controls.specs.LockingFiles.{open_left, open_asked, open_seat}
 use Rattle.inode_parts.specs.FileLocks.{open_ends}
 use Rattle.inode_parts.proofs.Locking.{lock_on, lock_over, other_free}
+use Rattle.inode_parts.proofs.Coming.{comes_on, file_learned, file_opens}
 use Rattle.inode_parts.proofs.FileEnds.{opened_at}
 use Rattle.inode_parts.proofs.lock_open_part.LockOpenPart.next.Goals as goal
 
@@ -33,3 +34,20 @@ returns-in-Some-clause-goes c path before ready after =
     lock_over (open_ends path p.fd) path c.args.notes.now k before h (open_left p.lock before) (answer_in (open_asked p.lock) c.args.answer c.args.hand.now) same (c.in-Some.held.file, record_in c.in-Some.held.seat h) _
     (opened_at path c.args.notes.now c.set.new.self h c.in-Some.held k did.ends.0 did.ends.1 alone p.fd c.from.result c.from.ensures c.set.ensures)
     (did.goes before ready.0 after)
+
+pub returns-in-None-clause-leaves : goal.returns-in-None-clause-leaves
+returns-in-None-clause-leaves c path fd n start before amid ready after =
+    let did = c.in-None.ensures in
+    ((amid.0, comes_on (open_seat c.args.self.now.lock) (open_seat c.next.new.self) start before c.next.new.hand did.about (did.beside before ready.0 after) amid.1), refl)
+
+pub returns-in-Some-clause-leaves : goal.returns-in-Some-clause-leaves
+returns-in-Some-clause-leaves c path fd n start before amid ready after =
+    let p = c.args.self.now in
+    let k = open_seat p.lock in
+    let h = c.next.new.hand in
+    let f = c.in-Some.held in
+    let did = c.in-Some.ensures in
+    let same = did.beside before ready.0 after in (
+      file_opens k start before h f did.ends.0 did.ends.1 same amid.1,
+      file_learned k start before h f did.ends.0 did.ends.1 same amid.1 c.args.notes.now c.set.new.self fd p.fd c.from.result ready.1 amid.0 c.from.ensures c.set.ensures,
+    )
