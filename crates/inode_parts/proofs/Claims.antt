@@ -13,12 +13,15 @@ use Rattle.inode_table.specs.Programs.{with_dinode}
 use Rattle.inode_table.specs.declared.new_inode.Made.{Made}
 use Rattle.inode_table.specs.declared.new_inode.Made.TheVariants as made
 use Rattle.hands.specs.Controls.{Goes}
-use Rattle.hands.specs.Hands.{with_buffer, with_reference}
+use Rattle.hands.specs.Hands.{reference_at, with_buffer, with_reference}
 use Rattle.hands.specs.declared.hand.Hand.{Hand}
 use Rattle.hands.specs.declared.hand.Place.TheVariants.{First}
 use Rattle.hands.specs.declared.hand.Seat.{Seat}
 use Rattle.hands.specs.declared.hand.Seat.TheVariants.{One, Two}
-use Rattle.hand_controls.specs.Making.{beside_new, new_left}
+use Rattle.hand_controls.specs.Making.{beside_new, new_left, new_value}
+use Rattle.hand_controls.specs.Making as making
+use Rattle.hand_controls.specs.declared.new_inode.Claimed.{Claimed as Searched}
+use Rattle.hand_controls.specs.declared.new_inode.Claimed.TheVariants as searched
 use Rattle.hand_controls.specs.declared.new_inode.NewInode.{NewInode}
 use Rattle.hand_controls.proofs.Goings.{goes_to, goes_with}
 use Rattle.inode_machine.specs.Inodes.{OfDevice, OfDirectory, OfFile, Sort}
@@ -29,10 +32,13 @@ use Rattle.inodes_on_blocks.specs.Handlers.{P}
 use Rattle.inodes_on_blocks.specs.Lowering.{Carry}
 use Rattle.inodes_on_blocks.specs.Making.{claim_at, claim_from, claim_in}
 use Rattle.whole_calls.specs.Asks.{claimed_in, claimed_of}
+use Rattle.whole_calls.specs.declared.asks.Claimed.{Claimed}
 use Rattle.whole_calls.specs.declared.asks.Heard.{Heard}
 use Rattle.whole_calls.specs.declared.asks.Heard.TheVariants as heard
 use Rattle.inode_parts.specs.Carries.{carry_in, handed}
 use Rattle.inode_parts.specs.Claims.{claim_ends, claimed_by}
+use Rattle.inode_parts.specs.Holding.{without_numbers, LeavesClaim}
+use Rattle.inode_parts.specs.OneSteps.{HasFreeSeat, free_seat}
 use Rattle.inode_parts.specs.Parts.{IsPart, Part}
 use Rattle.inode_parts.specs.declared.note.Notes.{Notes}
 use Rattle.inode_parts.proofs.Afterwards.{then_plain}
@@ -99,3 +105,28 @@ module _ (path : List ℕ) (m : Notes) (k : Seat) (before h : Hand) (p : code.P 
   claim_over a x e goes =
       goes_to (bind p (claim_ends (carry_in path m before))) (claim_ends (carry_in path m h) a) (Ret (handed path m x h)) answer
       (goes_with p (Ret a) (claim_ends (carry_in path m before)) (claim_ends (carry_in path m h)) answer ends_same goes) (λ i. Ret (record { answer = sym e i; carry = carry_in path m h }))
+
+-- ---- what it leaves
+
+reference_put : (k : Seat) (start h : Hand) → start.first ≡ None → h.first ≡ None → beside_new k h ≡ beside_new k start → without_numbers h ≡ without_numbers (with_reference k (reference_at k h) start)
+reference_put One start h empty over same = λ i. record (same i) { first = (over ∙ sym empty) i; to_one = h.to_one }
+reference_put Two start h empty over same = λ i. record (same i) { first = (over ∙ sym empty) i; to_two = h.to_two }
+
+as_it_was : (k : Seat) (h : Hand) → with_reference k (reference_at k h) h ≡ h
+as_it_was One h = refl
+as_it_was Two h = refl
+
+module _ (k : Seat) (start h : Hand) (at : k ≡ free_seat start) (free : HasFreeSeat start) (empty : start.first ≡ None) (over : h.first ≡ None) (same : beside_new k h ≡ beside_new k start) where
+  put_so : (r : Option ℕ) → reference_at k h ≡ r → without_numbers h ≡ without_numbers (with_reference (free_seat start) r start)
+  put_so r there = reference_put k start h empty over same ∙ (λ i. without_numbers (with_reference (at i) (there i) start))
+
+  none_so : reference_at k h ≡ None → without_numbers h ≡ without_numbers start
+  none_so there = put_so None there ∙ ap (λ (o : Option ℕ). without_numbers (with_reference (free_seat start) o start)) (sym free) ∙ ap without_numbers (as_it_was (free_seat start) start)
+
+  left_so : (out : Searched) → reference_at k h ≡ making.claimed_of out → LeavesClaim (claimed_of (claimed_by (new_value out h))) start h
+  left_so (searched.Inode n) there = put_so (Some n) there
+  left_so searched.NoPlace there = none_so there
+  left_so searched.NoInode there = none_so there
+
+  pub claim_leaves : (out : Searched) (x : Claimed) → reference_at k h ≡ making.claimed_of out → x ≡ claimed_by (new_value out h) → LeavesClaim (claimed_of x) start h
+  claim_leaves out x there e = subst (λ (x : Claimed). LeavesClaim (claimed_of x) start h) (sym e) (left_so out there)

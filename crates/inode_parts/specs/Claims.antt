@@ -1,5 +1,5 @@
 -- A new inode, as a part.
-use Rattle.std.specs.Prelude.{◌+◌, ◌<◌, ◌^◌, List, ℕ, IsSome}
+use Rattle.std.specs.Prelude.{◌≡◌, ◌+◌, ◌<◌, ◌^◌, List, ℕ, IsSome}
 use Rattle.fs_layout.specs.declared.superblock.Super.{Super}
 use Rattle.atomic_programs.specs.Prog.{Ret, bind}
 use Rattle.inode_table.specs.NewInodes.{inode_blocks}
@@ -8,13 +8,13 @@ use Rattle.inode_table.specs.declared.new_inode.Made.TheVariants as made
 use Rattle.hands.specs.declared.hand.Hand.{Hand}
 use Rattle.hands.specs.declared.op.Op.{Op}
 use Rattle.hand_controls.specs.Emptying.{HasNoBuffer}
-use Rattle.hand_controls.specs.Making.{new_left, new_asked, NewReady}
+use Rattle.hand_controls.specs.Making.{beside_new, new_left, new_asked, new_seat, NewReady}
 use Rattle.inodes_on_blocks.specs.Lowering.{Carry}
 use Rattle.whole_calls.specs.declared.asks.Claimed.{Claimed}
 use Rattle.whole_calls.specs.declared.asks.Claimed.TheVariants as claimed
 use Rattle.whole_calls.specs.declared.asks.Heard.TheVariants as heard
 use Rattle.inode_parts.specs.Carries.{carry_in}
-use Rattle.inode_parts.specs.OneSteps.{HasFreeSeat}
+use Rattle.inode_parts.specs.OneSteps.{HasFreeSeat, free_seat}
 use Rattle.inode_parts.specs.Parts.{Part}
 use Rattle.inode_parts.specs.declared.claim_part.ClaimPart.{ClaimPart}
 use Rattle.inode_parts.specs.declared.note.Notes.{Notes}
@@ -36,6 +36,10 @@ claim_asked p = new_asked p.claim
 
 abbrev pub ClaimReady : ClaimPart → Hand → Type 0
 ClaimReady p h = NewReady p.claim h
+
+-- it began without a buffer, and with no reference at this seat: beside that, a buffer and numbers all is as it was
+abbrev pub ClaimAmid : Hand → ClaimPart → Hand → Type 0
+ClaimAmid start p now = HasFreeSeat start × HasNoBuffer start × (new_seat p.claim ≡ free_seat start) × (beside_new (new_seat p.claim) now ≡ beside_new (new_seat p.claim) start)
 
 -- the disk has inodes, and their blocks have numbers
 abbrev pub HasInodeTable : Super → Type 0

@@ -5,9 +5,11 @@ ghost use Rattle.hands.specs.Ops.{op_in, answer_in, CanDo, Prepared, IsAfter};
 ghost use Rattle.hands.specs.Controls.{Goes, left_after, bare};
 ghost use Rattle.hands.specs.declared.hand.Hand.{Hand as HandState};
 ghost use Rattle.hand_controls.specs.Making.{new_value};
+ghost use Rattle.inode_machine.specs.Inodes as whole;
 ghost use Rattle.inode_machine.specs.World.Op.{Claim};
 ghost use Rattle.inode_parts.specs.Carries.{carry_in, handed};
-ghost use Rattle.inode_parts.specs.Claims.{claim_left, claim_asked, claimed_by, ClaimBegins, ClaimReady};
+ghost use Rattle.inode_parts.specs.Claims.{claim_left, claim_asked, claimed_by, ClaimAmid, ClaimBegins, ClaimReady};
+ghost use Rattle.inode_parts.specs.Leaving.{having, StaysOrLeaves};
 ghost use Rattle.inode_parts.specs.Parts.{IsPart};
 ghost use Rattle.inode_parts.specs.declared.note.Notes.{Notes as NotesState};
 ghost use Rattle.whole_calls.specs.Asks.{sort_of};
@@ -33,6 +35,7 @@ impl ClaimPart {
         ensures part { (path : List ℕ) (notes : NotesState)
             → IsPart sizes.now (carry_in path notes hand.now) (Claim (sort_of sort)) (claim_left path notes result hand.now) }
         ensures ready { ClaimReady result hand.now }
+        ensures amid { ClaimAmid hand.now result hand.now }
     {
         let claim = NewInode::new(kind(sort), sizes, free_seat(hand));
         ClaimPart { claim }
@@ -58,6 +61,9 @@ impl ClaimPart {
             → Goes (claim_left path notes.now self.old before) (answer_in (claim_asked self.old) answer hand.old)
             (left_after (claim_left path notes.now) (handed path notes.now) result self.new hand.new) }
         ensures ready { IfNone result (ClaimReady self.new hand.new) }
+        ensures leaves { (path : List ℕ) (sort : whole.Sort) (start before : HandState) → ClaimAmid start self.old before
+            → ClaimReady self.old before → IsAfter (claim_asked self.old) before answer hand.old
+            → StaysOrLeaves (ClaimAmid start self.new) path (Claim sort) result (having start notes.now) (having hand.new notes.now) }
         ensures hand { bare hand.new ≡ bare hand.old }
     {
         match self.claim.next(answer, hand) {

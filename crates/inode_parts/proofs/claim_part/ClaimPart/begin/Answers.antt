@@ -1,4 +1,4 @@
-use Rattle.std.proofs.Common.{◌≡◌, ◌∙◌, None, subst, sym}
+use Rattle.std.proofs.Common.{◌≡◌, ◌∙◌, None, refl, subst, sym}
 use Rattle.hands.specs.Hands.{reference_at}
 use Rattle.hands.specs.declared.hand.Seat.{Seat}
 use Rattle.whole_calls.specs.Asks.{sort_of}
@@ -14,3 +14,8 @@ returns-clause-ready c =
     let h = c.args.hand.now in
     let begins = c.requires.begins in
     c.new-claim.ensures.ready h begins.2.0 begins.2.1 (subst (λ (k : Seat). reference_at k h ≡ None) (sym c.free_seat.ensures) begins.1) begins.3
+
+pub returns-clause-amid : goal.returns-clause-amid
+returns-clause-amid c =
+    let begins = c.requires.begins in
+    (begins.1, begins.2, c.new-claim.ensures.seat ∙ c.free_seat.ensures, refl)
