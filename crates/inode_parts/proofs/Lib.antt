@@ -17,6 +17,7 @@ pub mod Locking
 pub mod FileLocks
 pub mod FileEnds
 pub mod Coming
+pub mod Seeing
 pub mod Lefts
 pub mod Telling
 pub mod Searched

@@ -37,7 +37,7 @@ use Rattle.inode_parts.proofs.Sides.{alone_still}
 
 -- ---- while it is locked the reference stays
 
-number_same : (k : Seat) (before h : Hand) → beside_lock k h ≡ beside_lock k before → number_at k before ≡ number_at k h
+pub number_same : (k : Seat) (before h : Hand) → beside_lock k h ≡ beside_lock k before → number_at k before ≡ number_at k h
 number_same One before h same = sym (ap (number_at One) same)
 number_same Two before h same = sym (ap (number_at Two) same)
 

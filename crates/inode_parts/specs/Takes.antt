@@ -17,17 +17,21 @@ use Rattle.hand_controls.specs.Emptying.{HasNoBuffer}
 use Rattle.hand_controls.specs.HeldInodes.{number_in, record_in, IsLoadedAt}
 use Rattle.hand_controls.specs.LockingInodes.{lock_left, lock_asked, lock_seat, LockReady}
 use Rattle.content_parts.specs.Searching.{entries, search_left, search_asked, SearchReady}
+use Rattle.inode_machine.specs.Inodes as whole
 use Rattle.inodes_on_blocks.specs.Lowering.{Carry}
 use Rattle.inodes_on_blocks.specs.Reading.{number_found}
+use Rattle.whole_calls.specs.Asks.{query_in, sight_in}
 use Rattle.whole_calls.specs.Elements.{name_in, IsElement}
 use Rattle.whole_calls.specs.declared.asks.Heard.{Heard}
 use Rattle.whole_calls.specs.declared.asks.Heard.TheVariants as heard
 use Rattle.whole_calls.specs.declared.asks.Query.{Query}
 use Rattle.whole_calls.specs.declared.asks.Query.TheVariants as query
 use Rattle.whole_calls.specs.declared.elements.Element.{Element}
-use Rattle.inode_parts.specs.Carries.{had_of, handed}
+use Rattle.inode_parts.specs.Carries.{had_of, handed, note_at}
+use Rattle.inode_parts.specs.Coming.{Comes}
 use Rattle.inode_parts.specs.Faces.{face_unless_free}
-use Rattle.inode_parts.specs.OneSteps.{HasReference, IsAlone, seat_of_reference}
+use Rattle.inode_parts.specs.Holding.{IsCounted, Learns}
+use Rattle.inode_parts.specs.OneSteps.{HasReference, IsAlone, other, seat_of_reference}
 use Rattle.inode_parts.specs.Parts.{Part}
 use Rattle.inode_parts.specs.Sides.{beside_in}
 use Rattle.inode_parts.specs.declared.note.Note.{Note}
@@ -89,6 +93,25 @@ abbrev pub TakeReady : TakePart → Hand → Type 0
 TakeReady (take.Locking q r) h = LockReady r h × IsAlone (number_at (lock_seat r) h) (lock_seat r) h × (h.second ≡ None)
 TakeReady (take.Naming k e s) h = SearchReady s h × IsTaken k h
 TakeReady (take.Listing k s) h = SearchReady s h × IsTaken k h
+
+-- where the lock comes, and what is looked for
+abbrev pub take_seat : TakePart → Seat
+take_seat (take.Locking q r) = lock_seat r
+take_seat (take.Naming k e s) = k
+take_seat (take.Listing k s) = k
+
+abbrev pub take_query : TakePart → Query
+take_query (take.Locking q r) = q
+take_query (take.Naming k e s) = query.Name e
+take_query (take.Listing k s) = query.Entries
+
+-- this is looked for in inode n, whose lock comes to the seat of the reference to it
+abbrev pub TakeAmid : List ℕ → ℕ → whole.Query → Hand → TakePart → Hand → Type 0
+TakeAmid path n looking start p now = HasReference n start × (take_seat p ≡ seat_of_reference n start) × (query_in path (take_query p) ≡ looking) × Comes (take_seat p) start now
+
+-- what was seen in the inode at this seat, and is noted of it
+abbrev pub Sees : List ℕ → whole.Query → Seat → Heard → Notes → Notes → Type 0
+Sees path looking k x before after = IsCounted (sight_in x) × (note_at (other k) after ≡ note_at (other k) before) × Learns path looking (sight_in x) (note_at k after)
 
 -- what it asks of the hand
 abbrev pub TakeBegins : Super → ℕ → Hand → Type 0

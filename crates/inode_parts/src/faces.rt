@@ -1,5 +1,5 @@
 //! What an inode's record tells.
-ghost use Rattle.std.specs.Prelude.{◌≡◌};
+ghost use Rattle.std.specs.Prelude.{◌≡◌, ◌<◌, ◌^◌, IfSome};
 ghost use Rattle.inodes_on_blocks.specs.Reading.{natural};
 ghost use Rattle.inode_parts.specs.Faces.{face_by, face_unless_free, sort_by};
 
@@ -26,14 +26,16 @@ fn sort(inode: &Dinode) -> Sort
 
 // How many names an inode has, where that isn't below 0.
 fn count(nlink: i16) -> u16
-    ensures { result ≡ natural nlink }
+    ensures is { result ≡ natural nlink }
+    ensures few { result < 2 ^ 15 }
 {
     if nlink < 0 { 0 } else { nlink as u16 }
 }
 
 // Its type, count and size.
 fn face(inode: &Dinode) -> Face
-    ensures { result ≡ face_by inode.now }
+    ensures is { result ≡ face_by inode.now }
+    ensures few { result.count < 2 ^ 15 }
 {
     Face {
         sort: sort(inode),
@@ -44,7 +46,8 @@ fn face(inode: &Dinode) -> Face
 
 /// Its type, count and size; a free one tells nothing.
 pub(crate) fn face_unless_free(inode: &Dinode) -> Option<Face>
-    ensures { result ≡ face_unless_free inode.now }
+    ensures is { result ≡ face_unless_free inode.now }
+    ensures few { IfSome result (λ f. f.count < 2 ^ 15) }
 {
     if inode.kind == FREE {
         None

@@ -8,16 +8,20 @@ ghost use Rattle.hands.specs.declared.hand.Hand.{Hand as HandState};
 ghost use Rattle.hand_controls.specs.Emptying.{HasNoBuffer};
 ghost use Rattle.hand_controls.specs.HeldInodes.{record_in};
 ghost use Rattle.inode_data.specs.Beginnings.{IfBegun};
+ghost use Rattle.inode_machine.specs.Inodes as whole;
 ghost use Rattle.inode_machine.specs.World.Op.{Take};
 ghost use Rattle.inode_parts.specs.Carries.{carry_in, handed, with_note};
 ghost use Rattle.inode_parts.specs.Faces.{face_unless_free};
+ghost use Rattle.inode_parts.specs.Holding.{IsCounted};
+ghost use Rattle.inode_parts.specs.Leaving.{having, StaysOrLeaves};
 ghost use Rattle.inode_parts.specs.Sides.{beside_in};
 ghost use Rattle.inode_parts.specs.Parts.{IsPart};
-ghost use Rattle.inode_parts.specs.Takes.{looked, note_of, taken_left, take_left, take_asked, IsTaken, IsTold, TakeBegins, TakeReady, TakeTold};
+ghost use Rattle.inode_parts.specs.Takes.{looked, note_of, taken_left, take_left, take_asked, take_query, take_seat};
+ghost use Rattle.inode_parts.specs.Takes.{IsTaken, IsTold, Sees, TakeAmid, TakeBegins, TakeReady, TakeTold};
 ghost use Rattle.inode_parts.specs.declared.note.Note.TheVariants as note;
 ghost use Rattle.inode_parts.specs.declared.note.Notes.{Notes as NotesState};
 ghost use Rattle.inodes_on_blocks.specs.Reading.{number_found};
-ghost use Rattle.whole_calls.specs.Asks.{query_in};
+ghost use Rattle.whole_calls.specs.Asks.{query_in, sight_in};
 ghost use Rattle.whole_calls.specs.declared.asks.Heard.TheVariants as heard;
 ghost use Rattle.whole_calls.specs.Elements.{name_in, IsElement};
 
@@ -52,6 +56,7 @@ impl TakePart {
             → IsPart sizes.now (carry_in path notes hand.now) (Take number (query_in path query)) (take_left path notes result hand.now) }
         ensures ready { TakeReady result hand.now }
         ensures told { (path : List ℕ) → IsTold path query → TakeTold path result }
+        ensures amid { (path : List ℕ) → TakeAmid path number (query_in path query) hand.now result hand.now }
     {
         let seat = reference_seat(hand, number);
         let lock = LockInode::new(sizes.inodestart, seat);
@@ -88,6 +93,10 @@ impl TakePart {
             (left_after (take_left path.now notes.new) (handed path.now notes.new) result self.new hand.new) }
         ensures ready { IfNone result (TakeReady self.new hand.new) }
         ensures told { IfNone result (TakeTold path.now self.new) }
+        ensures leaves { (n : ℕ) (looking : whole.Query) (start before : HandState) → TakeAmid path.now n looking start self.old before
+            → TakeReady self.old before → IsAfter (take_asked self.old) before answer hand.old
+            → StaysOrLeaves (TakeAmid path.now n looking start self.new) path.now (Take n looking) result
+            (having start notes.old) (having hand.new notes.new) }
         ensures hand { bare hand.new ≡ bare hand.old }
     {
         match self {
@@ -136,6 +145,9 @@ fn look(query: Query, seat: Seat, notes: &mut Notes, hand: &Hand) -> Begun<TakeP
         ≡ looked path query (beside_in path notes.old seat hand.now) (number_at seat hand.now) (record_in seat hand.now) }
     ensures ready { IfBegun (λ p. TakeReady p hand.now) (λ _. Unit {0}) result }
     ensures told { (path : List ℕ) → IsTold path query → IfBegun (λ p. TakeTold path p) (λ _. Unit {0}) result }
+    ensures looks { IfBegun (λ p. (take_seat p ≡ seat) × (take_query p ≡ query) × (notes.new ≡ notes.old)) (λ _. Unit {0}) result }
+    ensures sees { (path : List ℕ)
+        → IfBegun (λ _. Unit {0}) (λ heard. Sees path (query_in path query) seat heard notes.old notes.new) result }
 {
     let inode = record_at(hand, seat);
     match query {
@@ -156,7 +168,8 @@ fn look(query: Query, seat: Seat, notes: &mut Notes, hand: &Hand) -> Begun<TakeP
 
 // What was seen of an inode.
 fn saw(inode: &Dinode, found: Option<u32>, empty: bool) -> Heard
-    ensures { result ≡ heard.Saw (record { face = face_unless_free inode.now; found = found; empty = empty }) }
+    ensures heard { result ≡ heard.Saw (record { face = face_unless_free inode.now; found = found; empty = empty }) }
+    ensures counted { IsCounted (sight_in result) }
 {
     Heard::Saw(Sight {
         face: face_unless_free(inode),
@@ -175,6 +188,7 @@ fn named(
 ) -> Heard
     ensures heard { result ≡ heard.Saw (record { face = face_unless_free inode.now; found = number_found found; empty = true }) }
     ensures notes { notes.new ≡ with_note seat (note_of element found) notes.old }
+    ensures counted { IsCounted (sight_in result) }
 {
     match found {
         Some(found) => {
@@ -192,6 +206,7 @@ fn named(
 fn listed(inode: &Dinode, seat: Seat, found: Option<Found>, notes: &mut Notes) -> Heard
     ensures heard { result ≡ heard.Saw (record { face = face_unless_free inode.now; found = None; empty = not (is_some found) }) }
     ensures notes { notes.new ≡ with_note seat note.Nothing notes.old }
+    ensures counted { IsCounted (sight_in result) }
 {
     notes.set(seat, Note::Nothing);
     saw(inode, None, found.is_none())

@@ -1,4 +1,4 @@
-use Rattle.std.proofs.Common.{◌≡◌, true, Option, None, sym, subst, ◌∙◌}
+use Rattle.std.proofs.Common.{◌≡◌, true, Option, None, refl, sym, subst, ◌∙◌}
 use Rattle.std.specs.Prelude.{is_some, not}
 use Rattle.fs_layout.specs.declared.inode.Dinode.{Dinode}
 use Rattle.atomic_programs.specs.Prog.{Ret, bind}
@@ -13,13 +13,15 @@ use Rattle.whole_calls.specs.Elements.{name_in}
 use Rattle.inode_parts.specs.Sides.{beside_in}
 use Rattle.inode_parts.specs.Takes.{listed_ends, named_ends, note_of}
 use Rattle.inode_parts.specs.declared.note.Note.TheVariants as note
+use Rattle.inode_parts.specs.Faces.{face_unless_free}
+use Rattle.inode_parts.proofs.Seeing.{sees_entries, sees_name, sees_nothing}
 use Rattle.inode_parts.proofs.Taking.{seen_ends}
 use Rattle.inode_parts.proofs.take_part.look.Goals as goal
 
 pub returns-in-Nothing-clause-program : goal.returns-in-Nothing-clause-program
 returns-in-Nothing-clause-program c path =
     rw c.in-Nothing.is (sym
-    (seen_ends path c.args.notes.now c.set.new.self c.args.seat c.args.hand.now note.Nothing c.record_at-inode.result None true c.saw.result c.record_at-inode.ensures c.requires.taken c.saw.ensures c.set.ensures))
+    (seen_ends path c.args.notes.now c.set.new.self c.args.seat c.args.hand.now note.Nothing c.record_at-inode.result None true c.saw.result c.record_at-inode.ensures c.requires.taken c.saw.ensures.heard c.set.ensures))
 
 pub returns-in-Is-clause-program : goal.returns-in-Is-clause-program
 returns-in-Is-clause-program c path =
@@ -45,3 +47,23 @@ returns-in-Is-entries-clause-program c path =
     rw c.in-Entries.is
     (sym (seen_ends path m c.listed.new.notes k h note.Nothing c.record_at-inode.result None (not (is_some found)) c.listed.result is c.requires.taken c.listed.ensures.heard c.listed.ensures.notes)
     ∙ (λ i. bind (prog i) (listed_ends path (beside_in path m k h) (number_at k h) (record_in k h))))
+
+pub returns-in-Nothing-clause-sees : goal.returns-in-Nothing-clause-sees
+returns-in-Nothing-clause-sees c path =
+    rw c.in-Nothing.is (sees_nothing path c.args.seat c.saw.result c.args.notes.now c.set.new.self c.saw.ensures.counted note.Nothing c.set.ensures)
+
+pub returns-in-Is-clause-sees : goal.returns-in-Is-clause-sees
+returns-in-Is-clause-sees c path =
+    rw c.in-Name.is
+    (sees_name path c.args.seat c.named.result c.args.notes.now c.named.new.notes c.named.ensures.counted c.in-Name.element (face_unless_free c.record_at-inode.result) c.in-Is.found c.in-Is.ensures.slot
+    c.named.ensures.heard c.named.ensures.notes)
+
+pub returns-in-Is-entries-clause-sees : goal.returns-in-Is-entries-clause-sees
+returns-in-Is-entries-clause-sees c path =
+    rw c.in-Entries.is (sees_entries path c.args.seat c.listed.result c.args.notes.now c.listed.new.notes c.listed.ensures.counted note.Nothing c.listed.ensures.notes)
+
+pub returns-in-Runs-clause-looks : goal.returns-in-Runs-clause-looks
+returns-in-Runs-clause-looks c = (refl, sym c.in-Name.is, refl)
+
+pub returns-in-Runs-entries-clause-looks : goal.returns-in-Runs-entries-clause-looks
+returns-in-Runs-entries-clause-looks c = (refl, sym c.in-Entries.is, refl)

@@ -2,6 +2,7 @@ use Rattle.std.proofs.Common.{ℕ, ap, refl, ◌∙◌}
 use Rattle.fs_machine.specs.Machines.{P}
 use Rattle.fs_layout.specs.declared.inode.Dinode.{Dinode}
 use Rattle.hand_controls.specs.LockingInodes.{lock_loaded, lock_seat}
+use Rattle.inode_parts.proofs.Coming.{comes_first}
 use Rattle.inode_parts.proofs.Takes.{take_asks, take_is_part}
 use Rattle.inode_parts.proofs.take_part.TakePart.begin.Goals as goal
 
@@ -20,3 +21,11 @@ returns-clause-ready c =
     let h = c.args.hand.now in
     let has = take_asks c.args.sizes.now c.args.number c.reference_seat-seat.result (lock_seat c.new-lock.result) h c.reference_seat-seat.ensures c.new-lock.ensures.seat c.requires.begins in
     (c.new-lock.ensures.ready h has.0 has.1 c.requires.begins.3.0 has.2, has.5, c.requires.begins.3.1)
+
+pub returns-clause-amid : goal.returns-clause-amid
+returns-clause-amid c path =
+    let h = c.args.hand.now in
+    let k = c.reference_seat-seat.result in
+    let l = lock_seat c.new-lock.result in
+    let has = take_asks c.args.sizes.now c.args.number k l h c.reference_seat-seat.ensures c.new-lock.ensures.seat c.requires.begins in
+    (c.requires.begins.0, c.new-lock.ensures.seat ∙ c.reference_seat-seat.ensures, refl, comes_first l h has.4 c.requires.begins.3.0)

@@ -1,4 +1,4 @@
-use Rattle.std.proofs.Common.{ℕ, List, true, None, sym, subst}
+use Rattle.std.proofs.Common.{ℕ, List, true, None, ap, refl, sym, subst, ◌∙◌}
 use Rattle.std.specs.Prelude.{is_some, not}
 use Rattle.atomic_programs.specs.Prog.{Ret}
 use Rattle.directory.specs.Programs.{Entry, Named}
@@ -11,7 +11,13 @@ use Rattle.whole_calls.specs.Elements.{name_in}
 use Rattle.inode_parts.specs.Takes.{listed_ends, named_ends, note_of, TakeTold}
 use Rattle.inode_parts.specs.declared.note.Note.TheVariants as note
 use Rattle.inode_parts.specs.declared.take_part.TakePart.{TakePart}
-use Rattle.inode_parts.proofs.Taking.{search_on, search_over, seen_ends, take_on, take_over, taken_stays}
+use Rattle.inode_machine.specs.Inodes.{Query}
+use Rattle.inode_parts.specs.Faces.{face_unless_free}
+use Rattle.inode_parts.specs.Takes.{take_seat, Sees}
+use Rattle.whole_calls.specs.Asks.{query_in}
+use Rattle.inode_parts.proofs.Coming.{comes_on}
+use Rattle.inode_parts.proofs.Seeing.{comes_between, comes_on_search, sees_entries, sees_name, take_leaves}
+use Rattle.inode_parts.proofs.Taking.{is_taken, search_on, search_over, seen_ends, take_on, take_over, taken_stays}
 use Rattle.inode_parts.proofs.take_part.TakePart.next.Goals as goal
 
 pub returns-in-None-clause-goes : goal.returns-in-None-clause-goes
@@ -106,3 +112,84 @@ returns-in-Some-next-2-clause-goes c before =
     search_over (listed_ends path) path m k before h Entry s (answer_in (search_asked s) c.args.answer h) same inode is found _
     (seen_ends path m c.listed.new.notes k h note.Nothing inode None (not (is_some found)) c.listed.result is (taken_stays k before h same ready.1) c.listed.ensures.heard c.listed.ensures.notes)
     (did.goes before ready.0 after))
+
+pub returns-in-None-clause-leaves : goal.returns-in-None-clause-leaves
+returns-in-None-clause-leaves c n looking start before =
+    let r = c.in-Locking.lock in
+    let did = c.in-None.ensures in
+    rw c.in-Locking.is (λ amid ready after.
+    ((amid.0, did.about ∙ amid.1, amid.2, comes_on (lock_seat r) (lock_seat c.next.new.self) start before c.next.new.hand did.about (did.beside before ready.0 after) amid.3), refl))
+
+pub returns-in-Is-clause-leaves : goal.returns-in-Is-clause-leaves
+returns-in-Is-clause-leaves c n looking start before =
+    let path = c.args.path.now in
+    let r = c.in-Locking.lock in
+    let k = c.in-Some.seat in
+    let h = c.next.new.hand in
+    let m = c.args.notes.now in
+    let m2 = c.look.new.notes in
+    let x = c.in-Is.heard in
+    let ends = c.in-Some.ensures.ends in
+    rw c.in-Locking.is (λ amid ready after.
+    let same = c.in-Some.ensures.beside before ready.0 after in
+    take_leaves path m m2 n looking start k h x amid.0 (ends.0 ∙ amid.1) (comes_on (lock_seat r) k start before h ends.0 same amid.3) (is_taken (lock_seat r) k before h ends.0 same ready.1 ends.1) ends.1.2
+    (subst (λ (looking : Query). Sees path looking k x m m2) amid.2 (c.in-Is.ensures.sees path)))
+
+pub returns-in-Runs-clause-leaves : goal.returns-in-Runs-clause-leaves
+returns-in-Runs-clause-leaves c n looking start before =
+    let path = c.args.path.now in
+    let r = c.in-Locking.lock in
+    let part = c.in-Runs.part in
+    let looks = c.in-Runs.ensures.looks in
+    let at = looks.0 ∙ c.in-Some.ensures.ends.0 in
+    rw c.in-Locking.is (λ amid ready after.
+    ((amid.0, at ∙ amid.1, ap (query_in path) looks.1 ∙ amid.2, comes_on (lock_seat r) (take_seat part) start before c.next.new.hand at (c.in-Some.ensures.beside before ready.0 after) amid.3), looks.2))
+
+pub returns-in-None-next-clause-leaves : goal.returns-in-None-next-clause-leaves
+returns-in-None-next-clause-leaves c n looking start before =
+    let s = c.in-Naming.search in
+    let t = c.next-in-Naming.new.self in
+    let did = c.in-None-next.ensures in
+    rw c.in-Naming.is (λ amid ready after.
+    ((amid.0, amid.1, amid.2, comes_between c.in-Naming.seat s t start before c.args.hand.now ready.0 did.ready (did.beside before ready.0 after) amid.3), refl))
+
+pub returns-in-Some-next-clause-leaves : goal.returns-in-Some-next-clause-leaves
+returns-in-Some-next-clause-leaves c n looking start before =
+    let path = c.args.path.now in
+    let m = c.args.notes.now in
+    let m2 = c.named.new.notes in
+    let h = c.args.hand.now in
+    let k = c.in-Naming.seat in
+    let e = c.in-Naming.element in
+    let s = c.in-Naming.search in
+    let found = c.in-Some-next.found in
+    let x = c.named.result in
+    let did = c.in-Some-next.ensures in
+    rw c.in-Naming.is (λ amid ready after.
+    let same = did.beside before ready.0 after in
+    take_leaves path m m2 n looking start k h x amid.0 amid.1 (comes_on_search k s start before h ready.0 did.over.1 same amid.3) (taken_stays k before h same ready.1) did.over.0
+    (subst (λ (looking : Query). Sees path looking k x m m2) amid.2
+    (sees_name path k x m m2 c.named.ensures.counted e (face_unless_free c.record_at-inode.result) found did.slot c.named.ensures.heard c.named.ensures.notes)))
+
+pub returns-in-None-next-2-clause-leaves : goal.returns-in-None-next-2-clause-leaves
+returns-in-None-next-2-clause-leaves c n looking start before =
+    let s = c.in-Listing.search in
+    let t = c.next-in-Listing.new.self in
+    let did = c.in-None-next-2.ensures in
+    rw c.in-Listing.is (λ amid ready after.
+    ((amid.0, amid.1, amid.2, comes_between c.in-Listing.seat s t start before c.args.hand.now ready.0 did.ready (did.beside before ready.0 after) amid.3), refl))
+
+pub returns-in-Some-next-2-clause-leaves : goal.returns-in-Some-next-2-clause-leaves
+returns-in-Some-next-2-clause-leaves c n looking start before =
+    let path = c.args.path.now in
+    let m = c.args.notes.now in
+    let m2 = c.listed.new.notes in
+    let h = c.args.hand.now in
+    let k = c.in-Listing.seat in
+    let s = c.in-Listing.search in
+    let x = c.listed.result in
+    let did = c.in-Some-next-2.ensures in
+    rw c.in-Listing.is (λ amid ready after.
+    let same = did.beside before ready.0 after in
+    take_leaves path m m2 n looking start k h x amid.0 amid.1 (comes_on_search k s start before h ready.0 did.over.1 same amid.3) (taken_stays k before h same ready.1) did.over.0
+    (subst (λ (looking : Query). Sees path looking k x m m2) amid.2 (sees_entries path k x m m2 c.listed.ensures.counted note.Nothing c.listed.ensures.notes)))

@@ -1,0 +1,100 @@
+-- What is left in hand of an inode that is taken, and what was seen in it.
+use Rattle.std.proofs.Common.{◌≡◌, ℕ, List, [], true, Option, Some, None, sym, ap, subst, ◌∙◌}
+use Rattle.std.specs.Prelude.{◌<◌, ◌^◌, IsSome, IfSome}
+use Rattle.std.specs.Option.{option_map, unwrap_or}
+use Rattle.tree_laws.proofs.Slots.{same_self}
+use Rattle.directory.specs.Machines.{IsSlot}
+use Rattle.directory.specs.declared.found.Found.{Found}
+use Rattle.hands.specs.Hands.{number_at}
+use Rattle.hands.specs.declared.hand.Hand.{Hand}
+use Rattle.hands.specs.declared.hand.Seat.{Seat}
+use Rattle.hands.specs.declared.hand.Seat.TheVariants.{One, Two}
+use Rattle.hand_controls.specs.LoadingHeld.{beside_lock}
+use Rattle.hand_controls.specs.Locating.{Leaves as LeavesBuffers}
+use Rattle.content_parts.specs.Searching.{SearchReady}
+use Rattle.content_parts.specs.declared.search.Search.{Search}
+use Rattle.content_parts.specs.declared.search.Search.TheVariants.{Fetching, Giving}
+use Rattle.inode_machine.specs.Inodes as whole
+use Rattle.inode_machine.specs.Inodes.{AtEntries, AtName, AtNothing}
+use Rattle.inode_machine.specs.World.{Take}
+use Rattle.inodes_on_blocks.specs.Reading.{number_found}
+use Rattle.whole_calls.specs.Asks.{answer_to, face_of, sight_in}
+use Rattle.whole_calls.specs.Elements.{name_in}
+use Rattle.whole_calls.specs.declared.asks.Face.{Face}
+use Rattle.whole_calls.specs.declared.asks.Heard.{Heard}
+use Rattle.whole_calls.specs.declared.asks.Heard.TheVariants as heard
+use Rattle.whole_calls.specs.declared.elements.Element.{Element}
+use Rattle.inode_parts.specs.Leaving.{having}
+use Rattle.inode_parts.specs.Carries.{note_at, with_note}
+use Rattle.inode_parts.specs.Clears.{HasFound}
+use Rattle.inode_parts.specs.Coming.{Comes}
+use Rattle.inode_parts.specs.Holding.{CameTo, IsCounted, Learns, Leaves}
+use Rattle.inode_parts.specs.OneSteps.{HasReference, IsAlone, other, seat_of_lock, seat_of_reference}
+use Rattle.inode_parts.specs.Takes.{note_of, IsTaken, Sees}
+use Rattle.inode_parts.specs.declared.note.Note.{Note}
+use Rattle.inode_parts.specs.declared.note.Notes.{Notes}
+use Rattle.inode_parts.proofs.Coming.{came, its_seat, noted_apart, noted_there}
+use Rattle.inode_parts.proofs.Taking.{number_same}
+
+-- ---- while it is searched
+
+search_second : (s : Search) (h : Hand) → SearchReady s h → h.second ≡ None
+search_second (Fetching at m) h ready = ready.1.2
+search_second (Giving at found) h ready = ready.3
+
+beside_search : (k : Seat) (before h : Hand) → before.second ≡ None → h.second ≡ None → LeavesBuffers before h → beside_lock k h ≡ beside_lock k before
+beside_search One before h empty over same = λ i. record (same i) { one = None; second = (over ∙ sym empty) i }
+beside_search Two before h empty over same = λ i. record (same i) { two = None; second = (over ∙ sym empty) i }
+
+pub comes_on_search : (k : Seat) (s : Search) (start before h : Hand) → SearchReady s before → h.second ≡ None → LeavesBuffers before h → Comes k start before → Comes k start h
+comes_on_search k s start before h ready over same comes = (comes.0, comes.1, beside_search k before h (search_second s before ready) over same ∙ comes.2)
+
+pub comes_between : (k : Seat) (s t : Search) (start before h : Hand) → SearchReady s before → SearchReady t h → LeavesBuffers before h → Comes k start before → Comes k start h
+comes_between k s t start before h ready then same comes = comes_on_search k s start before h ready (search_second t h then) same comes
+
+-- ---- what was seen
+
+pub counted_face : (o : Option Face) → IfSome o (λ (f : Face). f.count < 2 ^ 15) → IfSome (option_map face_of o) (λ (f : whole.Face). f.count < 2 ^ 15)
+counted_face None few = few
+counted_face (Some f) few = few
+
+not_found : (o : Option ℕ) → IsSome o → o ≡ None → ⊥
+not_found None is e = cc is
+not_found (Some n) is e = cc e
+
+module _ (path : List ℕ) (k : Seat) (x : Heard) (m m2 : Notes) (counted : IsCounted (sight_in x)) where
+  apart : (l : Note) → m2 ≡ with_note k l m → note_at (other k) m2 ≡ note_at (other k) m
+  apart l noted = ap (note_at (other k)) noted ∙ noted_apart k l m
+
+  pub sees_nothing : (l : Note) → m2 ≡ with_note k l m → Sees path AtNothing k x m m2
+  sees_nothing l noted = (counted, apart l noted, tt)
+
+  pub sees_entries : (l : Note) → m2 ≡ with_note k l m → Sees path AtEntries k x m m2
+  sees_entries l noted = (counted, apart l noted, tt)
+
+  module _ (e : Element) (face : Option Face) where
+    finds : (o : Option Found) → IsSlot o → x ≡ heard.Saw (record { face = face; found = number_found o; empty = true }) → m2 ≡ with_note k (note_of e o) m
+        → IsSome (sight_in x).found → HasFound path (name_in path e) (note_at k m2)
+    finds None slot saw noted is = absurd (not_found (sight_in x).found is (ap (λ (x : Heard). (sight_in x).found) saw))
+    finds (Some f) slot saw noted is =
+        subst (λ (l : Note). HasFound path (name_in path e) l) (sym (ap (note_at k) noted ∙ noted_there k (note_of e (Some f)) m)) (same_self (name_in path e), slot)
+
+    pub sees_name : (o : Option Found) → IsSlot o → x ≡ heard.Saw (record { face = face; found = number_found o; empty = true }) → m2 ≡ with_note k (note_of e o) m → Sees path (AtName (name_in path e)) k x m m2
+    sees_name o slot saw noted = (counted, apart (note_of e o) noted, finds o slot saw noted)
+
+-- ---- what is left
+
+number_kept : (k : Seat) (n : ℕ) (start h : Hand) → k ≡ seat_of_reference n start → HasReference n start → beside_lock k h ≡ beside_lock k start → number_at k h ≡ n
+number_kept k n start h at has same =
+    sym (number_same k start h same) ∙ ap (λ (k : Seat). number_at k start) at ∙ ap (λ (o : Option ℕ). unwrap_or o 0) has
+
+pub take_leaves : (path : List ℕ) (m m2 : Notes) (n : ℕ) (looking : whole.Query) (start : Hand) (k : Seat) (h : Hand) (x : Heard) → HasReference n start → k ≡ seat_of_reference n start → Comes k start h
+    → IsTaken k h → h.first ≡ None → Sees path looking k x m m2 → Leaves path (Take n looking) (answer_to [] (Take n looking) x) (having start m) (having h m2)
+take_leaves path m m2 n looking start k h x has at comes taken over sees =
+    let kept = number_kept k n start h at has comes.2 in
+    let named = taken.1 ∙ kept in
+    let seat = its_seat n k h taken.0 named (subst (λ (i : ℕ). IsAlone i k h) kept taken.2) in
+    let back : k ≡ seat_of_lock n h = sym seat in (
+      (((λ is. subst (λ (k : Seat). CameTo k n start h) at (came k n start h comes over taken.0 named)), (λ none. absurd (none has))), sees.0),
+      (subst (λ (k : Seat). note_at (other k) m2 ≡ note_at (other k) m) back sees.1, subst (λ (k : Seat). Learns path looking (sight_in x) (note_at k m2)) back sees.2),
+    )
