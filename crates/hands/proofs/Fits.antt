@@ -12,7 +12,7 @@ use Rattle.hands.specs.declared.hand.Place.{Place}
 use Rattle.hands.specs.declared.hand.Place.TheVariants.{First, Second}
 use Rattle.hands.specs.declared.hand.Seat.{Seat}
 use Rattle.hands.specs.declared.hand.Seat.TheVariants.{One, Two}
-use Rattle.hands.specs.Hands.{AreOwn, HandFits, buffer_at, with_buffer, inode_at, with_inode, reference_at, with_reference, with_txn, block_at, bytes_at, inode_in, no_inode, number_at, with_content, with_bytes}
+use Rattle.hands.specs.Hands.{AreOwn, HandFits, buffer_at, with_buffer, inode_at, with_inode, reference_at, with_listed, with_reference, with_txn, block_at, bytes_at, inode_in, no_inode, number_at, with_content, with_bytes}
 use Rattle.hands.specs.Ops.{content_at}
 use Rattle.std.specs.Option.{option_map, option_map_or, unwrap_or, MatchOption}
 use Rattle.std.specs.Prelude.{IsSome}
@@ -228,6 +228,14 @@ buffer-beside_txn : (t : Option ℕ) (h : Hand) (p : Place) → buffer_at p (wit
 buffer-beside_txn t h First = refl
 buffer-beside_txn t h Second = refl
 
+buffer-beside_listed : (ns : List ℕ) (h : Hand) (p : Place) → buffer_at p (with_listed ns h) ≡ buffer_at p h
+buffer-beside_listed ns h First = refl
+buffer-beside_listed ns h Second = refl
+
+inode-beside_listed : (ns : List ℕ) (h : Hand) (k : Seat) → inode_at k (with_listed ns h) ≡ inode_at k h
+inode-beside_listed ns h One = refl
+inode-beside_listed ns h Two = refl
+
 inode-beside_txn : (t : Option ℕ) (h : Hand) (k : Seat) → inode_at k (with_txn t h) ≡ inode_at k h
 inode-beside_txn t h One = refl
 inode-beside_txn t h Two = refl
@@ -238,6 +246,13 @@ module _ (hart : ℕ) (s : State) (h : Hand) (f : HandFits hart s h) where
     txn = subst (λ t. IfSome t (λ k. k ≡ hart)) (sym (reference-beside_txn k r h)) f.txn;
     buffers = stay (λ v. v.block) (IsOwn hart) (λ q. buffer_at q h) (λ q. buffer_at q (with_reference k r h)) s s f.buffers (reference-beside k r h) (λ _ _ own. own);
     inodes = stay (λ v. v.number) (IsOwnInode hart) (λ q. inode_at q h) (λ q. inode_at q (with_reference k r h)) s s f.inodes (reference-beside_inode k r h) (λ _ _ own. own);
+  }
+
+  pub lists : (ns : List ℕ) → HandFits hart s (with_listed ns h)
+  lists ns = record {
+    txn = f.txn;
+    buffers = stay (λ v. v.block) (IsOwn hart) (λ q. buffer_at q h) (λ q. buffer_at q (with_listed ns h)) s s f.buffers (buffer-beside_listed ns h) (λ _ _ own. own);
+    inodes = stay (λ v. v.number) (IsOwnInode hart) (λ q. inode_at q h) (λ q. inode_at q (with_listed ns h)) s s f.inodes (inode-beside_listed ns h) (λ _ _ own. own);
   }
 
   pub has-txn : (t : Option ℕ) → IfSome t (λ k. k ≡ hart) → HandFits hart s (with_txn t h)
@@ -300,6 +315,10 @@ reference-there Two r h = refl
 pub reference-none : (k : Seat) (h : Hand) → reference_at k h ≡ None → h ≡ with_reference k None h
 reference-none One h e = ap (λ (o : Option ℕ). record h { to_one = o }) e
 reference-none Two h e = ap (λ (o : Option ℕ). record h { to_two = o }) e
+
+pub listed-beside : (k : Seat) (r : Option ℕ) (h : Hand) → (with_reference k r h).listed ≡ h.listed
+listed-beside One r h = refl
+listed-beside Two r h = refl
 
 pub txn-back : (n : ℕ) (h : Hand) → h.txn ≡ Some n → with_txn (Some n) h ≡ h
 txn-back n h e = ap (λ (o : Option ℕ). record h { txn = o }) (sym e)

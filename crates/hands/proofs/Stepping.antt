@@ -19,7 +19,7 @@ use Rattle.hands.specs.declared.hand.Place.{Place}
 use Rattle.hands.specs.declared.hand.Seat.{Seat}
 use Rattle.hands.specs.declared.hand.Seat.TheVariants.{One, Two}
 use Rattle.hands.specs.declared.op.Op.{Op}
-use Rattle.hands.specs.declared.op.Op.TheVariants.{Join, JoinToWrite, Leave, Commit, Get, Read, Give, Record, Lock, LockFile, LockOpen, Unlock, UnlockMoving, Settle, Up, UpDirectory, Down, DownWalked, DownFreed, CheckFile, TakePlace, TakeDescriptor, Double, Close, GiveTo, Claim, Reply}
+use Rattle.hands.specs.declared.op.Op.TheVariants.{Join, JoinToWrite, Leave, Commit, Get, Read, Give, Record, Lock, LockFile, LockOpen, Unlock, UnlockMoving, Settle, Up, UpDirectory, Down, DownWalked, LockListed, DownFreed, CheckFile, TakePlace, TakeDescriptor, Double, Close, GiveTo, Claim, Reply}
 use Rattle.hands.specs.declared.op.Answer.{Answer}
 use Rattle.hands.specs.Hands.{HandFits, buffer_at, with_buffer, inode_at, with_content}
 use Rattle.hands.specs.Ops.{op_in, Prepared, IsAfter}
@@ -76,6 +76,7 @@ after-prepared (UnlockMoving k fd offset) before h k' a same after = subst (λ (
 after-prepared (Settle k) before h k' a same after = subst (λ (b : Hand). IsAfter (Settle k) b a k') same after
 after-prepared (UpDirectory k) before h k' a same after = subst (λ (b : Hand). IsAfter (UpDirectory k) b a k') same after
 after-prepared (DownWalked k) before h k' a same after = subst (λ (b : Hand). IsAfter (DownWalked k) b a k') same after
+after-prepared (LockListed k) before h k' a same after = subst (λ (b : Hand). IsAfter (LockListed k) b a k') same after
 after-prepared (DownFreed k) before h k' a same after = subst (λ (b : Hand). IsAfter (DownFreed k) b a k') same after
 after-prepared (CheckFile w fd) before h k' a same after = subst (λ (b : Hand). IsAfter (CheckFile w fd) b a k') same after
 after-prepared TakePlace before h k' a same after = subst (λ (b : Hand). IsAfter TakePlace b a k') same after
@@ -107,6 +108,7 @@ prepared-waits (UnlockMoving k fd offset) hart x s before h same did = same
 prepared-waits (Settle k) hart x s before h same did = same
 prepared-waits (UpDirectory k) hart x s before h same did = same
 prepared-waits (DownWalked k) hart x s before h same did = same
+prepared-waits (LockListed k) hart x s before h same did = same
 prepared-waits (DownFreed k) hart x s before h same did = same
 prepared-waits (CheckFile w fd) hart x s before h same did = same
 prepared-waits TakePlace hart x s before h same did = same
@@ -137,6 +139,7 @@ prepared-stops (UnlockMoving k fd offset) hart x s t before h same did = same
 prepared-stops (Settle k) hart x s t before h same did = same
 prepared-stops (UpDirectory k) hart x s t before h same did = same
 prepared-stops (DownWalked k) hart x s t before h same did = same
+prepared-stops (LockListed k) hart x s t before h same did = same
 prepared-stops (DownFreed k) hart x s t before h same did = same
 prepared-stops (CheckFile w fd) hart x s t before h same did = same
 prepared-stops TakePlace hart x s t before h same did = same

@@ -1,5 +1,5 @@
 -- What is in a hart's hand, by its places, and how it goes with the state.
-use Rattle.std.specs.Prelude.{◌≡◌, ℕ, List, [], Option, Some, None, IfSome}
+use Rattle.std.specs.Prelude.{◌≡◌, ℕ, List, [], ◌∷◌, drop, replicate, Option, Some, None, IfSome}
 use Rattle.std.specs.Option.{option_map, option_map_or, unwrap_or}
 use Rattle.fs_layout.specs.declared.inode.Dinode.{Dinode}
 use Rattle.sleep_lock.specs.SleepLock.{GuardState}
@@ -12,6 +12,10 @@ use Rattle.hands.specs.declared.hand.Place.{Place}
 use Rattle.hands.specs.declared.hand.Place.TheVariants.{First, Second}
 use Rattle.hands.specs.declared.hand.Seat.{Seat}
 use Rattle.hands.specs.declared.hand.Seat.TheVariants.{One, Two}
+
+-- nothing
+abbrev pub empty_hand : Hand
+empty_hand = record { txn = None; first = None; second = None; one = None; two = None; to_one = None; to_two = None; listed = []; numbers = replicate 16 0; count = 0 }
 
 abbrev pub buffer_at : Place → Hand → Option (GuardState BufferState)
 buffer_at First h = h.first
@@ -36,6 +40,21 @@ reference_at Two h = h.to_two
 abbrev pub with_reference : Seat → Option ℕ → Hand → Hand
 with_reference One o h = record h { to_one = o }
 with_reference Two o h = record h { to_two = o }
+
+-- the references that wait for the call's end, and the first of them
+abbrev pub with_listed : List ℕ → Hand → Hand
+with_listed ns h = record h { listed = ns }
+
+abbrev pub first_in : List ℕ → ℕ
+first_in [] = 0
+first_in (n ∷ ns) = n
+
+abbrev pub first_listed : Hand → ℕ
+first_listed h = first_in h.listed
+
+-- it comes to a seat
+abbrev pub with_first : Seat → Hand → Hand
+with_first k h = with_reference k (Some (first_listed h)) (with_listed (drop 1 h.listed) h)
 
 abbrev pub with_txn : Option ℕ → Hand → Hand
 with_txn o h = record h { txn = o }

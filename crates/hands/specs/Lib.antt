@@ -1,3 +1,4 @@
+pub mod Queues
 pub mod Hands
 pub mod Ops
 pub mod Performs

@@ -1,11 +1,11 @@
 -- What the operations of code stand for, what each asks of the hand and leaves of it, and its answer.
-use Rattle.std.specs.Prelude.{◌≡◌, ◌≢◌, ◌<◌, ◌≤◌, take, ◌^◌, ℕ, pos, List, Bool, true, false, Option, Some, None, IsSome, IfSome}
+use Rattle.std.specs.Prelude.{◌≡◌, ◌≢◌, ◌<◌, ◌≤◌, ◌∷◌, ◌++◌, [], length, take, ◌^◌, ℕ, pos, List, Bool, true, false, Option, Some, None, IsSome, IfSome}
 use Rattle.std.specs.Option.{MatchOption, option_map_or}
 use Rattle.sleep_lock.specs.SleepLock.{GuardState}
 use Rattle.buffer_cache.specs.Buffers.{BufferState}
 use Rattle.group_log.specs.declared.log.Left.{Left}
 use Rattle.group_log.specs.declared.log.Left.TheVariants.{Free, Commits}
-use Rattle.fs_tables.specs.Limits.{descriptor_count}
+use Rattle.fs_tables.specs.Limits.{descriptor_count, listed_places}
 use Rattle.fs_tables.specs.declared.inodes.Inode.{Inode}
 use Rattle.fs_tables.specs.declared.files.Refused.TheVariants as refused
 use Rattle.fs_tables.specs.declared.slots.Doubled.TheVariants as doubled
@@ -24,10 +24,10 @@ use Rattle.hands.specs.declared.hand.Place.TheVariants.{First}
 use Rattle.hands.specs.declared.hand.Seat.{Seat}
 use Rattle.hands.specs.declared.hand.Seat.TheVariants.{One}
 use Rattle.hands.specs.declared.op.Op.{Op}
-use Rattle.hands.specs.declared.op.Op.TheVariants.{Join, JoinToWrite, Leave, Commit, Get, Read, Give, Record, Lock, LockFile, LockOpen, Unlock, UnlockMoving, Settle, Up, UpDirectory, Down, DownWalked, DownFreed, CheckFile, TakePlace, TakeDescriptor, Double, Close, GiveTo, Claim, Reply}
+use Rattle.hands.specs.declared.op.Op.TheVariants.{Join, JoinToWrite, Leave, Commit, Get, Read, Give, Record, Lock, LockFile, LockOpen, Unlock, UnlockMoving, Settle, Up, UpDirectory, Down, DownWalked, LockListed, DownFreed, CheckFile, TakePlace, TakeDescriptor, Double, Close, GiveTo, Claim, Reply}
 use Rattle.hands.specs.declared.op.Answer.{Answer}
 use Rattle.hands.specs.declared.op.Answer.TheVariants.{Nothing, Is, Refused, Number, File, Doubled, Given}
-use Rattle.hands.specs.Hands.{buffer_at, with_buffer, inode_at, with_inode, reference_at, with_reference, with_txn, block_at, bytes_at, inode_in, number_at, with_bytes}
+use Rattle.hands.specs.Hands.{buffer_at, with_buffer, inode_at, with_inode, reference_at, with_first, with_listed, with_reference, with_txn, first_listed, block_at, bytes_at, inode_in, number_at, with_bytes}
 
 -- the operation, by what is in hand
 abbrev pub op_in : Hand → Op → steps.Op
@@ -49,6 +49,7 @@ op_in h (UnlockMoving k fd offset) = steps.Unlock (inode_in k h) (Some (fd, offs
 op_in h (Settle k) = steps.Settle (inode_in k h)
 op_in h (UpDirectory k) = steps.Up steps.Directory
 op_in h (DownWalked k) = steps.Down (steps.Walked (number_at k h))
+op_in h (LockListed k) = steps.Lock (first_listed h)
 op_in h (DownFreed k) = steps.Down (steps.Freed (number_at k h))
 op_in h (CheckFile w fd) = steps.CheckFile w fd
 op_in h TakePlace = steps.TakePlace
@@ -78,7 +79,8 @@ CanDo (LockOpen k fd) h = inode_at k h ≡ None
 CanDo (UnlockMoving k fd offset) h = IsSome (inode_at k h)
 CanDo (Settle k) h = MatchOption (inode_at k h) ⊥ (λ g. reference_at k h ≡ Some g.value.number)
 CanDo (UpDirectory k) h = reference_at k h ≡ None
-CanDo (DownWalked k) h = IsSome (reference_at k h)
+CanDo (DownWalked k) h = IsSome (reference_at k h) × (length h.listed < listed_places)
+CanDo (LockListed k) h = (h.listed ≢ []) × (reference_at k h ≡ None) × (inode_at k h ≡ None)
 CanDo (DownFreed k) h = IsSome (reference_at k h)
 CanDo (CheckFile w fd) h = Unit {0}
 CanDo TakePlace h = Unit {0}
@@ -116,8 +118,9 @@ abbrev pub IsOpenLocked : Seat → Answer → Hand → Hand → Type 0
 IsOpenLocked k (File f) before h = IsLocked k (File f) before h
 IsOpenLocked k a before h = ⊥
 
+-- the last reference to a dead inode is listed
 abbrev pub IsKept : Seat → Answer → Hand → Hand → Type 0
-IsKept k (Is true) before h = h ≡ before
+IsKept k (Is true) before h = h ≡ with_listed (before.listed ++ number_at k before ∷ []) (with_reference k None before)
 IsKept k a before h = h ≡ with_reference k None before
 
 abbrev pub IsClaimed : Place → Seat → Answer → Hand → Hand → Type 0
@@ -159,6 +162,7 @@ IsAfter (UnlockMoving k fd offset) before a h = h ≡ with_inode k None before
 IsAfter (Settle k) before a h = (n : ℕ) × (h ≡ with_reference k (Some n) (with_inode k None before))
 IsAfter (UpDirectory k) before a h = (r : Option ℕ) × (h ≡ with_reference k r before)
 IsAfter (DownWalked k) before a h = IsKept k a before h
+IsAfter (LockListed k) before a h = (g : GuardState Inode) × (h ≡ with_inode k (Some g) (with_first k before)) × (g.value.number ≡ first_listed before)
 IsAfter (DownFreed k) before a h = h ≡ with_reference k None before
 IsAfter (CheckFile w fd) before a h = h ≡ before
 IsAfter TakePlace before a h = h ≡ before
@@ -183,6 +187,7 @@ seat_of (Down k) = k
 seat_of (LockFile k w fd) = k
 seat_of (LockOpen k fd) = k
 seat_of (Settle k) = k
+seat_of (LockListed k) = k
 seat_of (UpDirectory k) = k
 seat_of (Close k fd) = k
 seat_of (GiveTo k child from) = k

@@ -1,9 +1,10 @@
 // What a hart has in hand between two operations.
-ghost use Rattle.std.specs.Prelude.{◌≡◌, Some, None, IsSome, is_some};
+ghost use Rattle.std.specs.Prelude.{◌≡◌, ◌≢◌, [], Some, None, IfOk, IsSome, is_some};
 ghost use Rattle.std.specs.Option.{option_map, option_map_or};
 ghost use Rattle.hands.specs.Ops.{content_at};
-ghost use Rattle.hands.specs.Hands.{buffer_at, with_buffer, inode_at, with_inode, reference_at, with_reference, with_txn, inode_in, no_inode, recorded, with_record};
+ghost use Rattle.hands.specs.Hands.{empty_hand, buffer_at, with_buffer, inode_at, with_inode, reference_at, with_first, with_reference, with_txn, inode_in, no_inode, recorded, with_record};
 
+use crate::queue::Queue;
 use atomic_programs::machines::put;
 use buffer_cache::Buffer;
 use fs_layout::Dinode;
@@ -11,6 +12,7 @@ use fs_machine::RetiredCore;
 use fs_tables::{Inode, Reference};
 use group_log::Txn;
 use sleep_lock::Guard;
+use std::alloc::{AllocError, Global};
 use std::mem;
 
 /// A place for a buffer.
@@ -36,12 +38,33 @@ pub struct Hand {
     pub two: Option<Guard<Inode>>,
     pub to_one: Option<Reference>,
     pub to_two: Option<Reference>,
+    /// References that a walk keeps: each is the last one to a dead inode, and the call frees the inode at its end.
+    pub listed: Queue,
     /// The numbers of inodes of which one is to be claimed, and how many these are.
     pub numbers: [u32; 16],
     pub count: u8,
 }
 
 impl Hand {
+    /// Nothing yet, and the memory for what a call lists.
+    pub fn new(alloc: Global) -> Result<Hand, AllocError>
+        ensures { IfOk result (λ hand. hand ≡ empty_hand) }
+    {
+        let listed = Queue::new(alloc)?;
+        Ok(Hand {
+            txn: None,
+            first: None,
+            second: None,
+            one: None,
+            two: None,
+            to_one: None,
+            to_two: None,
+            listed,
+            numbers: [0; 16],
+            count: 0,
+        })
+    }
+
     /// A transaction, where there is none.
     pub(crate) fn hold_txn(&mut self, txn: Txn)
         requires { self.old.txn ≡ None }
@@ -126,6 +149,18 @@ impl Hand {
         }
     }
 
+    /// The first listed reference for a seat that is empty.
+    pub(crate) fn hold_first(&mut self, seat: Seat)
+        requires listed { self.old.listed ≢ [] }
+        requires empty { reference_at seat self.old ≡ None }
+        ensures { self.new ≡ with_first seat self.old }
+    {
+        match self.listed.take_first() {
+            None => unreachable!(),
+            Some(reference) => self.hold_reference(seat, reference),
+        }
+    }
+
     /// Whether the inode at a seat is loaded.
     pub fn is_loaded(&self, seat: Seat) -> bool
         ensures { result ≡ is_some (inode_in seat self.now).content }
@@ -168,6 +203,7 @@ impl Hand {
             two,
             to_one,
             to_two,
+            listed,
             numbers: _,
             count: _,
         } = self;
@@ -181,6 +217,7 @@ impl Hand {
         retire_inode(two, retired);
         retire_reference(to_one, retired);
         retire_reference(to_two, retired);
+        listed.retire(retired);
     }
 }
 

@@ -8,7 +8,9 @@ mod control;
 mod hand;
 mod op;
 mod perform;
+mod queue;
 
 pub use control::{Control, Machine, Part, Routine};
 pub use hand::{Hand, Place, Seat};
 pub use op::{Answer, Did, Op};
+pub use queue::Queue;

@@ -44,8 +44,10 @@ pub enum Op {
     Settle(Seat),
     /// A reference to the hart's current directory.
     UpDirectory(Seat),
-    /// Drops a reference within a walk; the last one to a dead inode stays.
+    /// Drops a reference within a walk; the last one to a dead inode is listed, behind the others.
     DownWalked(Seat),
+    /// Takes the first listed reference, and the lock of its inode.
+    LockListed(Seat),
     /// Drops the reference that is left to an inode that this hart has freed.
     DownFreed(Seat),
     /// Whether a descriptor may be had for this.

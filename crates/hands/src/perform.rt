@@ -359,8 +359,28 @@ impl Hand {
             Some(reference) => match core.drop_walked(hart, reference) {
                 None => Did::Ran(Answer::Is(false), Kind::Down),
                 Some(kept) => {
-                    self.hold_reference(seat, kept);
+                    self.listed.push(kept);
                     Did::Ran(Answer::Is(true), Kind::Down)
+                }
+            },
+        }
+    }
+
+    // Takes the first listed reference, and the lock of its inode.
+    pub(crate) fn lock_listed<D: Device>(&mut self, hart: u8, core: &mut Core<D>, seat: Seat) -> Did
+        requires fits { HandFits hart (state_of D.contents D.failures core.old) self.old }
+        requires can { CanDo (Op.LockListed seat) self.old }
+        requires may { May hart (op_in self.old (Op.LockListed seat)) (state_of D.contents D.failures core.old) }
+        ensures { Performs D.contents D.failures D.Called hart (Op.LockListed seat) self.old self.new result core.old core.new }
+    {
+        match self.listed.first() {
+            None => unreachable!(),
+            Some(first) => match core.lock(hart, first) {
+                None => Did::Waits,
+                Some(guard) => {
+                    self.hold_first(seat);
+                    self.hold_inode(seat, guard);
+                    Did::Ran(Answer::Nothing, Kind::Lock)
                 }
             },
         }
@@ -570,6 +590,7 @@ impl Hand {
             Op::Settle(seat) => self.settle(hart, core, seat),
             Op::UpDirectory(seat) => self.up_directory(hart, core, seat),
             Op::DownWalked(seat) => self.down_walked(hart, core, seat),
+            Op::LockListed(seat) => self.lock_listed(hart, core, seat),
             Op::DownFreed(seat) => self.down_freed(hart, core, seat),
             Op::CheckFile(want, fd) => self.check_file(hart, core, want, fd),
             Op::TakePlace => self.take_place(hart, core),

@@ -1,13 +1,14 @@
-use Rattle.std.proofs.Common.{◌≡◌, ℕ, Some, None, refl, sym, ap, ◌∙◌, subst, inl}
+use Rattle.std.proofs.Common.{◌≡◌, ℕ, List, [], ◌∷◌, ◌++◌, Some, None, refl, sym, ap, ◌∙◌, subst, inl}
 use Rattle.atomic_programs.specs.Prog.{Ran}
 use Rattle.fs_tables.specs.Inodes.{Counts, Keeps}
 use Rattle.fs_machine.specs.LogPart.{Passes, part_of}
 use Rattle.fs_machine.specs.Steps as steps
 use Rattle.fs_machine.specs.Steps.{State, state_of, exec}
 use Rattle.fs_machine.specs.Premises.{Honest}
-use Rattle.hands.specs.Hands.{HandFits, with_reference}
+use Rattle.hands.specs.declared.hand.Hand.{Hand}
+use Rattle.hands.specs.Hands.{HandFits, number_at, with_listed, with_reference}
 use Rattle.hands.specs.Ops.{answer_in}
-use Rattle.hands.proofs.Fits.{tables-stay, refers, reference-back, number-there}
+use Rattle.hands.proofs.Fits.{listed-beside, lists, tables-stay, refers, number-there}
 use Rattle.hands.proofs.hand.Hand.down_walked.Goals as goal
 
 pub returns-in-None-drop_walked : goal.returns-in-None-drop_walked
@@ -44,15 +45,19 @@ returns-in-Some-drop_walked g c =
     let k = c.args.seat in
     let n = c.in-Some.reference in
     let was = sym c.take_reference.ensures.is ∙ c.in-Some.is in
-    let same : c.hold_reference.new.self ≡ hand = c.hold_reference.ensures ∙ ap (λ (m : ℕ). with_reference k (Some m) c.take_reference.new.self) did.kept
-    ∙ ap (with_reference k (Some n)) c.take_reference.ensures.left ∙ reference-back k n hand was in
+    let number = number-there k n hand was in
+    let gone = c.take_reference.ensures.left in
+    let is : c.push.new.self ≡ hand.listed ++ number_at k hand ∷ [] = c.push.ensures ∙ ap (λ (h : Hand). h.listed ++ c.in-Some-drop_walked.kept ∷ []) gone
+    ∙ ap (λ (ns : List ℕ). ns ++ c.in-Some-drop_walked.kept ∷ []) (listed-beside k None hand) ∙ ap (λ (n : ℕ). hand.listed ++ n ∷ []) (did.kept ∙ sym number) in
+    let there = ap (with_listed c.push.new.self) gone ∙ ap (λ (ns : List ℕ). with_listed ns (with_reference k None hand)) is in
     record {
-      ran = subst (λ (m : ℕ). exec hart Passes (steps.Down (steps.Walked m)) old ≡ Ran Keeps new) (sym (number-there k n hand was)) (did.ran Passes);
+      ran = subst (λ (m : ℕ). exec hart Passes (steps.Down (steps.Walked m)) old ≡ Ran Keeps new) (sym number) (did.ran Passes);
       kind = refl;
       honest = tt;
       still = tt;
-      hand = same;
-      fits = subst (λ h. HandFits hart new h) (sym same) (tables-stay hart old new hand c.requires.fits (ap (part_of g.D.Device.contents g.D.Device.failures) did.log) did.rest);
+      hand = there;
+      fits = subst (λ h. HandFits hart new h) (sym there)
+          (lists hart new (with_reference k None hand) (refers hart new hand (tables-stay hart old new hand c.requires.fits (ap (part_of g.D.Device.contents g.D.Device.failures) did.log) did.rest) k None) (hand.listed ++ number_at k hand ∷ []));
       others = did.others;
       called = inl (ap (λ l. l.cache.device) did.log);
     }
