@@ -1,5 +1,5 @@
 -- A small call: an inode stored in a transaction of its own.
-use Rattle.std.specs.Prelude.{◌≡◌, ◌<◌, ◌^◌, ℕ, None}
+use Rattle.std.specs.Prelude.{◌≡◌, ◌<◌, ◌^◌, ℕ, [], None}
 use Rattle.fs_layout.specs.declared.inode.Dinode.{Dinode}
 use Rattle.atomic_programs.specs.Prog.{Do, bind, once, unmarked}
 use Rattle.fs_machine.specs.Steps as steps
@@ -26,7 +26,7 @@ abbrev pub call : (inodestart n : ℕ) → Dinode → P (Unit {0})
 call inodestart n d = Do steps.Join unmarked (λ _. bind (store inodestart n d) ends)
 
 abbrev pub emptied : Hand → Hand
-emptied h = record h { txn = None; first = None; second = None; one = None; two = None; to_one = None; to_two = None }
+emptied h = record h { txn = None; first = None; second = None; one = None; two = None; to_one = None; to_two = None; listed = [] }
 
 -- nothing is in hand
 abbrev pub IsEmpty : Hand → Type 0

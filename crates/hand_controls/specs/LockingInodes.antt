@@ -1,7 +1,7 @@
 -- An inode locked, and loaded.
-use Rattle.std.specs.Prelude.{◌≡◌, ◌<◌, ◌^◌, ℕ, None, IsSome}
+use Rattle.std.specs.Prelude.{◌≡◌, ◌<◌, ◌^◌, ℕ, Option, Some, None, IsSome}
 use Rattle.fs_layout.specs.declared.inode.Dinode.{Dinode}
-use Rattle.atomic_programs.specs.Prog.{Do, unmarked}
+use Rattle.atomic_programs.specs.Prog.{Ret, Do, unmarked}
 use Rattle.fs_machine.specs.Steps as steps
 use Rattle.fs_machine.specs.Machines.{P}
 use Rattle.inode_table.specs.Programs.{inode_block, load_unless}
@@ -10,7 +10,7 @@ use Rattle.hands.specs.declared.hand.Seat.{Seat}
 use Rattle.hands.specs.declared.op.Op.{Op}
 use Rattle.hands.specs.declared.op.Op.TheVariants as ops
 use Rattle.hands.specs.Hands.{inode_at, number_at, reference_at}
-use Rattle.hand_controls.specs.HeldInodes.{number_in, IsLoadedAt}
+use Rattle.hand_controls.specs.HeldInodes.{number_in, record_in, IsLoadedAt}
 use Rattle.hand_controls.specs.Loading.{load_left, load_asked}
 use Rattle.hand_controls.specs.LoadingHeld.{IsLoading}
 use Rattle.hand_controls.specs.declared.lock_inode.LockInode.{LockInode}
@@ -23,6 +23,11 @@ lock_loaded inodestart n = Do (steps.Lock n) unmarked (load_unless inodestart n)
 abbrev pub lock_left : LockInode → Hand → P Dinode
 lock_left (Lock k inodestart) h = lock_loaded inodestart (number_at k h)
 lock_left (Loading k m) h = load_left m h
+
+-- where the lock came already
+abbrev pub held_left : Option LockInode → Seat → Hand → P Dinode
+held_left None k h = Ret (record_in k h)
+held_left (Some m) k h = lock_left m h
 
 abbrev pub lock_asked : LockInode → Op
 lock_asked (Lock k inodestart) = ops.Lock k

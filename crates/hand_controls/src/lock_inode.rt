@@ -1,15 +1,15 @@
 //! An inode locked, and loaded.
-ghost use Rattle.std.specs.Prelude.{◌≡◌, ◌<◌, ◌^◌, None, IsSome, IfSome, IfNone};
+ghost use Rattle.std.specs.Prelude.{◌≡◌, ◌<◌, ◌^◌, None, IsSome, IfSome, IfNone, MatchOption};
 ghost use Rattle.fs_layout.specs.declared.inode.Dinode.{Dinode as DinodeState};
-ghost use Rattle.inode_table.specs.Programs.{inode_block};
-ghost use Rattle.hands.specs.Hands.{inode_at, number_at, reference_at};
+ghost use Rattle.inode_table.specs.Programs.{inode_block, load_unless};
+ghost use Rattle.hands.specs.Hands.{inode_at, inode_in, number_at, reference_at};
 ghost use Rattle.hands.specs.Ops.{IsAfter, answer_in};
 ghost use Rattle.hands.specs.Controls.{Goes, left_after, bare};
 ghost use Rattle.hands.specs.declared.hand.Hand.{Hand as HandState};
 ghost use Rattle.hands.specs.declared.hand.Seat.{Seat as SeatState};
-ghost use Rattle.hand_controls.specs.HeldInodes.{record_in};
+ghost use Rattle.hand_controls.specs.HeldInodes.{number_in, record_in, HasBlock};
 ghost use Rattle.hand_controls.specs.LoadingHeld.{beside_lock};
-ghost use Rattle.hand_controls.specs.LockingInodes.{lock_loaded, lock_left, lock_asked, lock_seat, HasLocked, LockReady};
+ghost use Rattle.hand_controls.specs.LockingInodes.{held_left, lock_loaded, lock_left, lock_asked, lock_seat, HasLocked, LockReady};
 
 use crate::load_held::load_held;
 use crate::load_inode::LoadInode;
@@ -32,6 +32,21 @@ impl LockInode {
         ensures seat { lock_seat result ≡ seat }
     {
         LockInode::Lock(seat, inodestart)
+    }
+
+    /// That of an inode whose lock came to a seat, to which the reference is there. None where the inode is loaded.
+    pub fn held(inodestart: u32, hand: &Hand, seat: Seat) -> Option<LockInode>
+        requires there { IsSome (inode_at seat hand.now) }
+        requires number { number_in seat hand.now ≡ number_at seat hand.now }
+        requires block { HasBlock inodestart seat hand.now }
+        requires free { hand.now.first ≡ None }
+        ensures program { held_left result seat hand.now ≡ load_unless inodestart (number_in seat hand.now) (inode_in seat hand.now).content }
+        ensures ready { MatchOption result (HasLocked seat hand.now) (λ lock. LockReady lock hand.now × (lock_seat lock ≡ seat)) }
+    {
+        match load_held(inodestart, hand, seat) {
+            None => None,
+            Some(load) => Some(LockInode::Loading(seat, load)),
+        }
     }
 }
 
