@@ -116,7 +116,7 @@ module _ (sizes : Super) (path : List ℕ) (m : Notes) (h : Hand) where
   is_part (above.Up n) has = λ mark. refl
   is_part (above.WalkDown n) has =
       let c : Carry = carry_in path m h in
-      subst (λ (k : ℕ). IsPart sizes c (above.WalkDown n) (one (steps.Down (steps.Walked k)) (λ a. heard.Is (is_listed a)) (λ a. c))) (sym (reference_is n h has)) (λ mark. refl)
+      subst (λ (k : ℕ). IsPart sizes c (above.WalkDown n) (one (steps.Down (steps.Walked k)) (λ a. heard.Is (is_listed a)) (λ a. c))) (sym (reference_is n h has.0)) (λ mark. refl)
   is_part (above.Down n) has =
       let c : Carry = carry_in path m h in
       subst (λ (k : ℕ). IsPart sizes c (above.Down n) (one (steps.Down (steps.Held k)) (λ a. heard.Is (is_dying a)) (with_dying k c))) (sym (reference_is n h has.0)) (λ mark. refl)
@@ -215,7 +215,7 @@ is_ready (above.Settle n) h has =
 is_ready (above.UpStart true) h has = has
 is_ready (above.UpStart false) h has = has
 is_ready (above.Up n) h has = has
-is_ready (above.WalkDown n) h has = some_reference n (seat_of_reference n h) h has
+is_ready (above.WalkDown n) h has = (some_reference n (seat_of_reference n h) h has.0, has.1)
 is_ready (above.Down n) h has =
     (some_reference n (seat_of_reference n h) h has.0, has.1, subst (λ (k : ℕ). IsAlone k (seat_of_reference n h) h) (sym (reference_is n h has.0)) has.2)
 is_ready (above.Forget n) h has = some_reference n (seat_of_reference n h) h has

@@ -29,7 +29,7 @@ use Rattle.whole_calls.specs.declared.asks.Joined.{Joined}
 use Rattle.whole_calls.specs.declared.asks.Loan.{Loan}
 use Rattle.inode_parts.specs.Carries.{carry_in, handed, had_of, with_note}
 use Rattle.inode_parts.specs.OneSteps.{IsAlone, StepReady, joining_heard, loan_heard, step_left, still}
-use Rattle.hands.specs.Hands.{with_txn}
+use Rattle.hands.specs.Hands.{with_reference, with_txn}
 use Rattle.hand_controls.specs.Finishing.{finish_left}
 use Rattle.hand_controls.specs.declared.finish.Finish.{Finish}
 use Rattle.hand_controls.proofs.Goings.{goes_with}
@@ -59,7 +59,7 @@ module _ (path : List ℕ) (m : Notes) (before h : Hand) where
   still_goes lop heard answer x e f = λ i. Ret (record { answer = e i; carry = f i })
 
   kept_in : (k : Seat) (a : Answer) → IsKept k a before h → carry_in path m before ≡ carry_in path m h
-  kept_in k (answers.Is true) e = same_in path m before h e
+  kept_in k (answers.Is true) e = beside_reference path m k None before (with_reference k None before) refl ∙ sym (ap (carry_in path m) e)
   kept_in k (answers.Is false) e = beside_reference path m k None before h e
   kept_in k answers.Nothing e = beside_reference path m k None before h e
   kept_in k (answers.Refused why) e = beside_reference path m k None before h e

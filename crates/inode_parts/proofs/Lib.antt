@@ -22,6 +22,7 @@ pub mod Lefts
 pub mod Telling
 pub mod Searched
 pub mod Takes
+pub mod Relocks
 pub mod Taking
 pub mod Goings
 pub mod Lowering

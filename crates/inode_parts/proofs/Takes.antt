@@ -76,12 +76,13 @@ module _ (path : List ℕ) (c : Carry) (n : ℕ) (d : Dinode) where
       then_plain (search_entries d) (entries d) (λ o. seen_record c n d NothingMore None (not (is_some o))) (λ o. bind (listed_ends path c n d o) answers) (plain_entries d) (λ o. seen_so note.Nothing NothingMore None (not (is_some o)) refl)
       ∙ sym (bind-assoc (entries d) (listed_ends path c n d) answers)
 
-pub take_is_part : (sizes : Super) (path : List ℕ) (m : Notes) (n : ℕ) (q : Query) (h : Hand) (r : LockInode) → lock_left r h ≡ lock_loaded sizes.inodestart n → number_at (lock_seat r) h ≡ n → inode_at (lock_seat r) h ≡ None
-    → IsPart sizes (carry_in path m h) (Take n (query_in path q)) (bind (lock_left r h) (looked path q (beside_in path m (lock_seat r) h) (number_at (lock_seat r) h)))
-take_is_part sizes path m n q h r program named free =
-    let c : Carry = beside_in path m (lock_seat r) h in
-    subst (λ (b : Carry). IsPart sizes b (Take n (query_in path q)) (bind (lock_left r h) (looked path q c (number_at (lock_seat r) h)))) (sym (none_beside path m h (lock_seat r) free))
-    (subst (λ (k : ℕ). IsPart sizes c (Take n (query_in path q)) (bind (lock_left r h) (looked path q c k))) (sym named)
+-- once its lock is taken, by whichever reference
+pub locked_is_part : (sizes : Super) (path : List ℕ) (m : Notes) (n : ℕ) (q : Query) (h : Hand) (k : Seat) (p : code.P Dinode) (j : ℕ) → p ≡ lock_loaded sizes.inodestart n → j ≡ n → inode_at k h ≡ None
+    → IsPart sizes (carry_in path m h) (Take n (query_in path q)) (bind p (looked path q (beside_in path m k h) j))
+locked_is_part sizes path m n q h k p j program named free =
+    let c : Carry = beside_in path m k h in
+    subst (λ (b : Carry). IsPart sizes b (Take n (query_in path q)) (bind p (looked path q c j))) (sym (none_beside path m h k free))
+    (subst (λ (j : ℕ). IsPart sizes c (Take n (query_in path q)) (bind p (looked path q c j))) (sym named)
     (subst (λ (p : code.P Dinode). IsPart sizes c (Take n (query_in path q)) (bind p (looked path q c n))) (sym program)
     (λ mark i. Do (steps.Lock n) unmarked (λ content. loads c content i))))
   where
@@ -89,6 +90,10 @@ take_is_part sizes path m n q h r program named free =
     loads c content =
         load_then sizes.inodestart n content (handlers.looked (query_in path q) c n) (λ d. bind (looked path q c n d) answers) (λ d. looked_so path c n d q)
         ∙ sym (bind-assoc (load_unless sizes.inodestart n content) (looked path q c n) answers)
+
+pub take_is_part : (sizes : Super) (path : List ℕ) (m : Notes) (n : ℕ) (q : Query) (h : Hand) (r : LockInode) → lock_left r h ≡ lock_loaded sizes.inodestart n → number_at (lock_seat r) h ≡ n → inode_at (lock_seat r) h ≡ None
+    → IsPart sizes (carry_in path m h) (Take n (query_in path q)) (bind (lock_left r h) (looked path q (beside_in path m (lock_seat r) h) (number_at (lock_seat r) h)))
+take_is_part sizes path m n q h r program named free = locked_is_part sizes path m n q h (lock_seat r) (lock_left r h) (number_at (lock_seat r) h) program named free
 
 -- ---- what its routine asks of the hand
 

@@ -1,16 +1,21 @@
 -- What operations on whole inodes ask of the hand, and calls that find it there.
 use Rattle.std.specs.Prelude.{◌≡◌, ◌<◌, ◌^◌, ◌⊎◌, ℕ, List, None, IsSome}
+use Rattle.fs_layout.specs.Name.{IsName}
 use Rattle.plain_tree.specs.declared.call.Call.{Call}
 use Rattle.hands.specs.declared.hand.Hand.{Hand}
-use Rattle.hands.specs.Hands.{inode_at, reference_at}
+use Rattle.hands.specs.Hands.{inode_at}
 use Rattle.hand_controls.specs.Calling.{IsEmpty}
 use Rattle.hand_controls.specs.Emptying.{HasNoBuffer}
 use Rattle.hand_controls.specs.HeldInodes.{IsLoadedAt}
+use Rattle.inode_machine.specs.Inodes.{AtNothing}
 use Rattle.inode_machine.specs.Programs.{program}
 use Rattle.inode_machine.specs.World as above
+use Rattle.whole_calls.specs.Wholes.{IsCall}
 use Rattle.inode_parts.specs.Carries.{note_at}
 use Rattle.inode_parts.specs.Clears.{HasFound}
-use Rattle.inode_parts.specs.OneSteps.{Begins, HasLock, HasReference, IsAlone, free_seat, seat_of_lock, seat_of_reference}
+use Rattle.inode_parts.specs.OneSteps.{Begins, HasFreeSeat, HasLock, HasReference, IsAlone, seat_of_lock, seat_of_reference}
+use Rattle.inode_parts.specs.Relocks.{MayRelock}
+use Rattle.inode_parts.specs.declared.note.Note.TheVariants as note
 use Rattle.inode_parts.specs.Holding.{Having, Runs}
 
 -- the inode's lock is in hand, with its record, and there is a transaction
@@ -21,26 +26,31 @@ HasChangeable n h = HasLock n h × IsLoadedAt (seat_of_lock n h) h × IsSome h.t
 abbrev pub MayLock : ℕ → Hand → Type 0
 MayLock n h = HasReference n h × (inode_at (seat_of_reference n h) h ≡ None) × IsAlone n (seat_of_reference n h) h × HasNoBuffer h
 
--- .. or, where there is none, a place for both
-abbrev pub MayRelock : ℕ → Hand → Type 0
-MayRelock n h = (HasReference n h → ⊥) × (reference_at (free_seat h) h ≡ None) × (inode_at (free_seat h) h ≡ None)
-    × IsAlone n (free_seat h) h × HasNoBuffer h
-
 -- no lock is in hand
 abbrev pub MayOpen : Hand → Type 0
 MayOpen h = (h.one ≡ None) × (h.two ≡ None) × HasNoBuffer h
 
+-- the lock of the inode that this descriptor names is in hand, and its file stands there
+abbrev pub HasOpened : (fd n offset : ℕ) → Having → Type 0
+HasOpened fd n offset s = HasLock n s.hand × IsLoadedAt (seat_of_lock n s.hand) s.hand × HasNoBuffer s.hand
+    × (note_at (seat_of_lock n s.hand) s.notes ≡ note.Opened fd offset)
+
 abbrev pub BeginsWith : List ℕ → above.Op → Having → Type 0
-BeginsWith path (above.Take n looking) s = MayLock n s.hand ⊎ MayRelock n s.hand
+BeginsWith path (above.Take n looking) s = MayLock n s.hand ⊎ (MayRelock n s.hand × (looking ≡ AtNothing))
 BeginsWith path (above.Free n) s = HasChangeable n s.hand
 BeginsWith path (above.Store n count) s = HasChangeable n s.hand × (count < 2 ^ 15)
+BeginsWith path (above.Claim sort) s = HasFreeSeat s.hand × HasNoBuffer s.hand × IsSome s.hand.txn
+BeginsWith path (above.Fill n d) s = HasChangeable n s.hand
+BeginsWith path (above.Enter d e n) s = HasChangeable d s.hand × IsName e
 BeginsWith path (above.Clear d e) s = HasChangeable d s.hand × HasFound path e (note_at (seat_of_lock d s.hand) s.notes)
 BeginsWith path (above.Empty n) s = HasChangeable n s.hand
 BeginsWith path (above.StatFile fd) s = MayOpen s.hand
 BeginsWith path (above.LockFile fd) s = MayOpen s.hand
 BeginsWith path (above.LockOpen fd n) s = MayOpen s.hand
+BeginsWith path (above.ReadFile fd n offset count) s = HasOpened fd n offset s
+BeginsWith path (above.WriteFile fd n offset bytes) s = HasOpened fd n offset s × IsSome s.hand.txn
 BeginsWith path op s = Begins op s.hand
 
--- with nothing in hand a call runs to its end
+-- with nothing in hand a call that may start runs to its end
 abbrev pub RunsAlone : List ℕ → Call → Type 0
-RunsAlone path call = (s : Having) → IsEmpty s.hand → Runs path (BeginsWith path) (program call) s
+RunsAlone path call = IsCall call → (s : Having) → IsEmpty s.hand → Runs path (BeginsWith path) (program call) s

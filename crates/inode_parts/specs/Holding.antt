@@ -1,12 +1,12 @@
 -- What an operation on whole inodes leaves in hand, and programs that find in hand what their operations ask.
-use Rattle.std.specs.Prelude.{◌≡◌, ◌<◌, ◌^◌, ℕ, List, [], Bool, true, false, Option, Some, None, IsSome, IfSome}
+use Rattle.std.specs.Prelude.{◌≡◌, ◌<◌, ◌^◌, ℕ, List, [], ◌∷◌, ◌++◌, Bool, true, false, Option, Some, None, IsSome, IfSome}
 use Rattle.plain_tree.specs.declared.answer.Reply.{Reply}
 use Rattle.atomic_programs.specs.Prog.{Ret, Do}
 use Rattle.sleep_lock.specs.SleepLock.{GuardState}
 use Rattle.fs_tables.specs.declared.inodes.Inode.{Inode}
 use Rattle.hands.specs.declared.hand.Hand.{Hand}
 use Rattle.hands.specs.declared.hand.Seat.{Seat}
-use Rattle.hands.specs.Hands.{inode_at, with_inode, with_reference, with_txn}
+use Rattle.hands.specs.Hands.{inode_at, with_first, with_inode, with_listed, with_reference, with_txn}
 use Rattle.hand_controls.specs.Calling.{IsEmpty}
 use Rattle.hand_controls.specs.HeldInodes.{unloaded, IsLoadedAt}
 use Rattle.inode_machine.specs.Inodes.{AtEntries, AtName, AtNothing, Face, Query, Sight}
@@ -42,9 +42,9 @@ CameTo k n before h = (g : GuardState Inode) × (h ≡ with_inode k (Some g) bef
 abbrev pub Locked : ℕ → Hand → Hand → Type 0
 Locked n before h = CameTo (seat_of_reference n before) n before h
 
--- .. with a reference, which was listed by a walk (the hand's operations don't make this yet: they keep such a reference in its seat)
+-- .. with the first listed reference
 abbrev pub Relocked : ℕ → Hand → Hand → Type 0
-Relocked n before h = CameTo (free_seat before) n (with_reference (free_seat before) (Some n) before) h
+Relocked n before h = CameTo (free_seat before) n (with_first (free_seat before) before) h
 
 -- .. to a seat without one
 abbrev pub Opened : ℕ → Hand → Hand → Type 0
@@ -70,7 +70,7 @@ Joined before h = (t : ℕ) × (h ≡ with_txn (Some t) before)
 abbrev pub IsCounted : Sight → Type 0
 IsCounted s = IfSome s.face (λ (f : Face). f.count < 2 ^ 15)
 
--- an inode of the call's list, to which no reference is in hand, comes with one
+-- the first inode of the call's list, to which no reference is at a seat, comes with one
 abbrev pub LeavesTake : ℕ → Hand → Hand → Type 0
 LeavesTake n before h = (HasReference n before → Locked n before h) × ((HasReference n before → ⊥) → Relocked n before h)
 
@@ -78,7 +78,12 @@ abbrev pub LeavesUp : ℕ → Bool → Hand → Hand → Type 0
 LeavesUp n true before h = Referred (Some n) before h
 LeavesUp n false before h = Referred None before h
 
--- the lock of a dead inode comes in its place; within a walk the reference goes on the call's list
+-- within a walk the last reference to a dead inode is listed, behind the others
+abbrev pub LeavesWalkDown : ℕ → Bool → Hand → Hand → Type 0
+LeavesWalkDown n true before h = h ≡ with_listed (before.listed ++ n ∷ []) (with_reference (seat_of_reference n before) None before)
+LeavesWalkDown n false before h = Dropped n before h
+
+-- the lock of a dead inode comes in its place
 abbrev pub LeavesDown : ℕ → Bool → Hand → Hand → Type 0
 LeavesDown n true before h = Locked n before h
 LeavesDown n false before h = Dropped n before h
@@ -128,7 +133,7 @@ LeavesHand (above.Take n looking) a before h = LeavesTake n before h × IsCounte
 LeavesHand (above.Give n) a before h = Unlocked n before h
 LeavesHand (above.UpStart absolute) a before h = Referred a before h
 LeavesHand (above.Up n) a before h = LeavesUp n a before h
-LeavesHand (above.WalkDown n) a before h = Dropped n before h
+LeavesHand (above.WalkDown n) a before h = LeavesWalkDown n a before h
 LeavesHand (above.Down n) a before h = LeavesDown n a before h
 LeavesHand (above.Free n) a before h = Reloaded n before h
 LeavesHand (above.Forget n) a before h = Dropped n before h

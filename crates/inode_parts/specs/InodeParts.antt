@@ -1,11 +1,12 @@
 -- Operations on whole inodes, each as a part over blocks.
-use Rattle.std.specs.Prelude.{ℕ, List, Option, Some, None}
+use Rattle.std.specs.Prelude.{◌≡◌, ◌⊎◌, ℕ, List, Option, Some, None}
 use Rattle.fs_layout.specs.declared.superblock.Super.{Super}
 use Rattle.atomic_programs.specs.Prog.{Ret, bind}
 use Rattle.hands.specs.declared.hand.Hand.{Hand}
 use Rattle.hands.specs.declared.op.Op.{Op}
 use Rattle.hand_controls.specs.Finishing.{finish_left, finish_asked, FinishReady}
 use Rattle.hand_controls.specs.declared.finish.Finish.TheVariants as finish
+use Rattle.inode_machine.specs.Inodes.{AtNothing}
 use Rattle.inode_machine.specs.World as above
 use Rattle.whole_calls.specs.declared.asks.Ask.{Ask}
 use Rattle.whole_calls.specs.declared.asks.Ask.TheVariants as ask
@@ -21,6 +22,7 @@ use Rattle.inode_parts.specs.Fills.{fill_part_left, fill_part_asked, FillBegins,
 use Rattle.inode_parts.specs.Claims.{claim_left, claim_asked, ClaimBegins, ClaimReady}
 use Rattle.inode_parts.specs.FileLocks.{lock_file_left, lock_file_asked, lock_open_left, lock_open_asked, LockBegins, LockFileReady, LockOpenReady}
 use Rattle.inode_parts.specs.Frees.{free_left, free_asked, FreeBegins, FreeReady}
+use Rattle.inode_parts.specs.Relocks.{relock_left, relock_asked, RelockBegins, RelockReady}
 use Rattle.inode_parts.specs.Takes.{take_left, take_asked, IsTold, TakeBegins, TakeReady, TakeTold}
 use Rattle.inode_parts.specs.Stores.{store_part_left, store_part_asked, StoreBegins, StorePartReady}
 use Rattle.inode_parts.specs.declared.note.Notes.{Notes}
@@ -44,6 +46,7 @@ part_left path m (part.Claim p) h = claim_left path m p h
 part_left path m (part.LockOpen p) h = lock_open_left path m p h
 part_left path m (part.LockFile p) h = lock_file_left path m p h
 part_left path m (part.Take p) h = take_left path m p h
+part_left path m (part.Relock p) h = relock_left path m p h
 
 abbrev pub part_left_after : List ℕ → Notes → Option Heard → InodePart → Hand → Part
 part_left_after path m None p h = part_left path m p h
@@ -62,6 +65,7 @@ part_asked (part.Claim p) = claim_asked p
 part_asked (part.LockOpen p) = lock_open_asked p
 part_asked (part.LockFile p) = lock_file_asked p
 part_asked (part.Take p) = take_asked p
+part_asked (part.Relock p) = relock_asked p
 
 abbrev pub PartReady : InodePart → Hand → Type 0
 PartReady (part.One s) h = StepReady s h
@@ -76,6 +80,7 @@ PartReady (part.Claim p) h = ClaimReady p h
 PartReady (part.LockOpen p) h = LockOpenReady p h
 PartReady (part.LockFile p) h = LockFileReady p h
 PartReady (part.Take p) h = TakeReady p h
+PartReady (part.Relock p) h = RelockReady p h
 
 -- the names that it seeks stand in the call's path
 abbrev pub PartTold : List ℕ → InodePart → Type 0
@@ -105,7 +110,7 @@ PartBegins sizes path m (above.Free n) h = FreeBegins sizes n h
 PartBegins sizes path m (above.Claim sort) h = ClaimBegins sizes h
 PartBegins sizes path m (above.LockOpen fd n) h = LockBegins sizes h
 PartBegins sizes path m (above.LockFile fd) h = LockBegins sizes h
-PartBegins sizes path m (above.Take n looking) h = TakeBegins sizes n h
+PartBegins sizes path m (above.Take n looking) h = TakeBegins sizes n h ⊎ (RelockBegins sizes n h × (looking ≡ AtNothing))
 PartBegins sizes path m op h = Begins op h
 
 -- it may be more than one operation

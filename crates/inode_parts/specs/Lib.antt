@@ -13,6 +13,7 @@ pub mod Claims
 pub mod FileLocks
 pub mod Faces
 pub mod Takes
+pub mod Relocks
 pub mod InodeParts
 pub mod Holding
 pub mod Leaving

@@ -1,9 +1,10 @@
 -- Operations on whole inodes that are one operation below.
-use Rattle.std.specs.Prelude.{◌≡◌, ℕ, List, Bool, false, Option, Some, None, IsSome, is_some, ◌==◌, if◌then◌else◌, true}
+use Rattle.std.specs.Prelude.{◌≡◌, ◌<◌, ℕ, List, length, Bool, false, Option, Some, None, IsSome, is_some, ◌==◌, if◌then◌else◌, true}
 use Rattle.std.specs.Option.{MatchOption, option_map_or}
 use Rattle.plain_tree.specs.Tree.{put}
 use Rattle.plain_tree.specs.Widths.{root, descriptor_count}
 use Rattle.sleep_lock.specs.SleepLock.{GuardState}
+use Rattle.fs_tables.specs.Limits.{listed_places}
 use Rattle.fs_tables.specs.declared.inodes.Inode.{Inode}
 use Rattle.fs_tables.specs.declared.files.Want.TheVariants as want
 use Rattle.fs_tables.specs.declared.slots.Given.{Given}
@@ -96,13 +97,17 @@ other Two = One
 abbrev pub IsAlone : ℕ → Seat → Hand → Type 0
 IsAlone n k h = locks n (inode_at (other k) h) ≡ false
 
+-- one more reference may be listed
+abbrev pub HasRoom : Hand → Type 0
+HasRoom h = length h.listed < listed_places
+
 abbrev pub StepReady : OneStep → Hand → Type 0
 StepReady (step.Give k) h = IsSome (inode_at k h) × IsAlone (inode_in k h).number k h
 StepReady (step.Settle k) h = MatchOption (inode_at k h) ⊥ (λ g. reference_at k h ≡ Some g.value.number) × IsAlone (inode_in k h).number k h
 StepReady (step.UpRoot k) h = reference_at k h ≡ None
 StepReady (step.UpDirectory k) h = reference_at k h ≡ None
 StepReady (step.Up k n) h = reference_at k h ≡ None
-StepReady (step.WalkDown k) h = IsSome (reference_at k h)
+StepReady (step.WalkDown k) h = IsSome (reference_at k h) × HasRoom h
 StepReady (step.Down k) h = IsSome (reference_at k h) × (inode_at k h ≡ None) × IsAlone (number_at k h) k h
 StepReady (step.Forget k) h = IsSome (reference_at k h)
 StepReady step.Slot h = Unit {0}
@@ -172,7 +177,7 @@ Begins (above.Give n) h = HasLock n h
 Begins (above.Settle n) h = HasLock n h × (reference_at (seat_of_lock n h) h ≡ Some n)
 Begins (above.UpStart absolute) h = HasFreeSeat h
 Begins (above.Up n) h = HasFreeSeat h
-Begins (above.WalkDown n) h = HasReference n h
+Begins (above.WalkDown n) h = HasReference n h × HasRoom h
 Begins (above.Down n) h = HasReference n h × (inode_at (seat_of_reference n h) h ≡ None) × IsAlone n (seat_of_reference n h) h
 Begins (above.Forget n) h = HasReference n h
 Begins above.Slot h = Unit {0}

@@ -18,6 +18,7 @@ mod opening;
 mod part;
 mod places;
 mod records;
+mod relock_part;
 mod store_part;
 mod take_part;
 
@@ -33,5 +34,6 @@ pub use lowered::Lowered;
 pub use note::{Note, Notes};
 pub use one_step::OneStep;
 pub use part::InodePart;
+pub use relock_part::RelockPart;
 pub use store_part::StorePart;
 pub use take_part::TakePart;

@@ -4,11 +4,13 @@ ghost use Rattle.atomic_programs.specs.Prog.{Ret, asks};
 ghost use Rattle.hands.specs.Ops.{op_in, answer_in, CanDo, Prepared, IsAfter};
 ghost use Rattle.hands.specs.Controls.{Goes, bare};
 ghost use Rattle.hands.specs.declared.hand.Hand.{Hand as HandState};
-ghost use Rattle.whole_calls.specs.Asks.{op_in as above_op};
+ghost use Rattle.inode_machine.specs.World.Op.{Take};
+ghost use Rattle.whole_calls.specs.Asks.{op_in as above_op, query_in};
 ghost use Rattle.inode_parts.specs.Carries.{carry_in, handed};
 ghost use Rattle.inode_parts.specs.OneSteps.{Begins};
 ghost use Rattle.inode_parts.specs.Parts.{IsPart};
 ghost use Rattle.inode_parts.specs.Enters.{AskStands};
+ghost use Rattle.inode_parts.specs.Takes.{IsTold};
 ghost use Rattle.inode_parts.specs.InodeParts.{part_for, part_left, part_left_after, part_asked, AskTold, ChangesNone, MayGoOn, PartBegins, PartReady, PartTold};
 ghost use Rattle.inode_parts.specs.declared.note.Notes.{Notes as NotesState};
 
@@ -22,12 +24,14 @@ use crate::lock_file_part::LockFilePart;
 use crate::lock_open_part::LockOpenPart;
 use crate::note::Notes;
 use crate::one_step::OneStep;
+use crate::places::{reference_seat, refers_at};
+use crate::relock_part::RelockPart;
 use crate::store_part::StorePart;
 use crate::take_part::TakePart;
 use fs_layout::Super;
 use hand_controls::Finish;
 use hands::{Answer, Control, Hand, Op};
-use whole_calls::{Ask, Heard};
+use whole_calls::{Ask, Heard, Query};
 
 /// The operation of a call under way, whichever it is.
 #[derive(Drop)]
@@ -55,6 +59,8 @@ pub enum InodePart {
     LockFile(LockFilePart),
     /// An inode is locked, and looked at.
     Take(TakePart),
+    /// The first listed one is.
+    Relock(RelockPart),
 }
 
 impl InodePart {
@@ -90,9 +96,7 @@ impl InodePart {
             Ask::Claim(sort) => InodePart::Claim(ClaimPart::begin(sort, sizes, hand)),
             Ask::LockOpen(fd, _) => InodePart::LockOpen(LockOpenPart::begin(fd, sizes, hand)),
             Ask::LockFile(fd) => InodePart::LockFile(LockFilePart::begin(fd, sizes, hand)),
-            Ask::Take(number, query) => InodePart::Take(TakePart::begin(
-                number, query, sizes, hand,
-            )),
+            Ask::Take(number, query) => take(number, query, sizes, hand),
             _ => one_or_leave(ask, hand),
         }
     }
@@ -118,6 +122,7 @@ impl InodePart {
             InodePart::LockOpen(part) => part.op(hand),
             InodePart::LockFile(part) => part.op(hand),
             InodePart::Take(part) => part.op(hand),
+            InodePart::Relock(part) => part.op(hand),
         }
     }
 
@@ -156,7 +161,25 @@ impl InodePart {
             InodePart::LockOpen(part) => part.next(notes, answer, hand),
             InodePart::LockFile(part) => part.next(notes, answer, hand),
             InodePart::Take(part) => part.next(path, notes, answer, hand),
+            InodePart::Relock(part) => part.next(notes, answer, hand),
         }
+    }
+}
+
+// An inode is locked by the reference at a seat, or where none is there by the first listed one.
+fn take(number: u32, query: Query, sizes: &Super, hand: &Hand) -> InodePart
+    requires begins { (path : List ℕ) × (notes : NotesState) × PartBegins sizes.now path notes (Take number (query_in path query)) hand.now }
+    ensures part { (path : List ℕ) (notes : NotesState) → PartBegins sizes.now path notes (Take number (query_in path query)) hand.now
+        → IsPart sizes.now (carry_in path notes hand.now) (Take number (query_in path query)) (part_left path notes result hand.now) }
+    ensures ready { PartReady result hand.now }
+    ensures told { (path : List ℕ) → IsTold path query → PartTold path result }
+{
+    let seat = reference_seat(hand, number);
+    let there = refers_at(hand, seat, number);
+    if there {
+        InodePart::Take(TakePart::begin(number, query, sizes, hand))
+    } else {
+        InodePart::Relock(RelockPart::begin(sizes, hand))
     }
 }
 

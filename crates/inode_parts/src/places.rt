@@ -73,6 +73,16 @@ pub(crate) fn reference_seat(hand: &Hand, number: u32) -> Seat
     }
 }
 
+/// Whether the reference at a seat is to the inode of this number.
+pub(crate) fn refers_at(hand: &Hand, seat: Seat, number: u32) -> bool
+    ensures { result ≡ refers number (reference_at seat hand.now) }
+{
+    match seat {
+        Seat::One => refers_to(&hand.to_one, number),
+        Seat::Two => refers_to(&hand.to_two, number),
+    }
+}
+
 /// Where there is no reference.
 pub(crate) fn free_seat(hand: &Hand) -> Seat
     ensures { result ≡ free_seat hand.now }

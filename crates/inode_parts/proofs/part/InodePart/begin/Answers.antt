@@ -49,11 +49,20 @@ returns-in-LockOpen-clause-part c = rw c.in-LockOpen.is (c.begin-in-LockOpen.ens
 pub returns-in-LockFile-clause-part : goal.returns-in-LockFile-clause-part
 returns-in-LockFile-clause-part c = rw c.in-LockFile.is (c.begin-in-LockFile.ensures.part c.args.path.now c.args.notes.now)
 
+pub take-requires : goal.take-requires
+take-requires c =
+    let path = c.args.path.now in
+    record { begins = (path, c.args.notes.now, subst (λ (a : Ask). PartBegins c.args.sizes.now path c.args.notes.now (op_in path a) c.args.hand.now) c.in-Take.is c.requires.begins) }
+
 pub returns-in-Take-clause-part : goal.returns-in-Take-clause-part
-returns-in-Take-clause-part c = rw c.in-Take.is (c.begin-in-Take.ensures.part c.args.path.now c.args.notes.now)
+returns-in-Take-clause-part c =
+    let path = c.args.path.now in
+    let m = c.args.notes.now in
+    subst (λ (a : Ask). PartBegins c.args.sizes.now path m (op_in path a) c.args.hand.now → IsPart c.args.sizes.now (carry_in path m c.args.hand.now) (op_in path a) (part_left path m c.take.result c.args.hand.now)) (sym c.in-Take.is)
+    (λ begins. c.take.ensures.part path m begins) c.requires.begins
 
 pub returns-in-Take-clause-told : goal.returns-in-Take-clause-told
-returns-in-Take-clause-told c = c.begin-in-Take.ensures.told c.args.path.now (subst (λ (a : Ask). AskTold c.args.path.now a) c.in-Take.is c.requires.told)
+returns-in-Take-clause-told c = c.take.ensures.told c.args.path.now (subst (λ (a : Ask). AskTold c.args.path.now a) c.in-Take.is c.requires.told)
 
 pub returns-in_default : goal.returns-in_default
 returns-in_default c =

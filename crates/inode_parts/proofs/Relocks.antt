@@ -1,0 +1,134 @@
+-- The first listed inode locked: the operation is its part.
+use Rattle.std.proofs.Common.{◌≡◌, ◌<◌, ◌^◌, ◌⊎◌, inl, inr, ℕ, List, [], ◌∷◌, true, false, Option, Some, None, refl, sym, ap, subst, ◌∙◌}
+use Rattle.std.specs.Prelude.{IsSome, is_some}
+use Rattle.std.specs.Option.{option_map_or, unwrap_or}
+use Rattle.sleep_lock.specs.SleepLock.{GuardState}
+use Rattle.fs_layout.specs.declared.inode.Dinode.{Dinode}
+use Rattle.fs_layout.specs.declared.superblock.Super.{Super}
+use Rattle.fs_tables.specs.declared.inodes.Inode.{Inode}
+use Rattle.atomic_programs.specs.Prog.{bind}
+use Rattle.fs_machine.specs.Machines as code
+use Rattle.inode_table.specs.Programs.{inode_block, load_unless}
+use Rattle.hands.specs.Hands.{first_in, first_listed, inode_at, inode_in, no_inode, number_at, reference_at, with_first, with_inode}
+use Rattle.hands.specs.declared.hand.Hand.{Hand}
+use Rattle.hands.specs.declared.hand.Seat.{Seat}
+use Rattle.hands.specs.declared.hand.Seat.TheVariants.{One, Two}
+use Rattle.hand_controls.specs.Emptying.{HasNoBuffer}
+use Rattle.hand_controls.specs.HeldInodes.{number_in, HasBlock}
+use Rattle.hand_controls.specs.LockingInodes.{lock_loaded}
+use Rattle.tree_laws.proofs.Maps.{eq_is, eq_self}
+use Rattle.inode_machine.specs.Inodes.{AtNothing, Query}
+use Rattle.inode_machine.specs.World.Op.{Take}
+use Rattle.whole_calls.specs.declared.asks.Query.TheVariants as query
+use Rattle.inode_parts.specs.Carries.{carry_in}
+use Rattle.inode_parts.specs.OneSteps.{IsAlone, free_seat, other, refers, seat_of_reference}
+use Rattle.inode_parts.specs.Parts.{IsPart, Part}
+use Rattle.inode_parts.specs.Relocks.{RelockBegins, RelockReady}
+use Rattle.inode_parts.specs.Sides.{beside_in}
+use Rattle.inode_parts.specs.Takes.{looked, TakeBegins}
+use Rattle.inode_parts.specs.declared.note.Notes.{Notes}
+use Rattle.inode_parts.specs.declared.relock_part.RelockPart.TheVariants as relock
+use Rattle.inode_parts.proofs.Sides.{alone_still, same_beside}
+use Rattle.inode_parts.proofs.Takes.{locked_is_part}
+
+-- ---- by which reference it is locked
+
+referred : (n : ℕ) (o : Option ℕ) → refers n o ≡ true → o ≡ Some n
+referred n None e = absurd (cc e)
+referred n (Some j) e = sym (ap (λ (j : ℕ). Some j) (eq_is n j e))
+
+refers_so_far : (n : ℕ) (o : Option ℕ) → o ≡ Some n → refers n o ≡ true
+refers_so_far n o e = ap (refers n) e ∙ eq_self n
+
+module _ (sizes : Super) (n : ℕ) (q : Query) (h : Hand) (k : Seat) (at : k ≡ seat_of_reference n h) where
+  pub taken_by : refers n (reference_at k h) ≡ true → TakeBegins sizes n h ⊎ (RelockBegins sizes n h × (q ≡ AtNothing)) → TakeBegins sizes n h
+  taken_by there (inl begins) = begins
+  taken_by there (inr begins) = absurd (begins.0.0.0 (subst (λ (k : Seat). reference_at k h ≡ Some n) at (referred n (reference_at k h) there)))
+
+  pub relocked_by : refers n (reference_at k h) ≡ false → TakeBegins sizes n h ⊎ (RelockBegins sizes n h × (q ≡ AtNothing)) → RelockBegins sizes n h × (q ≡ AtNothing)
+  relocked_by none (inl begins) =
+      absurd (let clash : true ≡ false = sym (refers_so_far n (reference_at k h) (subst (λ (k : Seat). reference_at k h ≡ Some n) (sym at) begins.0)) ∙ none in cc clash)
+  relocked_by none (inr begins) = begins
+
+-- ---- it begins
+
+module _ (sizes : Super) (n : ℕ) (h : Hand) (k : Seat) (at : k ≡ free_seat h) (begins : RelockBegins sizes n h) where
+  named : first_listed h ≡ n
+  named = ap first_in begins.0.1.1
+
+  free : inode_at k h ≡ None
+  free = subst (λ (k : Seat). inode_at k h ≡ None) (sym at) begins.0.3
+
+  pub relock_is_part : (path : List ℕ) (m : Notes) → IsPart sizes (carry_in path m h) (Take n AtNothing) (bind (lock_loaded sizes.inodestart (first_listed h)) (looked path query.Nothing (beside_in path m k h) (first_listed h)))
+  relock_is_part path m =
+      locked_is_part sizes path m n query.Nothing h k (lock_loaded sizes.inodestart (first_listed h)) (first_listed h) (ap (λ (n : ℕ). let p : code.P Dinode = lock_loaded sizes.inodestart n in p) named) named free
+
+  some : h.listed ≡ [] → ⊥
+  some none = let clash : n ∷ begins.0.1.0 ≡ [] = sym begins.0.1.1 ∙ none in cc clash
+
+  pub relock_ready : RelockReady (relock.Locking k sizes.inodestart) h
+  relock_ready = (
+    some,
+    subst (λ (k : Seat). reference_at k h ≡ None) (sym at) begins.0.2,
+    free,
+    subst (λ (n : ℕ). IsAlone n k h) (sym named) (subst (λ (k : Seat). IsAlone n k h) (sym at) begins.0.4),
+    begins.0.5,
+    subst (λ (n : ℕ). inode_block sizes.inodestart n < 2 ^ 32) (sym named) begins.1,
+  )
+
+-- ---- its lock came, with the reference
+
+module _ (k : Seat) (before h : Hand) (g : GuardState Inode) (is : h ≡ with_inode k (Some g) (with_first k before)) (named : g.value.number ≡ first_listed before) where
+  pub came_there : inode_at k h ≡ Some g
+  came_there = at k is
+    where
+      at : (k : Seat) → h ≡ with_inode k (Some g) (with_first k before) → inode_at k h ≡ Some g
+      at One is = ap (λ (h : Hand). h.one) is
+      at Two is = ap (λ (h : Hand). h.two) is
+
+  came_reference : reference_at k h ≡ Some (first_listed before)
+  came_reference = at k is
+    where
+      at : (k : Seat) → h ≡ with_inode k (Some g) (with_first k before) → reference_at k h ≡ Some (first_listed before)
+      at One is = ap (λ (h : Hand). h.to_one) is
+      at Two is = ap (λ (h : Hand). h.to_two) is
+
+  other_same : inode_at (other k) before ≡ inode_at (other k) h
+  other_same = at k is
+    where
+      at : (k : Seat) → h ≡ with_inode k (Some g) (with_first k before) → inode_at (other k) before ≡ inode_at (other k) h
+      at One is = sym (ap (λ (h : Hand). h.two) is)
+      at Two is = sym (ap (λ (h : Hand). h.one) is)
+
+  pub came_buffers : HasNoBuffer before → HasNoBuffer h
+  came_buffers none = at k is
+    where
+      at : (k : Seat) → h ≡ with_inode k (Some g) (with_first k before) → HasNoBuffer h
+      at One is = (ap (λ (h : Hand). h.first) is ∙ none.0, ap (λ (h : Hand). h.second) is ∙ none.1)
+      at Two is = (ap (λ (h : Hand). h.first) is ∙ none.0, ap (λ (h : Hand). h.second) is ∙ none.1)
+
+  refers_so : number_at k h ≡ first_listed before
+  refers_so = ap (λ (o : Option ℕ). unwrap_or o 0) came_reference
+
+  locks_so : number_in k h ≡ first_listed before
+  locks_so = ap (λ (o : Option (GuardState Inode)). (option_map_or (λ (g : GuardState Inode). g.value) o no_inode).number) came_there ∙ named
+
+  pub came_number : number_in k h ≡ number_at k h
+  came_number = locks_so ∙ sym refers_so
+
+  pub came_some : IsSome (inode_at k h)
+  came_some = ap (λ (o : Option (GuardState Inode)). is_some o) came_there
+
+  pub came_alone : IsAlone (first_listed before) k before → IsAlone (number_at k h) k h
+  came_alone alone = subst (λ (n : ℕ). IsAlone n k h) (sym refers_so) (alone_still k before h (first_listed before) other_same alone)
+
+  pub came_block : (inodestart : ℕ) → inode_block inodestart (first_listed before) < 2 ^ 32 → HasBlock inodestart k h
+  came_block inodestart block = subst (λ (n : ℕ). inode_block inodestart n < 2 ^ 32) (sym locks_so) block
+
+  -- what is left then
+  pub came_goes : (path : List ℕ) (m : Notes) (inodestart : ℕ) (p : code.P Dinode) (r : Part) → p ≡ load_unless inodestart (number_in k h) (inode_in k h).content → bind p (looked path query.Nothing (beside_in path m k h) (number_at k h)) ≡ r
+      → bind (load_unless inodestart (first_listed before) (inode_in k h).content) (looked path query.Nothing (beside_in path m k before) (first_listed before)) ≡ r
+  came_goes path m inodestart p r program ends =
+      (λ i. bind (load_unless inodestart (sym locks_so i) (inode_in k h).content) (looked path query.Nothing (same_beside path m k before h other_same i) (sym refers_so i)))
+      ∙ ap (λ (p : code.P Dinode). bind p (looked path query.Nothing (beside_in path m k h) (number_at k h))) (sym program)
+      ∙ ends

@@ -1,0 +1,87 @@
+use Rattle.std.proofs.Common.{◌≡◌, ℕ, Some, None, sym, subst, ◌∙◌}
+use Rattle.atomic_programs.specs.Prog.{Ret, bind}
+use Rattle.hands.specs.Hands.{number_at}
+use Rattle.hands.specs.Ops.{IsAfter, answer_in}
+use Rattle.hands.specs.declared.hand.Hand.{Hand}
+use Rattle.hands.specs.declared.hand.Seat.{Seat}
+use Rattle.hand_controls.specs.HeldInodes.{record_in}
+use Rattle.hand_controls.specs.LockingInodes.{lock_left, lock_asked, lock_seat}
+use Rattle.whole_calls.specs.declared.asks.Query.TheVariants as query
+use Rattle.inode_parts.specs.OneSteps.{IsAlone}
+use Rattle.inode_parts.specs.Relocks.{relock_asked, RelockReady}
+use Rattle.inode_parts.specs.Sides.{beside_in}
+use Rattle.inode_parts.specs.Takes.{looked}
+use Rattle.inode_parts.specs.declared.relock_part.RelockPart.{RelockPart}
+use Rattle.inode_parts.proofs.Relocks.{came_alone, came_block, came_buffers, came_goes, came_number, came_some}
+use Rattle.inode_parts.proofs.Taking.{alone_locked, is_taken, take_on, take_over}
+use Rattle.inode_parts.proofs.relock_part.RelockPart.next.Goals as goal
+
+pub held-requires : goal.held-requires
+held-requires c =
+    let before = c.requires.came.0 in
+    let h = c.args.hand.now in
+    let k = c.in-Locking.seat in
+    let ready = subst (λ (p : RelockPart). RelockReady p before) c.in-Locking.is c.requires.came.1 in
+    let after = subst (λ (p : RelockPart). IsAfter (relock_asked p) before c.args.answer h) c.in-Locking.is c.requires.came.2 in
+    record {
+      there = came_some k before h after.0 after.1 after.2;
+      number = came_number k before h after.0 after.1 after.2;
+      block = came_block k before h after.0 after.1 after.2 c.in-Locking.inodestart ready.5;
+      free = (came_buffers k before h after.0 after.1 after.2 ready.4).0;
+    }
+
+pub seen-requires : goal.seen-requires
+seen-requires c =
+    let before = c.requires.came.0 in
+    let h = c.args.hand.now in
+    let k = c.in-Locking.seat in
+    let ready = subst (λ (p : RelockPart). RelockReady p before) c.in-Locking.is c.requires.came.1 in
+    let after = subst (λ (p : RelockPart). IsAfter (relock_asked p) before c.args.answer h) c.in-Locking.is c.requires.came.2 in
+    (c.in-None.ensures.ready.0, c.in-None.ensures.ready.1, came_alone k before h after.0 after.1 after.2 ready.3)
+
+pub returns-in-None-clause-goes : goal.returns-in-None-clause-goes
+unfolding answer_in
+returns-in-None-clause-goes c path before =
+    let h = c.args.hand.now in
+    let k = c.in-Locking.seat in
+    rw c.in-Locking.is (λ ready after.
+    came_goes k before h after.0 after.1 after.2 path c.args.notes.now c.in-Locking.inodestart (Ret (record_in k h)) _ c.in-None.ensures.program (sym (c.seen.ensures path)))
+
+pub returns-in-Some-clause-goes : goal.returns-in-Some-clause-goes
+unfolding answer_in
+returns-in-Some-clause-goes c path before =
+    let h = c.args.hand.now in
+    let m = c.args.notes.now in
+    let k = c.in-Locking.seat in
+    let lock = c.in-Some.lock in
+    let at = sym c.in-Some.ensures.ready.1 in
+    rw c.in-Locking.is (λ ready after.
+    came_goes k before h after.0 after.1 after.2 path m c.in-Locking.inodestart (lock_left lock h) _ c.in-Some.ensures.program
+    (λ i. bind (lock_left lock h) (looked path query.Nothing (beside_in path m (at i) h) (number_at (at i) h))))
+
+pub returns-in-Some-clause-ready : goal.returns-in-Some-clause-ready
+returns-in-Some-clause-ready c =
+    let before = c.requires.came.0 in
+    let h = c.args.hand.now in
+    let k = c.in-Locking.seat in
+    let ready = subst (λ (p : RelockPart). RelockReady p before) c.in-Locking.is c.requires.came.1 in
+    let after = subst (λ (p : RelockPart). IsAfter (relock_asked p) before c.args.answer h) c.in-Locking.is c.requires.came.2 in
+    let is = c.in-Some.ensures.ready in
+    (is.0, subst (λ (k : Seat). IsAlone (number_at k h) k h) (sym is.1) (came_alone k before h after.0 after.1 after.2 ready.3))
+
+pub returns-in-None-next-clause-goes : goal.returns-in-None-next-clause-goes
+returns-in-None-next-clause-goes c path before =
+    let r = c.in-Loading.lock in
+    let h = c.next.new.hand in
+    let s = c.next.new.self in
+    let did = c.in-None-next.ensures in
+    rw c.in-Loading.is (λ ready after.
+    take_on path c.args.notes.now query.Nothing (lock_seat r) before h (lock_left r before) (answer_in (lock_asked r) c.args.answer c.args.hand.now) (did.beside before ready.0 after) (lock_seat s) (lock_left s h) did.about (did.goes before ready.0 after))
+
+pub returns-in-Some-next-clause-goes : goal.returns-in-Some-next-clause-goes
+returns-in-Some-next-clause-goes c path before =
+    let r = c.in-Loading.lock in
+    let did = c.in-Some-next.ensures in
+    rw c.in-Loading.is (λ ready after.
+    take_over path c.args.notes.now query.Nothing (lock_seat r) before c.next.new.hand (lock_left r before) (answer_in (lock_asked r) c.args.answer c.args.hand.now) (did.beside before ready.0 after) c.in-Some-next.seat _ did.ends.0
+    (sym (c.seen-in-Some-next.ensures path)) (did.goes before ready.0 after))

@@ -1,0 +1,12 @@
+use Rattle.std.proofs.Common.{true, Option, None, sym, ap}
+use Rattle.whole_calls.specs.declared.asks.Face.{Face}
+use Rattle.whole_calls.specs.declared.asks.Heard.{Heard}
+use Rattle.whole_calls.specs.declared.asks.Heard.TheVariants as heard
+use Rattle.inode_parts.specs.declared.note.Note.TheVariants as note
+use Rattle.inode_parts.proofs.Taking.{seen_ends}
+use Rattle.inode_parts.proofs.relock_part.seen.Goals as goal
+
+pub returns : goal.returns
+returns c path =
+    let saw : Option Face → Heard = λ f. heard.Saw (record { face = f; found = None; empty = true }) in
+    sym (seen_ends path c.args.notes.now c.set.new.self c.args.seat c.args.hand.now note.Nothing c.record_at-inode.result None true (saw c.face_unless_free.result) c.record_at-inode.ensures c.requires (ap saw c.face_unless_free.ensures) c.set.ensures)

@@ -1,0 +1,41 @@
+-- The first listed inode locked, as a part.
+use Rattle.std.specs.Prelude.{◌≡◌, ◌≢◌, ◌<◌, ◌^◌, ℕ, List, [], ◌∷◌, None}
+use Rattle.fs_layout.specs.declared.superblock.Super.{Super}
+use Rattle.atomic_programs.specs.Prog.{bind}
+use Rattle.inode_table.specs.Programs.{inode_block}
+use Rattle.hands.specs.declared.hand.Hand.{Hand}
+use Rattle.hands.specs.declared.op.Op.{Op}
+use Rattle.hands.specs.declared.op.Op.TheVariants as ops
+use Rattle.hands.specs.Hands.{first_listed, inode_at, number_at, reference_at}
+use Rattle.hand_controls.specs.Emptying.{HasNoBuffer}
+use Rattle.hand_controls.specs.LockingInodes.{lock_left, lock_loaded, lock_asked, lock_seat, LockReady}
+use Rattle.whole_calls.specs.declared.asks.Query.TheVariants as query
+use Rattle.inode_parts.specs.OneSteps.{HasReference, IsAlone, free_seat}
+use Rattle.inode_parts.specs.Parts.{Part}
+use Rattle.inode_parts.specs.Sides.{beside_in}
+use Rattle.inode_parts.specs.Takes.{looked}
+use Rattle.inode_parts.specs.declared.note.Notes.{Notes}
+use Rattle.inode_parts.specs.declared.relock_part.RelockPart.{RelockPart}
+use Rattle.inode_parts.specs.declared.relock_part.RelockPart.TheVariants as relock
+
+abbrev pub relock_left : List ℕ → Notes → RelockPart → Hand → Part
+relock_left path m (relock.Locking k inodestart) h = bind (lock_loaded inodestart (first_listed h)) (looked path query.Nothing (beside_in path m k h) (first_listed h))
+relock_left path m (relock.Loading r) h = bind (lock_left r h) (looked path query.Nothing (beside_in path m (lock_seat r) h) (number_at (lock_seat r) h))
+
+abbrev pub relock_asked : RelockPart → Op
+relock_asked (relock.Locking k inodestart) = ops.LockListed k
+relock_asked (relock.Loading r) = lock_asked r
+
+abbrev pub RelockReady : RelockPart → Hand → Type 0
+RelockReady (relock.Locking k inodestart) h = (h.listed ≢ []) × (reference_at k h ≡ None) × (inode_at k h ≡ None) × IsAlone (first_listed h) k h × HasNoBuffer h
+    × (inode_block inodestart (first_listed h) < 2 ^ 32)
+RelockReady (relock.Loading r) h = LockReady r h × IsAlone (number_at (lock_seat r) h) (lock_seat r) h
+
+-- no reference to the inode is at a seat but it is the first listed one, and there is a place for both
+abbrev pub MayRelock : ℕ → Hand → Type 0
+MayRelock n h = (HasReference n h → ⊥) × ((rest : List ℕ) × (h.listed ≡ n ∷ rest)) × (reference_at (free_seat h) h ≡ None) × (inode_at (free_seat h) h ≡ None)
+    × IsAlone n (free_seat h) h × HasNoBuffer h
+
+-- what it asks of the hand
+abbrev pub RelockBegins : Super → ℕ → Hand → Type 0
+RelockBegins sizes n h = MayRelock n h × (inode_block sizes.inodestart n < 2 ^ 32)

@@ -1,0 +1,105 @@
+//! The first listed inode locked, to be freed.
+ghost use Rattle.std.specs.Prelude.{◌≡◌, ℕ, List, Some, IfNone};
+ghost use Rattle.atomic_programs.specs.Prog.{Ret, asks};
+ghost use Rattle.hands.specs.Hands.{number_at};
+ghost use Rattle.hands.specs.Ops.{op_in, answer_in, CanDo, Prepared, IsAfter};
+ghost use Rattle.hands.specs.Controls.{Goes, left_after, bare};
+ghost use Rattle.hands.specs.declared.hand.Hand.{Hand as HandState};
+ghost use Rattle.hand_controls.specs.HeldInodes.{record_in};
+ghost use Rattle.inode_machine.specs.Inodes.{AtNothing};
+ghost use Rattle.inode_machine.specs.World.Op.{Take};
+ghost use Rattle.inode_parts.specs.Carries.{carry_in, handed};
+ghost use Rattle.inode_parts.specs.Parts.{IsPart};
+ghost use Rattle.inode_parts.specs.Relocks.{relock_left, relock_asked, RelockBegins, RelockReady};
+ghost use Rattle.inode_parts.specs.Sides.{beside_in};
+ghost use Rattle.inode_parts.specs.Takes.{looked, IsTaken};
+ghost use Rattle.inode_parts.specs.declared.note.Notes.{Notes as NotesState};
+ghost use Rattle.whole_calls.specs.declared.asks.Query.TheVariants as query;
+
+use crate::faces::face_unless_free;
+use crate::note::{Note, Notes};
+use crate::places::free_seat;
+use crate::records::record_at;
+use fs_layout::Super;
+use hand_controls::LockInode;
+use hands::{Answer, Hand, Op, Routine, Seat};
+use whole_calls::{Heard, Sight};
+
+/// The lock of the first listed inode is taken, and the reference to it comes to a seat.
+#[derive(Clone, Copy, Drop)]
+pub enum RelockPart {
+    /// They come to this seat, on a disk whose inode blocks begin there.
+    Locking(Seat, u32),
+    /// The inode is loaded.
+    Loading(LockInode),
+}
+
+impl RelockPart {
+    /// On a disk of these sizes.
+    pub fn begin(sizes: &Super, hand: &Hand) -> RelockPart
+        requires begins { (number : ℕ) × RelockBegins sizes.now number hand.now }
+        ensures part { (path : List ℕ) (notes : NotesState) (number : ℕ) → RelockBegins sizes.now number hand.now
+            → IsPart sizes.now (carry_in path notes hand.now) (Take number AtNothing) (relock_left path notes result hand.now) }
+        ensures ready { RelockReady result hand.now }
+    {
+        let seat = free_seat(hand);
+        RelockPart::Locking(seat, sizes.inodestart)
+    }
+
+    /// The next operation.
+    pub fn op(&self, hand: &mut Hand) -> Op
+        requires ready { RelockReady self.now hand.old }
+        ensures op { result ≡ relock_asked self.now }
+        ensures asks { (path : List ℕ) (notes : NotesState) → asks (relock_left path notes self.now hand.old) ≡ Some (op_in hand.new result) }
+        ensures can { CanDo result hand.new }
+        ensures prepared { Prepared result hand.old hand.new }
+    {
+        match self {
+            RelockPart::Locking(seat, _) => Op::LockListed(*seat),
+            RelockPart::Loading(lock) => lock.op(hand),
+        }
+    }
+
+    /// How it goes on; or what is heard.
+    pub fn next(&mut self, notes: &mut Notes, answer: Answer, hand: &mut Hand) -> Option<Heard>
+        requires came { (before : HandState) × RelockReady self.old before × IsAfter (relock_asked self.old) before answer hand.old }
+        ensures goes { (path : List ℕ) (before : HandState) → RelockReady self.old before
+            → IsAfter (relock_asked self.old) before answer hand.old
+            → Goes (relock_left path notes.old self.old before) (answer_in (relock_asked self.old) answer hand.old)
+            (left_after (relock_left path notes.new) (handed path notes.new) result self.new hand.new) }
+        ensures ready { IfNone result (RelockReady self.new hand.new) }
+        ensures hand { bare hand.new ≡ bare hand.old }
+    {
+        match self {
+            RelockPart::Locking(seat, inodestart) => {
+                let seat = *seat;
+                match LockInode::held(*inodestart, hand, seat) {
+                    None => Some(seen(seat, notes, hand)),
+                    Some(lock) => {
+                        *self = RelockPart::Loading(lock);
+                        None
+                    }
+                }
+            }
+            RelockPart::Loading(lock) => match lock.next(answer, hand) {
+                None => None,
+                Some(seat) => Some(seen(seat, notes, hand)),
+            },
+        }
+    }
+}
+
+// What is seen of the inode at a seat.
+fn seen(seat: Seat, notes: &mut Notes, hand: &Hand) -> Heard
+    requires { IsTaken seat hand.now }
+    ensures { (path : List ℕ) → Ret (handed path notes.new result hand.now)
+        ≡ looked path query.Nothing (beside_in path notes.old seat hand.now) (number_at seat hand.now) (record_in seat hand.now) }
+{
+    let inode = record_at(hand, seat);
+    notes.set(seat, Note::Nothing);
+    Heard::Saw(Sight {
+        face: face_unless_free(&inode),
+        found: None,
+        empty: true,
+    })
+}
