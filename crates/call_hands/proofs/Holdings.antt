@@ -1,5 +1,5 @@
 -- What each operation on whole inodes finds in hand, and leaves there.
-use Rattle.std.proofs.Common.{◌≡◌, ℕ, List, [], Bool, true, false, Option, Some, None, sym, ap, ◌∙◌, refl, subst}
+use Rattle.std.proofs.Common.{◌≡◌, ℕ, List, [], ◌∷◌, ◌++◌, drop, Bool, true, false, Option, Some, None, sym, ap, ◌∙◌, refl, subst, ◌⊎◌, inl, inr}
 use Rattle.std.specs.Prelude.{◌==◌, is_some}
 use Rattle.plain_tree.specs.Tree.{Name}
 use Rattle.tree_laws.proofs.Maps.{eq_self}
@@ -8,22 +8,30 @@ use Rattle.fs_tables.specs.declared.inodes.Inode.{Inode}
 use Rattle.hands.specs.declared.hand.Hand.{Hand}
 use Rattle.hands.specs.declared.hand.Seat.{Seat}
 use Rattle.hands.specs.declared.hand.Seat.TheVariants.{One, Two}
-use Rattle.hands.specs.Hands.{inode_at, reference_at, with_inode, with_reference, with_txn}
+use Rattle.hands.specs.Hands.{first_in, inode_at, reference_at, with_first, with_inode, with_listed, with_reference, with_txn}
 use Rattle.hand_controls.specs.HeldInodes.{unloaded}
+use Rattle.inode_machine.specs.Parts.{with_last}
 use Rattle.inode_machine.specs.World as above
 use Rattle.inode_parts.specs.Carries.{note_at}
 use Rattle.inode_parts.specs.Clears.{HasFound}
 use Rattle.inode_parts.specs.OneSteps.{HasFreeSeat, HasLock, HasReference, IsAlone, free_seat, locks, other, seat_of_lock, seat_of_reference}
 use Rattle.inode_parts.specs.declared.note.Note.{Note}
 use Rattle.inode_parts.specs.declared.note.Notes.{Notes}
-use Rattle.inode_parts.specs.Expecting.{MayLock, MayRelock}
-use Rattle.inode_parts.specs.Holding.{CameTo, Having, Leaves, Opened, Relocked, Stand}
-use Rattle.call_hands.proofs.Seats.{Apart, Finds, Held, HeldAt, InHand, IsClosed, IsHeld, IsLoaded, Locks, Nothing, Opens, Refers, alone, at_free, at_lock, at_reference, beside_both, beside_lock, beside_record, beside_reference, lock_at, lock_kept, lock_seat, lock_stays, lock_there, none_is, reference_kept, reference_stays, reference_there, reference_with, updated, with_other_txn}
+use Rattle.inode_parts.specs.Expecting.{MayLock}
+use Rattle.inode_parts.specs.Relocks.{MayRelock}
+use Rattle.inode_parts.specs.Holding.{CameTo, Having, Joined, Leaves, Opened, Relocked, Stand}
+use Rattle.call_hands.proofs.Seats.{Around, Apart, Finds, Held, HeldAt, InHand, IsClosed, IsHeld, IsLoaded, Locks, Nothing, Opens, Refers, alone, at_free, at_lock, at_reference, beside_both, beside_lock, beside_record, beside_reference, lock_at, lock_kept, lock_seat, lock_stays, lock_there, none_is, reference_kept, reference_stays, reference_there, reference_with, is_first, only_reference, swapped, updated, with_other_list, with_other_txn}
 
 -- the same hand
-pub stays : (t : Bool) (x y : Held) (s u : Having) → InHand t x y s → u.hand ≡ s.hand → u.notes ≡ s.notes → InHand t x y u
+pub stays : (t : Around) (x y : Held) (s u : Having) → InHand t x y s → u.hand ≡ s.hand → u.notes ≡ s.notes → InHand t x y u
 stays t x y s u held e noted =
     (held.0, subst (λ (h : Hand). HeldAt held.0 t x y h u.notes) (sym e) (subst (λ (m : Notes). HeldAt held.0 t x y s.hand m) (sym noted) held.1))
+
+-- .. with no lock, of which something was learned
+pub unlearned : (t : Around) (s u : Having) → InHand t Nothing Nothing s → u.hand ≡ s.hand → InHand t Nothing Nothing u
+unlearned t s u held e =
+    let kept = stays t Nothing Nothing s (record { hand = u.hand; notes = s.notes }) held e refl in
+    (kept.0, record { here = kept.1.here; there = kept.1.there; txn = kept.1.txn; listed = kept.1.listed; buffers = kept.1.buffers })
 
 -- a lock of inode n
 lock_here : (n : ℕ) (g : GuardState Inode) → g.value.number ≡ n → locks n (Some g) ≡ true
@@ -35,7 +43,7 @@ locks_at n k h g came = ap (locks n) (lock_there k (Some came.0) h g came.1) ∙
 loaded_at : (n : ℕ) (k : Seat) (h g : Hand) → CameTo k n h g → IsLoaded (inode_at k g)
 loaded_at n k h g came = subst IsLoaded (sym (lock_there k (Some came.0) h g came.1)) came.3
 
-module _ (t : Bool) (y : Held) (s u : Having) where
+module _ (t : Around) (y : Held) (s u : Having) where
   -- ---- a reference more
 
   module _ (closed : IsClosed y) (held : InHand t Nothing y s) where
@@ -163,7 +171,7 @@ module _ (t : Bool) (y : Held) (s u : Having) where
 
 -- ---- a lock without a reference
 
-module _ (t : Bool) (s u : Having) (held : InHand t Nothing Nothing s) where
+module _ (t : Around) (s u : Having) (held : InHand t Nothing Nothing s) where
   pub none_locked : (s.hand.one ≡ None) × (s.hand.two ≡ None)
   none_locked = at held
     where
@@ -175,17 +183,17 @@ module _ (t : Bool) (s u : Having) (held : InHand t Nothing Nothing s) where
   opened n (k, free, came) = (
     k,
     with_any k (updated t Nothing (Opens n) Nothing s.hand u.hand s.notes s.notes k (beside_lock k s.hand u.hand s.notes s.notes refl (Some came.0) came.1) (either k held)
-        (reference_kept k (Some came.0) s.hand u.hand came.1 ∙ (either k held).here.0, locks_at n k s.hand u.hand came)),
+        (reference_kept k (Some came.0) s.hand u.hand came.1 ∙ (either k held).here.0, locks_at n k s.hand u.hand came, loaded_at n k s.hand u.hand came)),
   )
     where
       -- of neither anything was learned
       with_any : (k : Seat) → HeldAt k t (Opens n) Nothing u.hand s.notes → HeldAt k t (Opens n) Nothing u.hand u.notes
-      with_any k held = record { here = held.here; there = held.there; txn = held.txn; buffers = held.buffers }
+      with_any k held = record { here = held.here; there = held.there; txn = held.txn; listed = held.listed; buffers = held.buffers }
 
       either : (k : Seat) → InHand t Nothing Nothing s → HeldAt k t Nothing Nothing s.hand s.notes
       either One (One, held) = held
-      either One (Two, held) = record { here = held.there; there = held.here; txn = held.txn; buffers = held.buffers }
-      either Two (One, held) = record { here = held.there; there = held.here; txn = held.txn; buffers = held.buffers }
+      either One (Two, held) = record { here = held.there; there = held.here; txn = held.txn; listed = held.listed; buffers = held.buffers }
+      either Two (One, held) = record { here = held.there; there = held.here; txn = held.txn; listed = held.listed; buffers = held.buffers }
       either Two (Two, held) = held
 
   -- an inode of a list, with its reference
@@ -198,38 +206,104 @@ module _ (t : Bool) (s u : Having) (held : InHand t Nothing Nothing s) where
       at Two (One, held) has = let clash : None ≡ Some n = sym held.there.0 ∙ has in cc clash
       at Two (Two, held) has = let clash : None ≡ Some n = sym held.here.0 ∙ has in cc clash
 
-  pub relocking : (n : ℕ) → MayRelock n s.hand
-  relocking n =
-      let at = at_free t Nothing s tt held in
-      let k = free_seat s.hand in
-      (no_reference n, at.here.0, at.here.1, alone n Nothing (reference_at (other k) s.hand) (inode_at (other k) s.hand) (note_at (other k) s.notes) tt at.there, at.buffers)
+  -- the first one listed
+  module _ (n : ℕ) (ns : List ℕ) (first : t.1 ≡ n ∷ ns) where
+    pub relocking : MayRelock n s.hand
+    relocking =
+        let at = at_free t Nothing s tt held in
+        let k = free_seat s.hand in
+        (no_reference n, (ns, held.1.listed ∙ first), at.here.0, at.here.1, alone n Nothing (reference_at (other k) s.hand) (inode_at (other k) s.hand) (note_at (other k) s.notes) tt at.there, at.buffers)
 
-  pub relocked : (n : ℕ) → Relocked n s.hand u.hand → InHand t (Locks n) Nothing u
-  relocked n came =
-      let k = free_seat s.hand in
-      let h = with_reference k (Some n) s.hand in (
-        k,
-        forget k (updated t Nothing (Locks n) Nothing s.hand u.hand s.notes s.notes k (beside_both k s.hand u.hand s.notes s.notes refl (Some n) (Some came.0) came.1) (at_free t Nothing s tt held)
-            (reference_with k (Some n) (Some came.0) s.hand u.hand came.1, locks_at n k h u.hand came, loaded_at n k h u.hand came)),
-      )
-    where
-      forget : (k : Seat) → HeldAt k t (Locks n) Nothing u.hand s.notes → HeldAt k t (Locks n) Nothing u.hand u.notes
-      forget k held = record { here = held.here; there = held.there; txn = held.txn; buffers = held.buffers }
+    pub relocked : Relocked n s.hand u.hand → InHand (t.0, ns) (Locks n) Nothing u
+    relocked came =
+        let k = free_seat s.hand in
+        let rest = with_listed ns s.hand in
+        let h = with_reference k (Some n) rest in
+        let moved : with_first k s.hand ≡ h = ap (λ (ms : List ℕ). with_reference k (Some (first_in ms)) (with_listed (drop 1 ms) s.hand)) (held.1.listed ∙ first) in
+        let to : CameTo k n h u.hand = subst (λ (h : Hand). CameTo k n h u.hand) moved came in (
+          k,
+          forget k (updated (t.0, ns) Nothing (Locks n) Nothing rest u.hand s.notes s.notes k (beside_both k rest u.hand s.notes s.notes refl (Some n) (Some to.0) to.1)
+              (with_other_list t Nothing Nothing s.hand s.notes k ns (at_free t Nothing s tt held))
+              (reference_with k (Some n) (Some to.0) rest u.hand to.1, locks_at n k h u.hand to, loaded_at n k h u.hand to)),
+        )
+      where
+        forget : (k : Seat) → HeldAt k (t.0, ns) (Locks n) Nothing u.hand s.notes → HeldAt k (t.0, ns) (Locks n) Nothing u.hand u.notes
+        forget k held = record { here = held.here; there = held.there; txn = held.txn; listed = held.listed; buffers = held.buffers }
+
+-- ---- a reference gone, where its lock stays
+
+module _ (t : Around) (n : ℕ) (s u : Having) where
+  -- the lock is there as before
+  stays_locked : (k : Seat) (y : Held) → HeldAt k t (Locks n) y s.hand s.notes → u.hand ≡ with_reference k None s.hand → u.notes ≡ s.notes → HeldAt k t (Opens n) y u.hand u.notes
+  stays_locked k y held e noted =
+      let lock = sym (lock_kept k None s.hand u.hand e) in
+      updated t (Locks n) (Opens n) y s.hand u.hand s.notes u.notes k (beside_reference k s.hand u.hand s.notes u.notes (ap (note_at (other k)) noted) None e) held
+      (reference_there k None s.hand u.hand e, subst (λ (o : Option (GuardState Inode)). locks n o ≡ true) lock held.here.1, subst IsLoaded lock held.here.2)
+
+  module _ (held : InHand t (Locks n) Nothing s) where
+    seat_found : held.0 ≡ seat_of_reference n s.hand
+    seat_found = only_reference t n s.hand s.notes held.0 held.1.here.0 held.1.there.0
+
+    pub install_found : HasReference n s.hand
+    install_found = subst (λ (k : Seat). reference_at k s.hand ≡ Some n) seat_found held.1.here.0
+
+    pub installed : u.hand ≡ with_reference (seat_of_reference n s.hand) None s.hand → u.notes ≡ s.notes → InHand t (Opens n) Nothing u
+    installed e noted = (held.0, stays_locked held.0 Nothing held.1 (subst (λ (k : Seat). u.hand ≡ with_reference k None s.hand) (sym seat_found) e) noted)
+
+  -- where there is one at each seat, that at the first goes
+  module _ (held : InHand t (Refers n) (Locks n) s) where
+    first_there : s.hand.to_one ≡ Some n
+    first_there = at held
+      where
+        at : InHand t (Refers n) (Locks n) s → s.hand.to_one ≡ Some n
+        at (One, held) = held.here.0
+        at (Two, held) = held.there.0
+
+    pub forget_found : HasReference n s.hand
+    forget_found = subst (λ (k : Seat). reference_at k s.hand ≡ Some n) (is_first t n s.hand s.notes first_there) first_there
+
+    pub forgot : u.hand ≡ with_reference (seat_of_reference n s.hand) None s.hand → u.notes ≡ s.notes → InHand t (Locks n) Nothing u ⊎ InHand t (Opens n) (Refers n) u
+    forgot e noted = at held (subst (λ (k : Seat). u.hand ≡ with_reference k None s.hand) (sym (is_first t n s.hand s.notes first_there)) e)
+      where
+        at : InHand t (Refers n) (Locks n) s → u.hand ≡ with_reference One None s.hand → InHand t (Locks n) Nothing u ⊎ InHand t (Opens n) (Refers n) u
+        at (One, held) e =
+            let left = updated t (Refers n) Nothing (Locks n) s.hand u.hand s.notes u.notes One (beside_reference One s.hand u.hand s.notes u.notes (ap (note_at Two) noted) None e) held
+            (reference_there One None s.hand u.hand e, lock_kept One None s.hand u.hand e ∙ held.here.1) in
+            inl (swapped t Nothing (Locks n) u (One, left))
+        at (Two, held) e =
+            let turned : HeldAt One t (Locks n) (Refers n) s.hand s.notes = record { here = held.there; there = held.here; txn = held.txn; listed = held.listed; buffers = held.buffers } in
+            inr (One, stays_locked One (Refers n) turned e noted)
+
+-- ---- within a walk the last reference to a dead inode is listed
+
+pub walked_down : (t : Around) (n : ℕ) (y : Held) (s u : Having) → Apart n y → InHand t (Refers n) y s → (a : Bool) → Leaves [] (above.WalkDown n) a s u → InHand (t.0, with_last t.1 n a) Nothing y u
+walked_down t n y s u apart held false e = dropped t y s u n apart held e.0 (ap (note_at (other (seat_of_reference n s.hand))) e.1)
+walked_down t n y s u apart held true e =
+    let ms = s.hand.listed ++ n ∷ [] in
+    let gone : Having = record { hand = with_reference (seat_of_reference n s.hand) None s.hand; notes = u.notes } in
+    let at = dropped t y s gone n apart held refl (ap (note_at (other (seat_of_reference n s.hand))) e.1) in (
+      at.0,
+      subst (λ (h : Hand). HeldAt at.0 (t.0, t.1 ++ n ∷ []) Nothing y h u.notes) (sym e.0)
+          (subst (λ (ns : List ℕ). HeldAt at.0 (t.0, ns ++ n ∷ []) Nothing y (with_listed ms gone.hand) u.notes) held.1.listed (with_other_list t Nothing y gone.hand u.notes at.0 ms at.1)),
+    )
 
 -- ---- a transaction
 
-pub no_txn : (x y : Held) (s : Having) → InHand false x y s → s.hand.txn ≡ None
-no_txn x y s held = none_is s.hand.txn held.1.txn
+pub no_txn : (ns : List ℕ) (x y : Held) (s : Having) → InHand (false, ns) x y s → s.hand.txn ≡ None
+no_txn ns x y s held = none_is s.hand.txn held.1.txn
 
-txn_is : (t : Bool) (x y : Held) (s u : Having) (o : Option ℕ) → InHand t x y s → u.hand ≡ with_txn o s.hand → u.notes ≡ s.notes → InHand (is_some o) x y u
+txn_is : (t : Around) (x y : Held) (s u : Having) (o : Option ℕ) → InHand t x y s → u.hand ≡ with_txn o s.hand → u.notes ≡ s.notes → InHand (is_some o, t.1) x y u
 txn_is t x y s u o held e noted = (
   held.0,
-  subst (λ (h : Hand). HeldAt held.0 (is_some o) x y h u.notes) (sym e)
-      (subst (λ (m : Notes). HeldAt held.0 (is_some o) x y (with_txn o s.hand) m) (sym noted) (with_other_txn t x y s.hand s.notes held.0 o held.1)),
+  subst (λ (h : Hand). HeldAt held.0 (is_some o, t.1) x y h u.notes) (sym e)
+      (subst (λ (m : Notes). HeldAt held.0 (is_some o, t.1) x y (with_txn o s.hand) m) (sym noted) (with_other_txn t x y s.hand s.notes held.0 o held.1)),
 )
 
-pub joined : (x y : Held) (s u : Having) → InHand false x y s → Leaves [] above.Join tt s u → InHand true x y u
-joined x y s u held e = txn_is false x y s u (Some e.0.0) held e.0.1 e.1
+pub txn_joined : (ns : List ℕ) (x y : Held) (s u : Having) → InHand (false, ns) x y s → Joined s.hand u.hand → u.notes ≡ s.notes → InHand (true, ns) x y u
+txn_joined ns x y s u held e noted = txn_is (false, ns) x y s u (Some e.0) held e.1 noted
 
-pub left : (x y : Held) (s u : Having) → InHand true x y s → Leaves [] above.Leave tt s u → InHand false x y u
-left x y s u held e = txn_is true x y s u None held e.0 e.1
+pub joined : (ns : List ℕ) (x y : Held) (s u : Having) → InHand (false, ns) x y s → Leaves [] above.Join tt s u → InHand (true, ns) x y u
+joined ns x y s u held e = txn_joined ns x y s u held e.0 e.1
+
+pub left : (ns : List ℕ) (x y : Held) (s u : Having) → InHand (true, ns) x y s → Leaves [] above.Leave tt s u → InHand (false, ns) x y u
+left ns x y s u held e = txn_is (true, ns) x y s u None held e.0 e.1

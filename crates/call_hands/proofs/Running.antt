@@ -1,5 +1,5 @@
 -- Programs within calls run with what they need in hand: for every program after them.
-use Rattle.std.proofs.Common.{ℕ, List, Bool, true, false, Option, Some, refl, ap}
+use Rattle.std.proofs.Common.{ℕ, List, [], Bool, true, false, Option, Some, refl, ap}
 use Rattle.std.specs.Prelude.{if◌then◌else◌}
 use Rattle.plain_tree.specs.declared.answer.Reply.{Reply}
 use Rattle.atomic_programs.specs.Prog.{Ret, Do, unmarked}
@@ -10,7 +10,7 @@ use Rattle.inode_parts.specs.Carries.{note_at}
 use Rattle.inode_parts.specs.OneSteps.{other, seat_of_reference}
 use Rattle.inode_parts.specs.Expecting.{BeginsWith}
 use Rattle.inode_parts.specs.Holding.{Having, Leaves, Runs}
-use Rattle.call_hands.proofs.Seats.{Apart, Freed, Held, InHand, Locks, Nothing, Opens, Refers, in_empty}
+use Rattle.call_hands.proofs.Seats.{Apart, Around, Freed, Held, InHand, Locks, Nothing, Opens, Refers, in_empty}
 use Rattle.call_hands.proofs.Holdings.{at_its_lock, down_found, dropped, gave, joined, left, lock_found, locked, no_txn, reference_found, reloaded, stays}
 
 module _ (path : List ℕ) where
@@ -18,29 +18,29 @@ module _ (path : List ℕ) where
   R p s = Runs path (BeginsWith path) p s
 
   -- from what is in hand on, this program runs
-  abbrev pub From : Bool → Held → Held → P Reply → Type 0
+  abbrev pub From : Around → Held → Held → P Reply → Type 0
   From t x y p = (s : Having) → InHand t x y s → R p s
 
   -- ---- one operation, and then k
 
   module _ (m : Unit {0} → Option above.Mark) (k : Unit {0} → P Reply) where
-    pub join_runs : (x y : Held) → From true x y (k tt) → From false x y (Do above.Join m k)
+    pub join_runs : (ns : List ℕ) (x y : Held) → From (true, ns) x y (k tt) → From (false, ns) x y (Do above.Join m k)
     unfolding Runs
-    join_runs x y on s held = (no_txn x y s held, λ a u e. on u (joined x y s u held e))
+    join_runs ns x y on s held = (no_txn ns x y s held, λ a u e. on u (joined ns x y s u held e))
 
-    pub leave_runs : (x y : Held) → From false x y (k tt) → From true x y (Do above.Leave m k)
+    pub leave_runs : (ns : List ℕ) (x y : Held) → From (false, ns) x y (k tt) → From (true, ns) x y (Do above.Leave m k)
     unfolding Runs
-    leave_runs x y on s held = (held.1.txn, λ a u e. on u (left x y s u held e))
+    leave_runs ns x y on s held = (held.1.txn, λ a u e. on u (left ns x y s u held e))
 
-    pub say_runs : (t : Bool) (x y : Held) → From t x y (k tt) → From t x y (Do above.Say m k)
+    pub say_runs : (t : Around) (x y : Held) → From t x y (k tt) → From t x y (Do above.Say m k)
     unfolding Runs
     say_runs t x y on s held = (tt, λ a u e. on u (stays t x y s u held e.0 e.1))
 
-    pub release_runs : (t : Bool) (x y : Held) (child : ℕ) → From t x y (k tt) → From t x y (Do (above.Release child) m k)
+    pub release_runs : (t : Around) (x y : Held) (child : ℕ) → From t x y (k tt) → From t x y (Do (above.Release child) m k)
     unfolding Runs
     release_runs t x y child on s held = (tt, λ a u e. on u (stays t x y s u held e.0 e.1))
 
-    module _ (t : Bool) (n : ℕ) (y : Held) (apart : Apart n y) where
+    module _ (t : Around) (n : ℕ) (y : Held) (apart : Apart n y) where
       pub give_runs : From t (Refers n) y (k tt) → From t (Locks n) y (Do (above.Give n) m k)
       unfolding Runs
       give_runs on s held = (
@@ -66,42 +66,42 @@ module _ (path : List ℕ) where
       unfolding Runs
       forget_runs on s held = (reference_found t y s s n apart held, λ a u e. on u (dropped t y s u n apart held e.0 (ap (note_at (other (seat_of_reference n s.hand))) e.1)))
 
-    pub free_runs : (n : ℕ) (y : Held) → Apart n y → From true (Freed n) y (k tt) → From true (Locks n) y (Do (above.Free n) m k)
+    pub free_runs : (ns : List ℕ) (n : ℕ) (y : Held) → Apart n y → From (true, ns) (Freed n) y (k tt) → From (true, ns) (Locks n) y (Do (above.Free n) m k)
     unfolding Runs
-    free_runs n y apart on s held =
-        let at = at_its_lock true y s s n apart (Locks n) held.0 held.1 held.1.here.1 in (
-          (lock_found true y s s n apart (Locks n) held.0 held.1 held.1.here.1, at.here.2, at.txn, at.buffers),
-          λ a u e. on u (reloaded true y s u n apart (Locks n) held.0 held.1 held.1.here.1 (Freed n) e.0 e.1 (λ is. (at.here.0, is))),
+    free_runs ns n y apart on s held =
+        let at = at_its_lock (true, ns) y s s n apart (Locks n) held.0 held.1 held.1.here.1 in (
+          (lock_found (true, ns) y s s n apart (Locks n) held.0 held.1 held.1.here.1, at.here.2, at.txn, at.buffers),
+          λ a u e. on u (reloaded (true, ns) y s u n apart (Locks n) held.0 held.1 held.1.here.1 (Freed n) e.0 e.1 (λ is. (at.here.0, is))),
         )
 
   -- ---- a reference is dropped, within a transaction
 
-  module _ (n : ℕ) (y : Held) (apart : Apart n y) (k : P Reply) (on : From true Nothing y k) where
+  module _ (ns : List ℕ) (n : ℕ) (y : Held) (apart : Apart n y) (k : P Reply) (on : From (true, ns) Nothing y k) where
     abbrev freed : P Reply
     freed = Do (above.Free n) (λ _. Some (Frees n)) (λ _. Do (above.Give n) unmarked (λ _. Do (above.Forget n) unmarked (λ _. k)))
 
-    pub free_all_runs : From true (Locks n) y freed
-    free_all_runs = free_runs (λ _. Some (Frees n)) (λ _. Do (above.Give n) unmarked (λ _. Do (above.Forget n) unmarked (λ _. k))) n y apart
-        (give_freed_runs unmarked (λ _. Do (above.Forget n) unmarked (λ _. k)) true n y apart
-        (forget_runs unmarked (λ _. k) true n y apart on))
+    pub free_all_runs : From (true, ns) (Locks n) y freed
+    free_all_runs = free_runs (λ _. Some (Frees n)) (λ _. Do (above.Give n) unmarked (λ _. Do (above.Forget n) unmarked (λ _. k))) ns n y apart
+        (give_freed_runs unmarked (λ _. Do (above.Forget n) unmarked (λ _. k)) (true, ns) n y apart
+        (forget_runs unmarked (λ _. k) (true, ns) n y apart on))
 
-    dropped_on : (s u : Having) → InHand true (Refers n) y s → (a : Bool) → Leaves path (above.Down n) a s u → R (if a then freed else k) u
-    dropped_on s u held true e = free_all_runs u (locked true y s u n apart held e.0 e.1)
-    dropped_on s u held false e = on u (dropped true y s u n apart held e.0 e.1)
+    dropped_on : (s u : Having) → InHand (true, ns) (Refers n) y s → (a : Bool) → Leaves path (above.Down n) a s u → R (if a then freed else k) u
+    dropped_on s u held true e = free_all_runs u (locked (true, ns) y s u n apart held e.0 e.1)
+    dropped_on s u held false e = on u (dropped (true, ns) y s u n apart held e.0 e.1)
 
-    pub drop_runs : From true (Refers n) y (drop n k)
+    pub drop_runs : From (true, ns) (Refers n) y (drop n k)
     unfolding Runs
-    drop_runs s held = (down_found true y s s n apart held, λ a u e. dropped_on s u held a e)
+    drop_runs s held = (down_found (true, ns) y s s n apart held, λ a u e. dropped_on s u held a e)
 
     -- the lock is given up before
-    pub give_up_runs : From true (Locks n) y (give_up n k)
-    give_up_runs = give_runs unmarked (λ _. drop n k) true n y apart drop_runs
+    pub give_up_runs : From (true, ns) (Locks n) y (give_up n k)
+    give_up_runs = give_runs unmarked (λ _. drop n k) (true, ns) n y apart drop_runs
 
   -- ---- the end of a call
 
-  pub ends : (r : Reply) → From false Nothing Nothing (Ret r)
+  pub ends : (r : Reply) → From (false, []) Nothing Nothing (Ret r)
   unfolding Runs
   ends r s held = in_empty s held
 
-  pub say_ends : (r : Reply) → From false Nothing Nothing (say r)
-  say_ends r = say_runs unmarked (λ _. Ret r) false Nothing Nothing (ends r)
+  pub say_ends : (r : Reply) → From (false, []) Nothing Nothing (say r)
+  say_ends r = say_runs unmarked (λ _. Ret r) (false, []) Nothing Nothing (ends r)

@@ -1,5 +1,5 @@
 -- What is in hand, seat by seat.
-use Rattle.std.proofs.Common.{◌≡◌, ◌≢◌, ℕ, List, Bool, true, false, Option, Some, None, refl, sym, ap, ◌∙◌, subst}
+use Rattle.std.proofs.Common.{◌≡◌, ◌≢◌, ℕ, List, [], Bool, true, false, Option, Some, None, refl, sym, ap, ◌∙◌, subst}
 use Rattle.std.specs.Prelude.{◌==◌, if◌then◌else◌, is_some, IsSome}
 use Rattle.std.specs.Option.{MatchOption, option_map}
 use Rattle.plain_tree.specs.Tree.{Name}
@@ -9,7 +9,7 @@ use Rattle.fs_tables.specs.declared.inodes.Inode.{Inode}
 use Rattle.hands.specs.declared.hand.Hand.{Hand}
 use Rattle.hands.specs.declared.hand.Seat.{Seat}
 use Rattle.hands.specs.declared.hand.Seat.TheVariants.{One, Two}
-use Rattle.hands.specs.Hands.{inode_at, reference_at, with_inode, with_reference, with_txn}
+use Rattle.hands.specs.Hands.{inode_at, reference_at, with_inode, with_listed, with_reference, with_txn}
 use Rattle.hand_controls.specs.Calling.{IsEmpty}
 use Rattle.hand_controls.specs.Emptying.{HasNoBuffer}
 use Rattle.hand_controls.specs.HeldInodes.{unloaded, without_content}
@@ -38,17 +38,22 @@ IsHeld (Refers n) r o m = (r ≡ Some n) × (o ≡ None)
 IsHeld (Locks n) r o m = (r ≡ Some n) × (locks n o ≡ true) × IsLoaded o
 IsHeld (Finds n path e) r o m = (r ≡ Some n) × (locks n o ≡ true) × IsLoaded o × HasFound path e m
 IsHeld (Freed n) r o m = (r ≡ Some n) × (locks n o ≡ true)
-IsHeld (Opens n) r o m = (r ≡ None) × (locks n o ≡ true)
+IsHeld (Opens n) r o m = (r ≡ None) × (locks n o ≡ true) × IsLoaded o
 
--- that at a seat and that at the other, a transaction or none, and no buffer
-pub record HeldAt (k : Seat) (t : Bool) (x y : Held) (h : Hand) (m : Notes) : Type 0 where
+-- whether there is a transaction, and what is listed
+abbrev pub Around : Type 0
+Around = Bool × List ℕ
+
+-- that at a seat and that at the other, what is around them, and no buffer
+pub record HeldAt (k : Seat) (t : Around) (x y : Held) (h : Hand) (m : Notes) : Type 0 where
   pub here : IsHeld x (reference_at k h) (inode_at k h) (note_at k m)
   pub there : IsHeld y (reference_at (other k) h) (inode_at (other k) h) (note_at (other k) m)
-  pub txn : is_some h.txn ≡ t
+  pub txn : is_some h.txn ≡ t.0
+  pub listed : h.listed ≡ t.1
   pub buffers : HasNoBuffer h
 
 -- at whichever seats
-abbrev pub InHand : Bool → Held → Held → Having → Type 0
+abbrev pub InHand : Around → Held → Held → Having → Type 0
 InHand t x y s = (k : Seat) × HeldAt k t x y s.hand s.notes
 
 -- it isn't the lock of inode n
@@ -71,25 +76,26 @@ pub none_is : {A : Type 0} (o : Option A) → is_some o ≡ false → o ≡ None
 none_is None e = refl
 none_is (Some x) e = absurd (cc e)
 
-pub empty_in : (s : Having) → IsEmpty s.hand → InHand false Nothing Nothing s
+pub empty_in : (s : Having) → IsEmpty s.hand → InHand (false, []) Nothing Nothing s
 empty_in s e = (
   One,
   record {
     here = (ap (λ (h : Hand). h.to_one) e, ap (λ (h : Hand). h.one) e);
     there = (ap (λ (h : Hand). h.to_two) e, ap (λ (h : Hand). h.two) e);
     txn = ap (λ (h : Hand). is_some h.txn) e;
+    listed = ap (λ (h : Hand). h.listed) e;
     buffers = (ap (λ (h : Hand). h.first) e, ap (λ (h : Hand). h.second) e);
   },
 )
 
-pub in_empty : (s : Having) → InHand false Nothing Nothing s → IsEmpty s.hand
-in_empty s (One, held) = let h = s.hand in λ i. record h { txn = none_is h.txn held.txn i; first = held.buffers.0 i; second = held.buffers.1 i; one = held.here.1 i; two = held.there.1 i; to_one = held.here.0 i; to_two = held.there.0 i }
-in_empty s (Two, held) = let h = s.hand in λ i. record h { txn = none_is h.txn held.txn i; first = held.buffers.0 i; second = held.buffers.1 i; one = held.there.1 i; two = held.here.1 i; to_one = held.there.0 i; to_two = held.here.0 i }
+pub in_empty : (s : Having) → InHand (false, []) Nothing Nothing s → IsEmpty s.hand
+in_empty s (One, held) = let h = s.hand in λ i. record h { txn = none_is h.txn held.txn i; listed = held.listed i; first = held.buffers.0 i; second = held.buffers.1 i; one = held.here.1 i; two = held.there.1 i; to_one = held.here.0 i; to_two = held.there.0 i }
+in_empty s (Two, held) = let h = s.hand in λ i. record h { txn = none_is h.txn held.txn i; listed = held.listed i; first = held.buffers.0 i; second = held.buffers.1 i; one = held.there.1 i; two = held.here.1 i; to_one = held.there.0 i; to_two = held.here.0 i }
 
-module _ (t : Bool) (x y : Held) (s : Having) where
+module _ (t : Around) (x y : Held) (s : Having) where
   pub swapped : InHand t x y s → InHand t y x s
-  swapped (One, held) = (Two, record { here = held.there; there = held.here; txn = held.txn; buffers = held.buffers })
-  swapped (Two, held) = (One, record { here = held.there; there = held.here; txn = held.txn; buffers = held.buffers })
+  swapped (One, held) = (Two, record { here = held.there; there = held.here; txn = held.txn; listed = held.listed; buffers = held.buffers })
+  swapped (Two, held) = (One, record { here = held.there; there = held.here; txn = held.txn; listed = held.listed; buffers = held.buffers })
 
 -- ---- which seat an operation finds
 
@@ -113,7 +119,7 @@ alone n (Finds j path e) r o m apart held = another n j o held.1 apart
 alone n (Freed j) r o m apart held = another n j o held.1 apart
 alone n (Opens j) r o m apart held = another n j o held.1 apart
 
-module _ (t : Bool) (n : ℕ) (h : Hand) (m : Notes) where
+module _ (t : Around) (n : ℕ) (h : Hand) (m : Notes) where
   -- a lock
   pub lock_at : (k : Seat) → locks n (inode_at k h) ≡ true → locks n (inode_at (other k) h) ≡ false → k ≡ seat_of_lock n h
   lock_at One is not = sym (ap (λ (b : Bool). let k : Seat = if b then One else Two in k) is)
@@ -133,8 +139,12 @@ module _ (t : Bool) (n : ℕ) (h : Hand) (m : Notes) where
   refers_is None e = absurd (cc e)
   refers_is (Some j) e = sym (ap (λ (j : ℕ). Some j) (eq_is n j e))
 
-  is_first : h.to_one ≡ Some n → One ≡ seat_of_reference n h
+  pub is_first : h.to_one ≡ Some n → One ≡ seat_of_reference n h
   is_first e = sym (ap (λ (o : Option ℕ). let k : Seat = if refers n o then One else Two in k) e ∙ ap (λ (b : Bool). let k : Seat = if b then One else Two in k) (eq_self n))
+
+  pub only_reference : (k : Seat) → reference_at k h ≡ Some n → reference_at (other k) h ≡ None → k ≡ seat_of_reference n h
+  only_reference One e none = is_first e
+  only_reference Two e none = sym (ap (λ (o : Option ℕ). let k : Seat = if refers n o then One else Two in k) none)
 
   at_first : (y : Held) → h.to_one ≡ Some n → HeldAt One t (Refers n) y h m → AtReference y
   at_first y e held = subst (λ (k : Seat). HeldAt k t (Refers n) y h m) (is_first e) held
@@ -144,7 +154,7 @@ module _ (t : Bool) (n : ℕ) (h : Hand) (m : Notes) where
   both Nothing apart e held = absurd (let clash : Some n ≡ None = sym e ∙ held.there.0 in cc clash)
   both (Refers j) apart e held =
       let same : n ≡ j = let both : Some n ≡ Some j = sym e ∙ held.there.0 in cc both in
-      record { here = (e, held.there.1); there = (held.here.0 ∙ ap (λ (j : ℕ). Some j) same, held.here.1); txn = held.txn; buffers = held.buffers }
+      record { here = (e, held.there.1); there = (held.here.0 ∙ ap (λ (j : ℕ). Some j) same, held.here.1); txn = held.txn; listed = held.listed; buffers = held.buffers }
   both (Locks j) apart e held = absurd (apart (let both : Some n ≡ Some j = sym e ∙ held.there.0 in cc both))
   both (Finds j path x) apart e held = absurd (apart (let both : Some n ≡ Some j = sym e ∙ held.there.0 in cc both))
   both (Freed j) apart e held = absurd (apart (let both : Some n ≡ Some j = sym e ∙ held.there.0 in cc both))
@@ -158,17 +168,17 @@ module _ (t : Bool) (n : ℕ) (h : Hand) (m : Notes) where
       at true is = at_first y (refers_is h.to_one is) (both y apart (refers_is h.to_one is) held)
       at false is = subst (λ (k : Seat). HeldAt k t (Refers n) y h m) (sym (ap (λ (b : Bool). let k : Seat = if b then One else Two in k) is)) held
 
-pub at_reference : (t : Bool) (n : ℕ) (y : Held) (s : Having) → Apart n y → InHand t (Refers n) y s → HeldAt (seat_of_reference n s.hand) t (Refers n) y s.hand s.notes
+pub at_reference : (t : Around) (n : ℕ) (y : Held) (s : Having) → Apart n y → InHand t (Refers n) y s → HeldAt (seat_of_reference n s.hand) t (Refers n) y s.hand s.notes
 at_reference t n y s apart held = at_either t n s.hand s.notes y held.0 apart held.1
 
 -- a seat without a reference
 abbrev free_by : Option ℕ → Seat
 free_by o = if is_some o then Two else One
 
-pub at_free : (t : Bool) (y : Held) (s : Having) → IsClosed y → InHand t Nothing y s → HeldAt (free_seat s.hand) t Nothing y s.hand s.notes
+pub at_free : (t : Around) (y : Held) (s : Having) → IsClosed y → InHand t Nothing y s → HeldAt (free_seat s.hand) t Nothing y s.hand s.notes
 at_free t y s closed (One, held) = subst (λ (k : Seat). HeldAt k t Nothing y s.hand s.notes) (sym (ap free_by held.here.0)) held
 at_free t Nothing s closed (Two, held) =
-    subst (λ (k : Seat). HeldAt k t Nothing Nothing s.hand s.notes) (sym (ap free_by held.there.0)) (record { here = held.there; there = held.here; txn = held.txn; buffers = held.buffers })
+    subst (λ (k : Seat). HeldAt k t Nothing Nothing s.hand s.notes) (sym (ap free_by held.there.0)) (record { here = held.there; there = held.here; txn = held.txn; listed = held.listed; buffers = held.buffers })
 at_free t (Refers j) s closed (Two, held) = subst (λ (k : Seat). HeldAt k t Nothing (Refers j) s.hand s.notes) (sym (ap free_by held.there.0)) held
 at_free t (Locks j) s closed (Two, held) = subst (λ (k : Seat). HeldAt k t Nothing (Locks j) s.hand s.notes) (sym (ap free_by held.there.0)) held
 at_free t (Finds j path e) s closed (Two, held) = subst (λ (k : Seat). HeldAt k t Nothing (Finds j path e) s.hand s.notes) (sym (ap free_by held.there.0)) held
@@ -211,7 +221,7 @@ module _ (k : Seat) (h g : Hand) (m n : Notes) (noted : note_at (other k) n ≡ 
       at Two noted e = λ i. (with_reference Two None (with_inode Two None (e i)), noted i)
 
 -- where that is the same
-module _ (t : Bool) (x z y : Held) (h g : Hand) (m n : Notes) where
+module _ (t : Around) (x z y : Held) (h g : Hand) (m n : Notes) where
   abbrev Aside : Type 0
   Aside = Option ℕ × Option (GuardState Inode) × Note
 
@@ -220,12 +230,14 @@ module _ (t : Bool) (x z y : Held) (h g : Hand) (m n : Notes) where
     here = new;
     there = subst (λ (p : Aside). IsHeld y p.0 p.1 p.2) (sym (ap (λ (p : Hand × Note). let q : Aside = (p.0.to_two, p.0.two, p.1) in q) e)) held.there;
     txn = ap (λ (p : Hand × Note). is_some p.0.txn) e ∙ held.txn;
+    listed = ap (λ (p : Hand × Note). p.0.listed) e ∙ held.listed;
     buffers = (ap (λ (p : Hand × Note). p.0.first) e ∙ held.buffers.0, ap (λ (p : Hand × Note). p.0.second) e ∙ held.buffers.1);
   }
   updated Two e held new = record {
     here = new;
     there = subst (λ (p : Aside). IsHeld y p.0 p.1 p.2) (sym (ap (λ (p : Hand × Note). let q : Aside = (p.0.to_one, p.0.one, p.1) in q) e)) held.there;
     txn = ap (λ (p : Hand × Note). is_some p.0.txn) e ∙ held.txn;
+    listed = ap (λ (p : Hand × Note). p.0.listed) e ∙ held.listed;
     buffers = (ap (λ (p : Hand × Note). p.0.first) e ∙ held.buffers.0, ap (λ (p : Hand × Note). p.0.second) e ∙ held.buffers.1);
   }
 
@@ -267,6 +279,11 @@ reference_stays One h g e = ap (λ (h : Hand). h.to_one) e
 reference_stays Two h g e = ap (λ (h : Hand). h.to_two) e
 
 -- a transaction, or none
-pub with_other_txn : (t : Bool) (x y : Held) (h : Hand) (m : Notes) (k : Seat) (o : Option ℕ) → HeldAt k t x y h m → HeldAt k (is_some o) x y (with_txn o h) m
-with_other_txn t x y h m One o held = record { here = held.here; there = held.there; txn = refl; buffers = held.buffers }
-with_other_txn t x y h m Two o held = record { here = held.here; there = held.there; txn = refl; buffers = held.buffers }
+pub with_other_txn : (t : Around) (x y : Held) (h : Hand) (m : Notes) (k : Seat) (o : Option ℕ) → HeldAt k t x y h m → HeldAt k (is_some o, t.1) x y (with_txn o h) m
+with_other_txn t x y h m One o held = record { here = held.here; there = held.there; txn = refl; listed = held.listed; buffers = held.buffers }
+with_other_txn t x y h m Two o held = record { here = held.here; there = held.there; txn = refl; listed = held.listed; buffers = held.buffers }
+
+-- another list
+pub with_other_list : (t : Around) (x y : Held) (h : Hand) (m : Notes) (k : Seat) (ns : List ℕ) → HeldAt k t x y h m → HeldAt k (t.0, ns) x y (with_listed ns h) m
+with_other_list t x y h m One ns held = record { here = held.here; there = held.there; txn = held.txn; listed = refl; buffers = held.buffers }
+with_other_list t x y h m Two ns held = record { here = held.here; there = held.there; txn = held.txn; listed = refl; buffers = held.buffers }

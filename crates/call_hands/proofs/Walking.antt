@@ -1,9 +1,10 @@
 -- A walk, and the end of a call with a list, run with what they need in hand; so does chdir.
-use Rattle.std.proofs.Common.{ℕ, List, [], ◌∷◌, Bool, true, false, Option, Some, None, sym, ap, subst, inl, inr}
+use Rattle.std.proofs.Common.{◌<◌, ◌≤◌, ℕ, suc, ◌+◌, List, [], ◌∷◌, length, length-append, Bool, true, false, Option, Some, None, refl, sym, subst, inl, inr, arith}
 use Rattle.std.specs.Prelude.{if◌then◌else◌}
 use Rattle.plain_tree.specs.Tree.{Name, elements, is_absolute}
-use Rattle.plain_tree.specs.declared.answer.Cause.TheVariants.{NotDirectory}
+use Rattle.plain_tree.specs.declared.answer.Cause.TheVariants.{NoEntry, NotDirectory}
 use Rattle.plain_tree.specs.declared.answer.Reply.{Reply}
+use Rattle.plain_tree.specs.declared.call.Call.{Call}
 use Rattle.plain_tree.specs.declared.call.Call.TheVariants as calls
 use Rattle.plain_tree.specs.declared.step.Action.{Action}
 use Rattle.plain_tree.specs.declared.step.Action.TheVariants as steps
@@ -11,32 +12,67 @@ use Rattle.atomic_programs.specs.Prog.{Do, unmarked}
 use Rattle.hands.specs.declared.hand.Seat.{Seat}
 use Rattle.hand_controls.specs.Calling.{IsEmpty}
 use Rattle.inode_machine.specs.Inodes.{AtName, AtNothing, Query, Sight, is_directory_face}
+use Rattle.tree_moves.specs.Moves.Move.{Begin}
+use Rattle.inode_machine.specs.Naming.{in_parent}
 use Rattle.inode_machine.specs.Moving.{chdir_at, chdir_program}
-use Rattle.inode_machine.specs.Parts.{NoMemory, NotThere, P, Stop, done, drop, failed, free_all, free_listed, give_up, leave_directory, looks_or_quits, quits_unless, say, start, start_on, stopped, tail, walk, walk_parent, walk_step, with_last}
+use Rattle.inode_machine.specs.Parts.{NoMemory, NotThere, P, Stop, done, drop, failed, free_all, free_listed, give_up, leave_directory, looks_or_quits, makes, quits_unless, say, start, start_on, stopped, tail, walk, walk_parent, walk_step, with_last}
 use Rattle.inode_machine.specs.World as above
 use Rattle.inode_machine.specs.World.Mark.{Frees}
-use Rattle.inode_parts.specs.Carries.{note_at}
-use Rattle.inode_parts.specs.OneSteps.{other, seat_of_lock, seat_of_reference}
+use Rattle.fs_tables.specs.Limits.{listed_places}
+use Rattle.whole_calls.specs.Wholes.{IsCall}
+use Rattle.inode_parts.specs.OneSteps.{seat_of_lock, seat_of_reference}
 use Rattle.inode_parts.specs.Expecting.{BeginsWith}
 use Rattle.inode_parts.specs.Holding.{CameTo, Having, IsCounted, Leaves, Runs, Stand}
-use Rattle.call_hands.proofs.Seats.{Apart, Held, InHand, Locks, Nothing, Refers, empty_in, swapped}
-use Rattle.call_hands.proofs.Holdings.{at_its_lock, dropped, found, free_found, locked, locked_seat, lock_found, reference_found, referred, relocked, relocking, settled, take_found, unreferred}
+use Rattle.fs_layout.specs.Name.{IsName}
+use Rattle.call_hands.proofs.Names.{AllNames}
+use Rattle.call_hands.proofs.Seats.{Apart, Around, Held, InHand, Locks, Nothing, Refers, empty_in, swapped}
+use Rattle.call_hands.proofs.Holdings.{at_its_lock, found, free_found, locked, locked_seat, lock_found, reference_found, referred, relocked, relocking, settled, take_found, unreferred, walked_down}
 use Rattle.call_hands.proofs.Running as running
-use Rattle.call_hands.proofs.Running.{drop_runs, ends, forget_runs, free_all_runs, give_runs, give_up_runs, join_runs, leave_runs, say_ends}
+use Rattle.call_hands.proofs.Running.{drop_runs, free_all_runs, give_runs, give_up_runs, join_runs, leave_runs, say_ends}
+
+-- ---- how long the list may grow
+
+grows : (ns : List ℕ) (d : ℕ) (last : Bool) → length (with_last ns d last) ≤ length ns + 1
+grows ns d false = omega arith
+grows ns d true = omega (arith, length-append ns (d ∷ []))
+
+now_room : (n rest most : ℕ) → n + suc rest ≤ most → n + 1 ≤ most
+now_room n rest most room = omega (arith, room)
+
+next_room : (n m rest most : ℕ) → n + suc rest ≤ most → m ≤ n + 1 → m + rest ≤ most
+next_room n m rest most room grown = omega (arith, room, grown)
+
+at_most : (m n most : ℕ) → m ≤ n + 1 → n + 1 ≤ most → m ≤ most
+at_most m n most grown room = omega (arith, grown, room)
+
+none_left : (n most : ℕ) → n + 0 ≤ most → n ≤ most
+none_left n most room = omega (arith, room)
+
+pub fresh : (most : ℕ) → 0 ≤ most
+fresh most = omega arith
+
+pub from_none : (n most : ℕ) → n ≤ most → 0 + n ≤ most
+from_none n most few = omega (arith, few)
+
+pub all_of : (n : ℕ) → n ≤ n
+all_of n = omega arith
+
+is_below : (n most : ℕ) → n + 1 ≤ most → most ≤ listed_places → n < listed_places
+is_below n most room few = omega (arith, room, few)
 
 module _ (path : List ℕ) where
   abbrev R : P Reply → Having → Type 0
   R p s = running.R path p s
 
-  abbrev From : Bool → Held → Held → P Reply → Type 0
+  abbrev From : Around → Held → Held → P Reply → Type 0
   From t x y p = running.From path t x y p
 
-  pub turned : (t : Bool) (x y : Held) (p : P Reply) → From t x y p → From t y x p
+  pub turned : (t : Around) (x y : Held) (p : P Reply) → From t x y p → From t y x p
   turned t x y p on s held = on s (swapped t y x s held)
 
   -- ---- a lock taken by a reference
 
-  module _ (t : Bool) (n : ℕ) (y : Held) (apart : Apart n y) (m : Sight → Option above.Mark) (k : Sight → P Reply) where
+  module _ (t : Around) (n : ℕ) (y : Held) (apart : Apart n y) (m : Sight → Option above.Mark) (k : Sight → P Reply) where
     pub came : (looking : Query) (s u : Having) (a : Sight) → InHand t (Refers n) y s → Leaves path (above.Take n looking) a s u → CameTo (seat_of_reference n s.hand) n s.hand u.hand
     came looking s u a held e = e.0.0.0 (reference_found t y s s n apart held)
 
@@ -59,103 +95,132 @@ module _ (path : List ℕ) where
 
   -- ---- a directory left
 
-  module _ (d : ℕ) (y : Held) (apart : Apart d y) (ns : List ℕ) (k : List ℕ → P Reply) (on : (ms : List ℕ) → From true Nothing y (k ms)) where
-    walks_down : From true (Refers d) y (Do (above.WalkDown d) unmarked (λ last. k (with_last ns d last)))
+  module _ (d : ℕ) (y : Held) (apart : Apart d y) (ns : List ℕ) (room : length ns < listed_places) (k : List ℕ → P Reply) (on : (ms : List ℕ) → length ms ≤ length ns + 1 → From (true, ms) Nothing y (k ms)) where
+    walks_down : From (true, ns) (Refers d) y (Do (above.WalkDown d) unmarked (λ last. k (with_last ns d last)))
     unfolding Runs
-    walks_down s held = (reference_found true y s s d apart held, λ a u e. on (with_last ns d a) u (dropped true y s u d apart held e.0 (ap (note_at (other (seat_of_reference d s.hand))) e.1)))
+    walks_down s held = (
+      (reference_found (true, ns) y s s d apart held, subst (λ (ns : List ℕ). length ns < listed_places) (sym held.1.listed) room),
+      λ a u e. on (with_last ns d a) (grows ns d a) u (walked_down (true, ns) d y s u apart held a e),
+    )
 
-    pub leaves_directory : From true (Locks d) y (leave_directory d ns k)
-    leaves_directory = give_runs path unmarked (λ _. Do (above.WalkDown d) unmarked (λ last. k (with_last ns d last))) true d y apart walks_down
+    pub leaves_directory : From (true, ns) (Locks d) y (leave_directory d ns k)
+    leaves_directory = give_runs path unmarked (λ _. Do (above.WalkDown d) unmarked (λ last. k (with_last ns d last))) (true, ns) d y apart walks_down
 
   -- ---- a walk
 
-  module _ (s : Action) (lost : Stop → List ℕ → P Reply) (is_lost : (why : Stop) (ms : List ℕ) → From true Nothing Nothing (lost why ms)) where
-    module _ (d : ℕ) (ns : List ℕ) (go : ℕ → List ℕ → P Reply) (goes : (j : ℕ) (ms : List ℕ) → From true (Refers j) Nothing (go j ms)) where
-      ups : (j : ℕ) (v u : Having) → InHand true (Locks d) Nothing v → (a : Bool) → Leaves path (above.Up j) a v u → R (leave_directory d ns (if a then go j else lost NoMemory)) u
-      ups j v u held true e =
-          leaves_directory d (Refers j) tt ns (go j) (λ ms. turned true (Refers j) Nothing (go j ms) (goes j ms)) u
-          (swapped true (Refers j) (Locks d) u (referred true (Locks d) v u tt (swapped true (Locks d) Nothing v held) j e.0 e.1))
-      ups j v u held false e =
-          leaves_directory d Nothing tt ns (lost NoMemory) (is_lost NoMemory) u
-          (swapped true Nothing (Locks d) u (unreferred true (Locks d) v u tt (swapped true (Locks d) Nothing v held) e.0 e.1))
+  module _ (s : Action) (lost : Stop → List ℕ → P Reply) (most : ℕ) (few : most ≤ listed_places) (is_lost : (why : Stop) (ms : List ℕ) → length ms ≤ most → From (true, ms) Nothing Nothing (lost why ms)) where
+    module _ (d : ℕ) (ns : List ℕ) (room : length ns + 1 ≤ most) where
+      leaves_lost : (why : Stop) → From (true, ns) (Locks d) Nothing (leave_directory d ns (lost why))
+      leaves_lost why = leaves_directory d Nothing tt ns (is_below (length ns) most room few) (lost why) (λ ms grown. is_lost why ms (at_most (length ms) (length ns) most grown room))
 
-      pub steps_on : (found : Option ℕ) → From true (Locks d) Nothing (walk_step d ns go lost found)
-      unfolding Runs
-      steps_on None = leaves_directory d Nothing tt ns (lost NotThere) (is_lost NotThere)
-      steps_on (Some j) = λ v held. (free_found true (Locks d) v v tt (swapped true (Locks d) Nothing v held), λ a u e. ups j v u held a e)
+      module _ (go : ℕ → List ℕ → P Reply) (goes : (j : ℕ) (ms : List ℕ) → length ms ≤ length ns + 1 → From (true, ms) (Refers j) Nothing (go j ms)) where
+        ups : (j : ℕ) (v u : Having) → InHand (true, ns) (Locks d) Nothing v → (a : Bool) → Leaves path (above.Up j) a v u → R (leave_directory d ns (if a then go j else lost NoMemory)) u
+        ups j v u held true e =
+            leaves_directory d (Refers j) tt ns (is_below (length ns) most room few) (go j) (λ ms grown. turned (true, ms) (Refers j) Nothing (go j ms) (goes j ms grown)) u
+            (swapped (true, ns) (Refers j) (Locks d) u (referred (true, ns) (Locks d) v u tt (swapped (true, ns) (Locks d) Nothing v held) j e.0 e.1))
+        ups j v u held false e =
+            leaves_lost NoMemory u
+            (swapped (true, ns) Nothing (Locks d) u (unreferred (true, ns) (Locks d) v u tt (swapped (true, ns) (Locks d) Nothing v held) e.0 e.1))
 
-    pub walk_runs : (es : List Name) (d : ℕ) (ns : List ℕ) (found : ℕ → List ℕ → P Reply) → ((d : ℕ) (ms : List ℕ) → From true (Refers d) Nothing (found d ms)) → From true (Refers d) Nothing (walk s d es ns found lost)
-    walk_runs [] d ns found is_found = is_found d ns
-    walk_runs (e ∷ es) d ns found is_found =
-        look_runs true d Nothing tt (looks_or_quits s) (λ a. walk_step d ns (λ j ms. walk s j es ms found lost) lost a.found) e
-        (λ a counted. steps_on d ns (λ j ms. walk s j es ms found lost) (λ j ms. walk_runs es j ms found is_found) a.found)
+        pub steps_on : (found : Option ℕ) → From (true, ns) (Locks d) Nothing (walk_step d ns go lost found)
+        unfolding Runs
+        steps_on None = leaves_lost NotThere
+        steps_on (Some j) = λ v held. (free_found (true, ns) (Locks d) v v tt (swapped (true, ns) (Locks d) Nothing v held), λ a u e. ups j v u held a e)
 
-    sees : (d : ℕ) (ns : List ℕ) (found : List ℕ → P Reply) → ((ms : List ℕ) → From true (Refers d) Nothing (found ms)) → (b : Bool) → From true (Locks d) Nothing (if b then Do (above.Give d) unmarked (λ _. found ns) else leave_directory d ns (lost NotThere))
-    sees d ns found is_found true = give_runs path unmarked (λ _. found ns) true d Nothing tt (is_found ns)
-    sees d ns found is_found false = leaves_directory d Nothing tt ns (lost NotThere) (is_lost NotThere)
+    pub walk_runs : (es : List Name) (d : ℕ) (ns : List ℕ) → length ns + length es ≤ most → (found : ℕ → List ℕ → P Reply) → ((d : ℕ) (ms : List ℕ) → length ms ≤ most → From (true, ms) (Refers d) Nothing (found d ms))
+        → From (true, ns) (Refers d) Nothing (walk s d es ns found lost)
+    walk_runs [] d ns room found is_found = is_found d ns (none_left (length ns) most room)
+    walk_runs (e ∷ es) d ns room found is_found =
+        look_runs (true, ns) d Nothing tt (looks_or_quits s) (λ a. walk_step d ns (λ j ms. walk s j es ms found lost) lost a.found) e
+        (λ a counted. steps_on d ns (now_room (length ns) (length es) most room) (λ j ms. walk s j es ms found lost)
+        (λ j ms grown. walk_runs es j ms (next_room (length ns) (length ms) (length es) most room grown) found is_found) a.found)
 
-    pub walk_parent_runs : (es : List Name) (e : Name) (d : ℕ) (ns : List ℕ) (found : ℕ → Name → List ℕ → P Reply) → ((d : ℕ) (e : Name) (ms : List ℕ) → From true (Refers d) Nothing (found d e ms))
-        → From true (Refers d) Nothing (walk_parent s d e es ns found lost)
-    walk_parent_runs [] e d ns found is_found =
-        take_runs true d Nothing tt (λ a. quits_unless s (is_directory_face a.face)) (λ a. if is_directory_face a.face then Do (above.Give d) unmarked (λ _. found d e ns) else leave_directory d ns (lost NotThere))
-        (λ a counted. sees d ns (found d e) (is_found d e) (is_directory_face a.face))
-    walk_parent_runs (e' ∷ es) e d ns found is_found =
-        look_runs true d Nothing tt (looks_or_quits s) (λ a. walk_step d ns (λ j ms. walk_parent s j e' es ms found lost) lost a.found) e
-        (λ a counted. steps_on d ns (λ j ms. walk_parent s j e' es ms found lost) (λ j ms. walk_parent_runs es e' j ms found is_found) a.found)
+    sees : (d : ℕ) (ns : List ℕ) → length ns + 1 ≤ most → (found : List ℕ → P Reply) → From (true, ns) (Refers d) Nothing (found ns) → (b : Bool)
+        → From (true, ns) (Locks d) Nothing (if b then Do (above.Give d) unmarked (λ _. found ns) else leave_directory d ns (lost NotThere))
+    sees d ns room found is_found true = give_runs path unmarked (λ _. found ns) (true, ns) d Nothing tt is_found
+    sees d ns room found is_found false = leaves_lost d ns room NotThere
 
-    starts : (go : ℕ → P Reply) (ns : List ℕ) → ((d : ℕ) → From true (Refers d) Nothing (go d)) → (v u : Having) → InHand true Nothing Nothing v → (a : Option ℕ) → Leaves path (above.UpStart (is_absolute path)) a v u → R (start_on go lost ns a) u
-    starts go ns goes v u held None e = is_lost NoMemory ns u (unreferred true Nothing v u tt held e.0 e.1)
-    starts go ns goes v u held (Some d) e = goes d u (referred true Nothing v u tt held d e.0 e.1)
+    -- past it there is room for what the last directory may leave
+    pub walk_parent_runs : (es : List Name) (e : Name) → AllNames (e ∷ es) → (d : ℕ) (ns : List ℕ) → length ns + suc (length es) ≤ most → (found : ℕ → Name → List ℕ → P Reply)
+        → ((d : ℕ) (e : Name) (ms : List ℕ) → IsName e → length ms + 1 ≤ most → From (true, ms) (Refers d) Nothing (found d e ms)) → From (true, ns) (Refers d) Nothing (walk_parent s d e es ns found lost)
+    walk_parent_runs [] e are d ns room found is_found =
+        take_runs (true, ns) d Nothing tt (λ a. quits_unless s (is_directory_face a.face)) (λ a. if is_directory_face a.face then Do (above.Give d) unmarked (λ _. found d e ns) else leave_directory d ns (lost NotThere))
+        (λ a counted. sees d ns (now_room (length ns) 0 most room) (found d e) (is_found d e ns are.0 (now_room (length ns) 0 most room)) (is_directory_face a.face))
+    walk_parent_runs (e' ∷ es) e are d ns room found is_found =
+        look_runs (true, ns) d Nothing tt (looks_or_quits s) (λ a. walk_step d ns (λ j ms. walk_parent s j e' es ms found lost) lost a.found) e
+        (λ a counted. steps_on d ns (now_room (length ns) (suc (length es)) most room) (λ j ms. walk_parent s j e' es ms found lost)
+        (λ j ms grown. walk_parent_runs es e' are.1 j ms (next_room (length ns) (length ms) (suc (length es)) most room grown) found is_found) a.found)
 
-    pub start_runs : (go : ℕ → P Reply) (ns : List ℕ) → ((d : ℕ) → From true (Refers d) Nothing (go d)) → From true Nothing Nothing (start s path ns go lost)
+    starts : (go : ℕ → P Reply) (ns : List ℕ) → length ns ≤ most → ((d : ℕ) → From (true, ns) (Refers d) Nothing (go d)) → (v u : Having) → InHand (true, ns) Nothing Nothing v → (a : Option ℕ) → Leaves path (above.UpStart (is_absolute path)) a v u → R (start_on go lost ns a) u
+    starts go ns room goes v u held None e = is_lost NoMemory ns room u (unreferred (true, ns) Nothing v u tt held e.0 e.1)
+    starts go ns room goes v u held (Some d) e = goes d u (referred (true, ns) Nothing v u tt held d e.0 e.1)
+
+    pub start_runs : (go : ℕ → P Reply) (ns : List ℕ) → length ns ≤ most → ((d : ℕ) → From (true, ns) (Refers d) Nothing (go d)) → From (true, ns) Nothing Nothing (start s path ns go lost)
     unfolding Runs
-    start_runs go ns goes v held = (free_found true Nothing v v tt held, λ a u e. starts go ns goes v u held a e)
+    start_runs go ns room goes v held = (free_found (true, ns) Nothing v v tt held, λ a u e. starts go ns room goes v u held a e)
 
   -- ---- the end of a call with a list
 
-  -- an inode of it comes with its reference
-  relocks : (n : ℕ) (k : P Reply) → From true (Locks n) Nothing k → From true Nothing Nothing (Do (above.Take n AtNothing) unmarked (λ _. k))
+  -- the first inode of it comes with its reference
+  relocks : (n : ℕ) (ns : List ℕ) (k : P Reply) → From (true, ns) (Locks n) Nothing k → From (true, n ∷ ns) Nothing Nothing (Do (above.Take n AtNothing) unmarked (λ _. k))
   unfolding Runs
-  relocks n k on s held = (inr (relocking true s s held n), λ a u e. on u (relocked true s u held n (e.0.0.1 (relocking true s s held n).0)))
+  relocks n ns k on s held =
+      let may = relocking (true, n ∷ ns) s s held n ns refl in
+      (inr (may, refl), λ a u e. on u (relocked (true, n ∷ ns) s u held n ns refl (e.0.0.1 may.0)))
 
-  frees_listed : (n : ℕ) (k : P Reply) → From false Nothing Nothing k → From false Nothing Nothing (free_listed n k)
-  frees_listed n k on =
+  frees_listed : (n : ℕ) (ns : List ℕ) (k : P Reply) → From (false, ns) Nothing Nothing k → From (false, n ∷ ns) Nothing Nothing (free_listed n k)
+  frees_listed n ns k on =
       let leave : P Reply = Do above.Leave unmarked (λ _. k) in
       let freed : P Reply = Do (above.Free n) (λ _. Some (Frees n)) (λ _. Do (above.Give n) unmarked (λ _. Do (above.Forget n) unmarked (λ _. leave))) in
-      join_runs path unmarked (λ _. Do (above.Take n AtNothing) unmarked (λ _. freed)) Nothing Nothing
-      (relocks n freed (free_all_runs path n Nothing tt leave (leave_runs path unmarked (λ _. k) Nothing Nothing on)))
+      join_runs path unmarked (λ _. Do (above.Take n AtNothing) unmarked (λ _. freed)) (n ∷ ns) Nothing Nothing
+      (relocks n ns freed (free_all_runs path ns n Nothing tt leave (leave_runs path unmarked (λ _. k) ns Nothing Nothing on)))
 
-  frees_all : (ns : List ℕ) (k : P Reply) → From false Nothing Nothing k → From false Nothing Nothing (free_all ns k)
+  frees_all : (ns : List ℕ) (k : P Reply) → From (false, []) Nothing Nothing k → From (false, ns) Nothing Nothing (free_all ns k)
   frees_all [] k on = on
-  frees_all (n ∷ ns) k on = frees_listed n (free_all ns k) (frees_all ns k on)
+  frees_all (n ∷ ns) k on = frees_listed n ns (free_all ns k) (frees_all ns k on)
 
-  pub tail_runs : (ns : List ℕ) (r : Reply) → From true Nothing Nothing (tail ns r)
-  tail_runs ns r = leave_runs path unmarked (λ _. free_all ns (say r)) Nothing Nothing (frees_all ns (say r) (say_ends path r))
+  pub tail_runs : (ns : List ℕ) (r : Reply) → From (true, ns) Nothing Nothing (tail ns r)
+  tail_runs ns r = leave_runs path unmarked (λ _. free_all ns (say r)) ns Nothing Nothing (frees_all ns (say r) (say_ends path r))
+
+  -- ---- a call for which a last name is looked for
+
+  module _ (c : Call) (s : Action) (k : ℕ → Name → List ℕ → P Reply) (most : ℕ) (few : most ≤ listed_places) (k_runs : (d : ℕ) (e : Name) (ms : List ℕ) → IsName e → From (true, ms) (Refers d) Nothing (k d e ms)) where
+    pub in_parent_runs : (es : List Name) → AllNames es → length es ≤ most → From (false, []) Nothing Nothing (in_parent c s path k es)
+    in_parent_runs [] are short = join_runs path (λ _. makes (Begin s 0)) (λ _. tail [] (failed c NoEntry)) [] Nothing Nothing (tail_runs [] (failed c NoEntry))
+    in_parent_runs (e ∷ es) are short =
+        let lost : Stop → List ℕ → P Reply = λ why ns. tail ns (stopped c why) in
+        let is_lost : (why : Stop) (ms : List ℕ) → length ms ≤ most → From (true, ms) Nothing Nothing (lost why ms) = λ why ms short. tail_runs ms (stopped c why) in
+        let go : ℕ → P Reply = λ d. walk_parent s d e es [] k lost in
+        join_runs path unmarked (λ _. start s path [] go lost) [] Nothing Nothing
+        (start_runs s lost most few is_lost go [] (fresh most)
+        (λ d. walk_parent_runs s lost most few is_lost es e are d [] (from_none (suc (length es)) most short) k (λ d e ms is room. k_runs d e ms is)))
 
   -- ---- chdir
 
-  settles : (n : ℕ) (k : P Reply) → From true Nothing Nothing k → From true (Locks n) Nothing (Do (above.Settle n) unmarked (λ old. drop old k))
+  settles : (n : ℕ) (ns : List ℕ) (k : P Reply) → From (true, ns) Nothing Nothing k → From (true, ns) (Locks n) Nothing (Do (above.Settle n) unmarked (λ old. drop old k))
   unfolding Runs
-  settles n k on s held =
-      let at = at_its_lock true Nothing s s n tt (Locks n) held.0 held.1 held.1.here.1 in (
-        (lock_found true Nothing s s n tt (Locks n) held.0 held.1 held.1.here.1, at.here.0),
-        λ a u e. drop_runs path a Nothing tt k on u (settled true Nothing s u n tt (Locks n) held.0 held.1 held.1.here.1 a e.0 e.1),
+  settles n ns k on s held =
+      let at = at_its_lock (true, ns) Nothing s s n tt (Locks n) held.0 held.1 held.1.here.1 in (
+        (lock_found (true, ns) Nothing s s n tt (Locks n) held.0 held.1 held.1.here.1, at.here.0),
+        λ a u e. drop_runs path ns a Nothing tt k on u (settled (true, ns) Nothing s u n tt (Locks n) held.0 held.1 held.1.here.1 a e.0 e.1),
       )
 
-  chdirs_if : (n : ℕ) (ns : List ℕ) (b : Bool) → From true (Locks n) Nothing (if b then Do (above.Settle n) unmarked (λ old. drop old (tail ns (done (calls.Chdir path)))) else give_up n (tail ns (failed (calls.Chdir path) NotDirectory)))
-  chdirs_if n ns true = settles n (tail ns (done (calls.Chdir path))) (tail_runs ns (done (calls.Chdir path)))
-  chdirs_if n ns false = give_up_runs path n Nothing tt (tail ns (failed (calls.Chdir path) NotDirectory)) (tail_runs ns (failed (calls.Chdir path) NotDirectory))
+  chdirs_if : (n : ℕ) (ns : List ℕ) (b : Bool) → From (true, ns) (Locks n) Nothing (if b then Do (above.Settle n) unmarked (λ old. drop old (tail ns (done (calls.Chdir path)))) else give_up n (tail ns (failed (calls.Chdir path) NotDirectory)))
+  chdirs_if n ns true = settles n ns (tail ns (done (calls.Chdir path))) (tail_runs ns (done (calls.Chdir path)))
+  chdirs_if n ns false = give_up_runs path ns n Nothing tt (tail ns (failed (calls.Chdir path) NotDirectory)) (tail_runs ns (failed (calls.Chdir path) NotDirectory))
 
-  chdirs_at : (n : ℕ) (ns : List ℕ) → From true (Refers n) Nothing (chdir_at path n ns)
+  chdirs_at : (n : ℕ) (ns : List ℕ) → From (true, ns) (Refers n) Nothing (chdir_at path n ns)
   chdirs_at n ns =
-      take_runs true n Nothing tt unmarked (λ a. if is_directory_face a.face then Do (above.Settle n) unmarked (λ old. drop old (tail ns (done (calls.Chdir path)))) else give_up n (tail ns (failed (calls.Chdir path) NotDirectory)))
+      take_runs (true, ns) n Nothing tt unmarked (λ a. if is_directory_face a.face then Do (above.Settle n) unmarked (λ old. drop old (tail ns (done (calls.Chdir path)))) else give_up n (tail ns (failed (calls.Chdir path) NotDirectory)))
       (λ a counted. chdirs_if n ns (is_directory_face a.face))
 
-  pub chdir_runs : (s : Having) → IsEmpty s.hand → Runs path (BeginsWith path) (chdir_program path) s
-  chdir_runs s empty =
+  pub chdir_runs : IsCall (calls.Chdir path) → (s : Having) → IsEmpty s.hand → Runs path (BeginsWith path) (chdir_program path) s
+  chdir_runs call s empty =
+      let most : ℕ = length (elements path) in
       let lost : Stop → List ℕ → P Reply = λ why ns. tail ns (stopped (calls.Chdir path) why) in
+      let is_lost : (why : Stop) (ms : List ℕ) → length ms ≤ most → From (true, ms) Nothing Nothing (lost why ms) = λ why ms short. tail_runs ms (stopped (calls.Chdir path) why) in
       let go : ℕ → P Reply = λ d. walk (steps.Chdir path) d (elements path) [] (chdir_at path) lost in
-      join_runs path unmarked (λ _. start (steps.Chdir path) path [] go lost) Nothing Nothing
-      (start_runs (steps.Chdir path) lost (λ why ms. tail_runs ms (stopped (calls.Chdir path) why)) go []
-      (λ d. walk_runs (steps.Chdir path) lost (λ why ms. tail_runs ms (stopped (calls.Chdir path) why)) (elements path) d [] (chdir_at path) chdirs_at))
+      join_runs path unmarked (λ _. start (steps.Chdir path) path [] go lost) [] Nothing Nothing
+      (start_runs (steps.Chdir path) lost most call.1 is_lost go [] (fresh most)
+      (λ d. walk_runs (steps.Chdir path) lost most call.1 is_lost (elements path) d [] (from_none most most (all_of most)) (chdir_at path) (λ d ms short. chdirs_at d ms)))
       s (empty_in s empty)

@@ -8,6 +8,11 @@ pub fn calls_find_what_they_ask()
     ensures close { (fd : ℕ) → RunsAlone [] (calls.Close fd) }
     ensures inherit { (child : ℕ) → RunsAlone [] (calls.Inherit child) }
     ensures fstat { (fd : ℕ) → RunsAlone [] (calls.Fstat fd) }
+    ensures dup { (fd : ℕ) → RunsAlone [] (calls.Dup fd) }
+    ensures read { (text : List ℕ) (fd : ℕ) (buffer : List ℕ) → RunsAlone text (calls.Read fd buffer) }
+    ensures write { (text : List ℕ) (fd : ℕ) (bytes : List ℕ) → RunsAlone text (calls.Write fd bytes) }
     ensures chdir { (path : List ℕ) → RunsAlone path (calls.Chdir path) }
+    ensures opens { (path : List ℕ) (flags : ℕ) → RunsAlone path (calls.Open path flags) }
+    ensures mkdir { (path : List ℕ) → RunsAlone path (calls.Mkdir path) }
     ensures unlink { (path : List ℕ) → RunsAlone path (calls.Unlink path) }
 {}
