@@ -16,13 +16,13 @@ begin-requires c =
 pub returns-then-there-clause-part : goal.returns-then-there-clause-part
 returns-then-there-clause-part c path m begins = c.begin.ensures.part path m
 
-pub begin-requires-else : goal.begin-requires-else
-begin-requires-else c =
+pub begin-requires-else-there : goal.begin-requires-else-there
+begin-requires-else-there c =
     let path = c.requires.begins.0 in
     record { begins = (c.args.number, (relocked_by c.args.sizes.now c.args.number (query_in path c.args.query) c.args.hand.now c.reference_seat-seat.result c.reference_seat-seat.ensures (sym c.refers_at-there.ensures ∙ c.if-there.false) c.requires.begins.2).0) }
 
-pub returns-else-clause-part : goal.returns-else-clause-part
-returns-else-clause-part c path m begins =
+pub returns-else-there-clause-part : goal.returns-else-there-clause-part
+returns-else-there-clause-part c path m begins =
     let h = c.args.hand.now in
     let has = relocked_by c.args.sizes.now c.args.number (query_in path c.args.query) h c.reference_seat-seat.result c.reference_seat-seat.ensures (sym c.refers_at-there.ensures ∙ c.if-there.false) begins in
-    subst (λ (q : Query). IsPart c.args.sizes.now (carry_in path m h) (Take c.args.number q) (relock_left path m c.begin-else.result h)) (sym has.1) (c.begin-else.ensures.part path m c.args.number has.0)
+    subst (λ (q : Query). IsPart c.args.sizes.now (carry_in path m h) (Take c.args.number q) (relock_left path m c.begin-else-there.result h)) (sym has.1) (c.begin-else-there.ensures.part path m c.args.number has.0)
