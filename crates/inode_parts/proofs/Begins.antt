@@ -107,26 +107,26 @@ module _ (sizes : Super) (path : List ℕ) (m : Notes) (h : Hand) where
   pub is_part : (op : above.Op) → Begins op h → IsPart sizes (carry_in path m h) op (part_left path m (part_for op h) h)
   is_part (above.Give n) has =
       let c : Carry = carry_in path m h in
-      subst (λ (v : Inode). IsPart sizes c (above.Give n) (one (steps.Unlock v None) (λ a. heard.Did) (λ a. put c v.number Apart))) (lock_is path m n h has.0) (λ mark. refl)
+      subst (λ (v : Inode). IsPart sizes c (above.Give n) (one path (steps.Unlock v None) (λ a. heard.Did) (λ a. put c v.number Apart))) (lock_is path m n h has.0) (λ mark. refl)
   is_part (above.Settle n) has =
       let c : Carry = carry_in path m h in
-      subst (λ (v : Inode). IsPart sizes c (above.Settle n) (one (steps.Settle v) heard.Old (λ a. put c v.number Apart))) (lock_is path m n h has.0.0) (λ mark. refl)
+      subst (λ (v : Inode). IsPart sizes c (above.Settle n) (one path (steps.Settle v) heard.Old (λ a. put c v.number Apart))) (lock_is path m n h has.0.0) (λ mark. refl)
   is_part (above.UpStart true) has = λ mark. refl
   is_part (above.UpStart false) has = λ mark. refl
   is_part (above.Up n) has = λ mark. refl
   is_part (above.WalkDown n) has =
       let c : Carry = carry_in path m h in
-      subst (λ (k : ℕ). IsPart sizes c (above.WalkDown n) (one (steps.Down (steps.Walked k)) (λ a. heard.Is (is_listed a)) (λ a. c))) (sym (reference_is n h has.0)) (λ mark. refl)
+      subst (λ (k : ℕ). IsPart sizes c (above.WalkDown n) (one path (steps.Down (steps.Walked k)) (λ a. heard.Is (is_listed a)) (λ a. c))) (sym (reference_is n h has.0)) (λ mark. refl)
   is_part (above.Down n) has =
       let c : Carry = carry_in path m h in
-      subst (λ (k : ℕ). IsPart sizes c (above.Down n) (one (steps.Down (steps.Held k)) (λ a. heard.Is (is_dying a)) (with_dying k c))) (sym (reference_is n h has.0)) (λ mark. refl)
+      subst (λ (k : ℕ). IsPart sizes c (above.Down n) (one path (steps.Down (steps.Held k)) (λ a. heard.Is (is_dying a)) (with_dying k c))) (sym (reference_is n h has.0)) (λ mark. refl)
   is_part (above.Forget n) has =
       let c : Carry = carry_in path m h in
-      subst (λ (k : ℕ). IsPart sizes c (above.Forget n) (one (steps.Down (steps.Freed k)) (λ a. heard.Did) (λ a. c))) (sym (reference_is n h has)) (λ mark. refl)
+      subst (λ (k : ℕ). IsPart sizes c (above.Forget n) (one path (steps.Down (steps.Freed k)) (λ a. heard.Did) (λ a. c))) (sym (reference_is n h has)) (λ mark. refl)
   is_part (above.Slot) has = λ mark. refl
   is_part (above.Install f sort) has =
       let c : Carry = carry_in path m h in
-      subst (λ (k : ℕ). IsPart sizes c (above.Install f sort) (still (steps.TakeDescriptor k (new_file f sort)) heard.Start c)) (sym (reference_is f.number h has)) (λ mark. refl)
+      subst (λ (k : ℕ). IsPart sizes c (above.Install f sort) (still path (steps.TakeDescriptor k (new_file f sort)) heard.Start c)) (sym (reference_is f.number h has)) (λ mark. refl)
   is_part (above.CheckFile fd) has = λ mark. refl
   is_part (above.JoinFile fd) has = λ mark i. Do (steps.JoinToWrite fd) unmarked (λ a. Ret (record { answer = joins_so a i; carry = carry_in path m h }))
   is_part (above.Double fd) has = λ mark. refl

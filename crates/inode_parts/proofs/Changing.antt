@@ -93,7 +93,7 @@ module _ (path : List ℕ) (m : Notes) (before h : Hand) (beside : beside_buffer
   record_beside Two d = still_in path m (with_record Two d before) (with_record Two d h) (sym (ap (λ (h : Hand). h.one) beside)) (sym (ap (λ (h : Hand). option_map (recorded d) h.two) beside))
 
 pub changed_same : (path : List ℕ) (m : Notes) (k : Seat) (x : Heard) (before h : Hand) → beside_buffers tt h ≡ beside_buffers tt before → changed path m k x before ≡ changed path m k x h
-changed_same path m k x before h beside = λ i d. Ret (record { answer = x; carry = record_beside path (with_note k note.Nothing m) before h beside k d i })
+changed_same path m k x before h beside = λ i d. Ret (record { answer = (path, x); carry = record_beside path (with_note k note.Nothing m) before h beside k d i })
 
 -- the record that an inode has
 set_own : (o : Option (GuardState Inode)) → MatchOption o ⊥ (λ g. IsSome g.value.content) → option_map (recorded (record_of (option_map_or (λ (g : GuardState Inode). g.value) o no_inode))) o ≡ o

@@ -74,11 +74,11 @@ kind_passes sizes sort k e = ap (λ (k : ℤ). let p : code.P Made = new_inode (
     by OfFile = refl
     by (OfDevice major) = refl
 
-pub claim_is_part : (sizes : Super) (sort : Sort) (path : List ℕ) (m : Notes) (h : Hand) (r : NewInode) → new_left r h ≡ new_inode (kind_of sort) sizes → IsPart sizes (carry_in path m h) (Claim sort) (bind (new_left r h) (claim_ends (carry_in path m h)))
+pub claim_is_part : (sizes : Super) (sort : Sort) (path : List ℕ) (m : Notes) (h : Hand) (r : NewInode) → new_left r h ≡ new_inode (kind_of sort) sizes → IsPart sizes (carry_in path m h) (Claim sort) (bind (new_left r h) (claim_ends path (carry_in path m h)))
 claim_is_part sizes sort path m h r program =
     let c : Carry = carry_in path m h in
-    subst (λ (p : code.P Made). IsPart sizes c (Claim sort) (bind p (claim_ends c))) (sym program)
-    (λ mark. plain_claim (inode_blocks sizes.ninodes) sizes sort c mark 0 ∙ sym (bind-assoc (new_inode (kind_of sort) sizes) (claim_ends c) (λ r. Ret (record { answer = claimed_in r.answer; carry = r.carry }))))
+    subst (λ (p : code.P Made). IsPart sizes c (Claim sort) (bind p (claim_ends path c))) (sym program)
+    (λ mark. plain_claim (inode_blocks sizes.ninodes) sizes sort c mark 0 ∙ sym (bind-assoc (new_inode (kind_of sort) sizes) (claim_ends path c) (λ r. Ret (record { answer = claimed_in r.answer.1; carry = r.carry }))))
 
 -- ---- how it goes on
 
@@ -95,16 +95,16 @@ module _ (path : List ℕ) (m : Notes) (k : Seat) (before h : Hand) (p : code.P 
       two One e = ap (λ (h : Hand). h.two) e
       two Two e = ap (λ (h : Hand). h.two) e
 
-  ends_same : claim_ends (carry_in path m before) ≡ claim_ends (carry_in path m h)
-  ends_same = ap claim_ends stays
+  ends_same : claim_ends path (carry_in path m before) ≡ claim_ends path (carry_in path m h)
+  ends_same = ap (claim_ends path) stays
 
-  pub claim_on : (q : code.P Made) → Goes p answer q → Goes (bind p (claim_ends (carry_in path m before))) answer (bind q (claim_ends (carry_in path m h)))
-  claim_on q goes = goes_with p q (claim_ends (carry_in path m before)) (claim_ends (carry_in path m h)) answer ends_same goes
+  pub claim_on : (q : code.P Made) → Goes p answer q → Goes (bind p (claim_ends path (carry_in path m before))) answer (bind q (claim_ends path (carry_in path m h)))
+  claim_on q goes = goes_with p q (claim_ends path (carry_in path m before)) (claim_ends path (carry_in path m h)) answer ends_same goes
 
-  pub claim_over : (a : Made) (x : Heard) → x ≡ heard.Claimed (claimed_by a) → Goes p answer (Ret a) → Goes (bind p (claim_ends (carry_in path m before))) answer (Ret (handed path m x h))
+  pub claim_over : (a : Made) (x : Heard) → x ≡ heard.Claimed (claimed_by a) → Goes p answer (Ret a) → Goes (bind p (claim_ends path (carry_in path m before))) answer (Ret (handed path m x h))
   claim_over a x e goes =
-      goes_to (bind p (claim_ends (carry_in path m before))) (claim_ends (carry_in path m h) a) (Ret (handed path m x h)) answer
-      (goes_with p (Ret a) (claim_ends (carry_in path m before)) (claim_ends (carry_in path m h)) answer ends_same goes) (λ i. Ret (record { answer = sym e i; carry = carry_in path m h }))
+      goes_to (bind p (claim_ends path (carry_in path m before))) (claim_ends path (carry_in path m h) a) (Ret (handed path m x h)) answer
+      (goes_with p (Ret a) (claim_ends path (carry_in path m before)) (claim_ends path (carry_in path m h)) answer ends_same goes) (λ i. Ret (record { answer = (path, sym e i); carry = carry_in path m h }))
 
 -- ---- what it leaves
 

@@ -23,12 +23,11 @@ use Rattle.inode_machine.specs.World as above
 use Rattle.inodes_on_blocks.specs.Handlers as handlers
 use Rattle.inodes_on_blocks.specs.Lowering.{NothingMore, Carry, Has, record_had}
 use Rattle.inodes_on_blocks.specs.Storing.{put_record}
-use Rattle.whole_calls.specs.declared.asks.Heard.{Heard}
 use Rattle.whole_calls.specs.declared.asks.Heard.TheVariants as heard
 use Rattle.inode_parts.specs.Carries.{carry_in, handed, with_note}
 use Rattle.inode_parts.specs.Changes.{changed}
 use Rattle.inode_parts.specs.OneSteps.{HasLock, seat_of_lock}
-use Rattle.inode_parts.specs.Parts.{IsPart, Part}
+use Rattle.inode_parts.specs.Parts.{IsPart, Message, Part}
 use Rattle.inode_parts.specs.Empties.{empty_part_left, empty_seat}
 use Rattle.inode_parts.specs.declared.note.Note.TheVariants as note
 use Rattle.inode_parts.specs.declared.note.Notes.{Notes}
@@ -60,7 +59,7 @@ module _ (sizes : Super) (path : List ℕ) (m : Notes) (n : ℕ) (before : Hand)
     abbrev had : Inode
     had = record { number = n; content = record_had (c n) }
 
-    abbrev heard_at : Handover Heard Carry → Handover (Unit {0}) Carry
+    abbrev heard_at : Handover Message Carry → Handover (Unit {0}) Carry
     heard_at r = record { answer = tt {0}; carry = r.carry }
 
     abbrev part_ends : Dinode → Part
@@ -95,7 +94,7 @@ module _ (sizes : Super) (path : List ℕ) (m : Notes) (n : ℕ) (before : Hand)
 
 module _ (path : List ℕ) (m : Notes) (p : EmptyPart) (before h : Hand) (answer : (o : steps.Op) → steps.Answer o) (beside : beside_emptying (emptying_of p.truncate) h ≡ beside_emptying (emptying_of p.truncate) before) where
   same_ends : changed path m (empty_seat p) heard.Did before ≡ changed path m (empty_seat p) heard.Did h
-  same_ends = λ i d. Ret (record { answer = heard.Did; carry = carried_beside path (with_note (empty_seat p) note.Nothing m) (emptying_of p.truncate) d before h beside i })
+  same_ends = λ i d. Ret (record { answer = (path, heard.Did); carry = carried_beside path (with_note (empty_seat p) note.Nothing m) (emptying_of p.truncate) d before h beside i })
 
   pub empty_on : (q : EmptyPart) → emptying_of q.truncate ≡ emptying_of p.truncate → Goes (truncate_left p.truncate before) answer (truncate_left q.truncate h) → Goes (empty_part_left path m p before) answer (empty_part_left path m q h)
   empty_on q about goes =

@@ -125,7 +125,7 @@ module _ (sizes : Super) (path : List ℕ) (m : Notes) (n : ℕ) (e : Name) (q :
     had = record { number = n; content = record_had (c n) }
 
     abbrev then_ : EnteredState → P (Handover above.EntryResult Carry)
-    then_ r = bind (entered path m k before r) (λ r. Ret (record { answer = whole.entered_in r.answer; carry = r.carry }))
+    then_ r = bind (entered path m k before r) (λ r. Ret (record { answer = whole.entered_in r.answer.1; carry = r.carry }))
 
     by_room : (d : Dinode) (r : Room) → rest (record { inode = d; room = r }) ≡ then_ (record { inode = d; room = r })
     by_room d room.There = λ i. Ret (record { answer = above.InPlace; carry = changes path m k n d before has.0 has.1 i })
@@ -137,8 +137,8 @@ module _ (sizes : Super) (path : List ℕ) (m : Notes) (n : ℕ) (e : Name) (q :
         enter_so mark (record_of had)
         ∙ ap (λ (v : Inode). let r : P (Handover above.EntryResult Carry) = bind (code_enter sizes n (record_of v) q e) rest in r) (lock_is path m n before has.0)
         ∙ (λ i. bind (sym program i) (λ r. by_room r.inode r.room i))
-        ∙ sym (bind-assoc (enter_left p.enter before) (entered path m k before) (λ r. Ret (record { answer = whole.entered_in r.answer; carry = r.carry })))
-        ∙ (λ i. bind (bind (enter_left p.enter before) (entered path m (sym seat i) before)) (λ r. Ret (record { answer = whole.entered_in r.answer; carry = r.carry })))
+        ∙ sym (bind-assoc (enter_left p.enter before) (entered path m k before) (λ r. Ret (record { answer = whole.entered_in r.answer.1; carry = r.carry })))
+        ∙ (λ i. bind (bind (enter_left p.enter before) (entered path m (sym seat i) before)) (λ r. Ret (record { answer = whole.entered_in r.answer.1; carry = r.carry })))
 
 -- ---- it makes an operation at least
 
@@ -187,7 +187,7 @@ module _ (path : List ℕ) (m : Notes) (k : Seat) (before h : Hand) (beside : be
   entered_same : (d : Dinode) (r : Room) → entered_so path m k before d r ≡ entered_so path m k h d r
   entered_same d room.There = λ i. changed_same path m k (heard.Entered entry.InPlace) before h beside i d
   entered_same d room.NoBlock = λ i. changed_same path m k (heard.Entered entry.NoBlock) before h beside i d
-  entered_same d room.NoSlot = λ i. Ret (record { answer = heard.Entered entry.NoSlot; carry = buffers_beside path m before h beside i })
+  entered_same d room.NoSlot = λ i. Ret (record { answer = (path, heard.Entered entry.NoSlot); carry = buffers_beside path m before h beside i })
 
 module _ (path : List ℕ) (m : Notes) (p : EnterPart) (before h : Hand) (answer : (o : steps.Op) → steps.Answer o) (beside : beside_buffers tt h ≡ beside_buffers tt before) where
   pub enter_on : (q : EnterPart) → q.seat ≡ p.seat → Goes (enter_left p.enter before) answer (enter_left q.enter h) → Goes (enter_part_left path m p before) answer (enter_part_left path m q h)

@@ -26,7 +26,7 @@ use Rattle.inode_parts.proofs.Sides.{none_beside}
 module _ (path : List ℕ) (m : Notes) (k : Seat) (h : Hand) where
   -- it was refused
   pub refused_so : (fd : ℕ) (why : Refused) (x : Cause) → inode_at k h ≡ None → x ≡ cause_of why → file_ends path fd (beside_in path m k h) (Refuses why) ≡ Ret (handed path m (heard.Locked (locked.Refused x)) h)
-  refused_so fd why x free e = λ i. Ret (record { answer = heard.Locked (locked.Refused (sym e i)); carry = sym (none_beside path m h k free) i })
+  refused_so fd why x free e = λ i. Ret (record { answer = (path, heard.Locked (locked.Refused (sym e i))); carry = sym (none_beside path m h k free) i })
 
 module _ (path : List ℕ) (m m2 : Notes) (h : Hand) (f : HeldFile) (has : HasFile f h) (alone : inode_at (other f.seat) h ≡ None) where
   abbrev d : Dinode
@@ -36,14 +36,14 @@ module _ (path : List ℕ) (m m2 : Notes) (h : Hand) (f : HeldFile) (has : HasFi
   locked_so : (fd offset : ℕ) → offset ≡ f.file.offset → m2 ≡ with_note f.seat (note.Opened fd f.file.offset) m
       → file_ends path fd (beside_in path m f.seat h) (Locks f.file (Some d)) ≡ Ret (handed path m2 (heard.Locked (locked.Locks f.file.number offset)) h)
   locked_so fd offset e noted = λ i. Ret (record {
-    answer = heard.Locked (locked.Locks f.file.number (sym e i));
+    answer = (path, heard.Locked (locked.Locks f.file.number (sym e i)));
     carry = (had_now path m f.seat h (note.Opened fd f.file.offset) f.file.number has.0 has.1 (alone_none f.file.number f.seat h alone) ∙ ap (λ (m : Notes). carry_in path m h) (sym noted)) i;
   })
 
   opened_so : (fd offset : ℕ) → offset ≡ f.file.offset → m2 ≡ with_note f.seat (note.Opened fd f.file.offset) m
       → open_ends path fd (beside_in path m f.seat h) (f.file, d) ≡ Ret (handed path m2 (heard.At f.file.number offset) h)
   opened_so fd offset e noted = λ i. Ret (record {
-    answer = heard.At f.file.number (sym e i);
+    answer = (path, heard.At f.file.number (sym e i));
     carry = (had_now path m f.seat h (note.Opened fd f.file.offset) f.file.number has.0 has.1 (alone_none f.file.number f.seat h alone) ∙ ap (λ (m : Notes). carry_in path m h) (sym noted)) i;
   })
 

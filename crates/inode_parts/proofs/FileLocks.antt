@@ -20,11 +20,9 @@ use Rattle.inode_machine.specs.World as above
 use Rattle.inodes_on_blocks.specs.Files.{file_locked, open_locked, with_file}
 use Rattle.inodes_on_blocks.specs.Handlers.{P}
 use Rattle.inodes_on_blocks.specs.Lowering.{Carry}
-use Rattle.whole_calls.specs.Asks.{answer_to}
-use Rattle.whole_calls.specs.declared.asks.Heard.{Heard}
 use Rattle.inode_parts.specs.Carries.{carry_in}
 use Rattle.inode_parts.specs.FileLocks.{file_ends, open_ends}
-use Rattle.inode_parts.specs.Parts.{IsPart, Part}
+use Rattle.inode_parts.specs.Parts.{answer_by, IsPart, Message, Part}
 use Rattle.inode_parts.specs.Sides.{beside_in}
 use Rattle.inode_parts.specs.declared.note.Notes.{Notes}
 use Rattle.inode_parts.proofs.Afterwards.{load_then}
@@ -33,8 +31,8 @@ use Rattle.inode_parts.proofs.Sides.{none_beside}
 -- ---- a program that takes the lock, and then
 
 -- how an operation's answer is heard
-abbrev answered : (op : above.Op) → Handover Heard Carry → Handover (above.Answer op) Carry
-answered op r = record { answer = answer_to [] op r.answer; carry = r.carry }
+abbrev answered : (op : above.Op) → Handover Message Carry → Handover (above.Answer op) Carry
+answered op r = record { answer = answer_by op r.answer; carry = r.carry }
 
 -- the inode is loaded
 module _ (op : above.Op) (i : ℕ) (f : OpenFile) (content : Option Dinode) (loaded : Dinode → P (Handover (above.Answer op) Carry)) where

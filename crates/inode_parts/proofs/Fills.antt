@@ -73,7 +73,7 @@ module _ (sizes : Super) (path : List ℕ) (m : Notes) (n parent : ℕ) (before 
     had = record { number = n; content = record_had (c n) }
 
     abbrev then_ : Filled → P (Handover Bool Carry)
-    then_ f = bind (filled path m k before f) (λ r. Ret (record { answer = whole.bool_in r.answer; carry = r.carry }))
+    then_ f = bind (filled path m k before f) (λ r. Ret (record { answer = whole.bool_in r.answer.1; carry = r.carry }))
 
     same_rest : (f : Filled) → rest f ≡ then_ f
     same_rest f = λ i. Ret (record { answer = f.whole; carry = changes path m k n f.inode before has.0 has.1 i })
@@ -83,8 +83,8 @@ module _ (sizes : Super) (path : List ℕ) (m : Notes) (n parent : ℕ) (before 
         fill_so mark (record_of had)
         ∙ (λ i. bind (fill_names sizes n (record_of (lock_is path m n before has.0 i)) parent) rest)
         ∙ (λ i. bind (sym program i) (λ f. same_rest f i))
-        ∙ sym (bind-assoc (fill_left p.fill before) (filled path m k before) (λ r. Ret (record { answer = whole.bool_in r.answer; carry = r.carry })))
-        ∙ (λ i. bind (bind (fill_left p.fill before) (filled path m (sym seat i) before)) (λ r. Ret (record { answer = whole.bool_in r.answer; carry = r.carry })))
+        ∙ sym (bind-assoc (fill_left p.fill before) (filled path m k before) (λ r. Ret (record { answer = whole.bool_in r.answer.1; carry = r.carry })))
+        ∙ (λ i. bind (bind (fill_left p.fill before) (filled path m (sym seat i) before)) (λ r. Ret (record { answer = whole.bool_in r.answer.1; carry = r.carry })))
 
 -- ---- how it goes on
 

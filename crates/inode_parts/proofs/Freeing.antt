@@ -93,21 +93,21 @@ module _ (sizes : Super) (path : List ℕ) (m : Notes) (n : ℕ) (f : FreeInode)
   had_so = had_beside path m before k n Emptied (lock_is_of n (inode_at k before) begins.0.0) ∙ ap (λ (v : Inode). put (beside_in path m k before) v.number Emptied) lock
 
   at_lock : freeing_left f h ≡ free_record sizes (number_in k before) (record_at k before) → beside_emptying (record { seat = k; sizes = sizes }) h ≡ beside_emptying (record { seat = k; sizes = sizes }) before
-      → IsPart sizes had_before (above.Free n) (bind (freeing_left f h) (free_ends (beside_in path m k h) (number_in k h)))
+      → IsPart sizes had_before (above.Free n) (bind (freeing_left f h) (free_ends path (beside_in path m k h) (number_in k h)))
   at_lock program same mark =
       above_is sizes n (record_in had_before n) had_before mark ∙ sym (code_is sizes n (record_in had_before n) had_before)
       ∙ (λ i. bind (left i) (λ _. Ret (record { answer = tt; carry = had_so i })))
       ∙ (λ i. bind (freeing_left f h) (λ u. bind (ends_same (record { seat = k; sizes = sizes }) before h same path m i u) (λ r. Ret (record { answer = tt; carry = r.carry }))))
-      ∙ sym (bind-assoc (freeing_left f h) (free_ends (beside_in path m k h) (number_in k h)) (λ r. Ret (record { answer = tt; carry = r.carry })))
+      ∙ sym (bind-assoc (freeing_left f h) (free_ends path (beside_in path m k h) (number_in k h)) (λ r. Ret (record { answer = tt; carry = r.carry })))
     where
       left : let p : code.P (Unit {0}) = free_record sizes n (record_in had_before n) in p ≡ freeing_left f h
       left = ap (λ (v : Inode). let p : code.P (Unit {0}) = free_record sizes v.number (record_of v) in p) lock ∙ sym program
 
 pub free_is_part : (sizes : Super) (path : List ℕ) (m : Notes) (n : ℕ) (k : Seat) (f : FreeInode) (before h : Hand) → k ≡ seat_of_lock n before → FreeBegins sizes n before → freeing_left f h ≡ free_record sizes (number_in k before) (record_at k before)
-    → beside_emptying (record { seat = k; sizes = sizes }) h ≡ beside_emptying (record { seat = k; sizes = sizes }) before → IsPart sizes (carry_in path m before) (above.Free n) (bind (freeing_left f h) (free_ends (beside_in path m k h) (number_in k h)))
+    → beside_emptying (record { seat = k; sizes = sizes }) h ≡ beside_emptying (record { seat = k; sizes = sizes }) before → IsPart sizes (carry_in path m before) (above.Free n) (bind (freeing_left f h) (free_ends path (beside_in path m k h) (number_in k h)))
 free_is_part sizes path m n k f before h is begins =
     subst (λ (k : Seat). freeing_left f h ≡ free_record sizes (number_in k before) (record_at k before) → beside_emptying (record { seat = k; sizes = sizes }) h ≡ beside_emptying (record { seat = k; sizes = sizes }) before
-    → IsPart sizes (carry_in path m before) (above.Free n) (bind (freeing_left f h) (free_ends (beside_in path m k h) (number_in k h)))) (sym is)
+    → IsPart sizes (carry_in path m before) (above.Free n) (bind (freeing_left f h) (free_ends path (beside_in path m k h) (number_in k h)))) (sym is)
     (at_lock sizes path m n f before h begins)
 
 -- what its routine asks of the hand

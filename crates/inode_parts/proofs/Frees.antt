@@ -41,8 +41,8 @@ module _ (e : Emptying) (before h : Hand) (same : beside_emptying e h ≡ beside
   number_same : number_in e.seat before ≡ number_in e.seat h
   number_same = sym (number-kept e h before same)
 
-  pub ends_same : (path : List ℕ) (m : Notes) → free_ends (beside_in path m e.seat before) (number_in e.seat before) ≡ free_ends (beside_in path m e.seat h) (number_in e.seat h)
-  ends_same path m = λ i. free_ends (same_beside path m e.seat before h (other_kept e before h same) i) (number_same i)
+  pub ends_same : (path : List ℕ) (m : Notes) → free_ends path (beside_in path m e.seat before) (number_in e.seat before) ≡ free_ends path (beside_in path m e.seat h) (number_in e.seat h)
+  ends_same path m = λ i. free_ends path (same_beside path m e.seat before h (other_kept e before h same) i) (number_same i)
 
   pub there_still : IsSome (inode_at e.seat before) → IsSome (inode_at e.seat h)
   there_still there = at e.seat (ap (inode_at e.seat) same) there
@@ -77,10 +77,10 @@ unloaded_in Two h is = unloaded h.two is
 
 module _ (path : List ℕ) (m : Notes) (k : Seat) (f : FreeInode) (before h : Hand) (answer : (o : steps.Op) → steps.Answer o) (at : (freeing_of f).seat ≡ k) (same : beside_emptying (freeing_of f) h ≡ beside_emptying (freeing_of f) before) where
   abbrev ends : Hand → Unit {0} → Part
-  ends h = free_ends (beside_in path m k h) (number_in k h)
+  ends h = free_ends path (beside_in path m k h) (number_in k h)
 
   ends_on : ends before ≡ ends h
-  ends_on = subst (λ (k : Seat). free_ends (beside_in path m k before) (number_in k before) ≡ free_ends (beside_in path m k h) (number_in k h)) at (ends_same (freeing_of f) before h same path m)
+  ends_on = subst (λ (k : Seat). free_ends path (beside_in path m k before) (number_in k before) ≡ free_ends path (beside_in path m k h) (number_in k h)) at (ends_same (freeing_of f) before h same path m)
 
   -- it goes on
   pub free_on : (g : FreeInode) → Goes (freeing_left f before) answer (freeing_left g h) → Goes (bind (freeing_left f before) (ends before)) answer (bind (freeing_left g h) (ends h))
@@ -104,4 +104,4 @@ module _ (path : List ℕ) (m : Notes) (k : Seat) (f : FreeInode) (before h : Ha
       in
       goes_to (bind (freeing_left f before) (ends before)) (ends h tt) (Ret (handed path m2 heard.Did h)) answer
       (goes_with (freeing_left f before) (Ret tt) (ends before) (ends h) answer ends_on goes)
-      (λ i. Ret (record { answer = heard.Did; carry = had i }))
+      (λ i. Ret (record { answer = (path, heard.Did); carry = had i }))

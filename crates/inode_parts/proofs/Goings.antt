@@ -55,8 +55,8 @@ came_in Two g before = refl
 module _ (path : List ℕ) (m : Notes) (before h : Hand) where
   -- one that leaves the locks as they are
   still_goes : (lop : steps.Op) (heard : steps.Answer lop → Heard) (answer : (o : steps.Op) → steps.Answer o) (x : Heard) → heard (answer lop) ≡ x → carry_in path m before ≡ carry_in path m h
-      → Goes (still lop heard (carry_in path m before)) answer (Ret (handed path m x h))
-  still_goes lop heard answer x e f = λ i. Ret (record { answer = e i; carry = f i })
+      → Goes (still path lop heard (carry_in path m before)) answer (Ret (handed path m x h))
+  still_goes lop heard answer x e f = λ i. Ret (record { answer = (path, e i); carry = f i })
 
   kept_in : (k : Seat) (a : Answer) → IsKept k a before h → carry_in path m before ≡ carry_in path m h
   kept_in k (answers.Is true) e = beside_reference path m k None before (with_reference k None before) refl ∙ sym (ap (carry_in path m) e)
@@ -108,12 +108,12 @@ module _ (path : List ℕ) (m : Notes) (before h : Hand) where
 
   module _ (k : Seat) (a : Answer) where
     pub give_goes : StepReady (step.Give k) before → IsAfter (ops.Unlock k) before a h → Goes (step_left path m (step.Give k) before) (answer_in (ops.Unlock k) a h) (Ret (handed path m heard.Did h))
-    give_goes ready after = λ i. Ret (record { answer = heard.Did; carry = (gave path m k before ready.0 ready.1 ∙ sym (ap (carry_in path m) after)) i })
+    give_goes ready after = λ i. Ret (record { answer = (path, heard.Did); carry = (gave path m k before ready.0 ready.1 ∙ sym (ap (carry_in path m) after)) i })
 
     pub settle_goes : (x : ℕ) → x ≡ number_at k h → StepReady (step.Settle k) before → IsAfter (ops.Settle k) before a h → Goes (step_left path m (step.Settle k) before) (answer_in (ops.Settle k) a h) (Ret (handed path m (heard.Old x) h))
     unfolding answer_in
     settle_goes x e ready after =
-        λ i. Ret (record { answer = heard.Old (sym e i); carry = (gave path m k before (there (λ g. reference_at k before ≡ Some g.value.number) (inode_at k before) ready.0) ready.1 ∙ beside_reference path m k (Some after.0) (with_inode k None before) h after.1) i })
+        λ i. Ret (record { answer = (path, heard.Old (sym e i)); carry = (gave path m k before (there (λ g. reference_at k before ≡ Some g.value.number) (inode_at k before) ready.0) ready.1 ∙ beside_reference path m k (Some after.0) (with_inode k None before) h after.1) i })
 
     pub root_goes : (x : Option ℕ) → x ≡ reference_at k h → IsAfter (ops.Up k root) before a h → Goes (step_left path m (step.UpRoot k) before) (answer_in (ops.Up k root) a h) (Ret (handed path m (heard.Start x) h))
     unfolding answer_in
@@ -183,9 +183,9 @@ module _ (path : List ℕ) (m : Notes) (k : Seat) (before h : Hand) where
       → Goes (step_left path m (step.Down k) before) (answer_in (ops.Down k) a h) (Ret (handed path m2 (heard.Is x) h))
   unfolding answer_in
   down_goes (answers.Is true) x m2 e n ready after =
-      λ i. Ret (record { answer = heard.Is (sym e i); carry = (dies_in after.0 after.1 after.2 ready.1 ready.2 ∙ ap (λ (m : Notes). carry_in path m h) (sym n)) i })
+      λ i. Ret (record { answer = (path, heard.Is (sym e i)); carry = (dies_in after.0 after.1 after.2 ready.1 ready.2 ∙ ap (λ (m : Notes). carry_in path m h) (sym n)) i })
   down_goes (answers.Is false) x m2 e n ready after =
-      λ i. Ret (record { answer = heard.Is (sym e i); carry = (beside_reference path m k None before h after ∙ ap (λ (m : Notes). carry_in path m h) (sym n)) i })
+      λ i. Ret (record { answer = (path, heard.Is (sym e i)); carry = (beside_reference path m k None before h after ∙ ap (λ (m : Notes). carry_in path m h) (sym n)) i })
   down_goes answers.Nothing x m2 e n ready after = absurd after
   down_goes (answers.Refused why) x m2 e n ready after = absurd after
   down_goes (answers.Number j) x m2 e n ready after = absurd after
@@ -198,4 +198,4 @@ pub leave_on : (path : List ℕ) (m : Notes) (before h : Hand) (f g : Finish) (a
     → Goes (part_left path m (part.Leave f) before) answer (part_left path m (part.Leave g) h)
 leave_on path m before h f g answer same goes =
     let kept : carry_in path m before ≡ carry_in path m h = sym (ap (carry_in path m) same) in
-    goes_with (finish_left f before) (finish_left g h) (ends_with path m before) (ends_with path m h) answer (λ i u. Ret (record { answer = heard.Did; carry = kept i })) goes
+    goes_with (finish_left f before) (finish_left g h) (ends_with path m before) (ends_with path m h) answer (λ i u. Ret (record { answer = (path, heard.Did); carry = kept i })) goes

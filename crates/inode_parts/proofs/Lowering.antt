@@ -17,22 +17,22 @@ use Rattle.inode_machine.specs.Rules.{machine}
 use Rattle.inode_machine.specs.World.{Op}
 use Rattle.inodes_on_blocks.specs.Lowering.{below, nothing}
 use Rattle.inodes_on_blocks.specs.Programs.{handlers}
-use Rattle.whole_calls.specs.Asks.{answer_to, asks, hears}
+use Rattle.whole_calls.specs.Asks.{asks, hears}
 use Rattle.whole_calls.specs.declared.asks.Heard.{Heard}
 use Rattle.inode_parts.specs.Carries.{carry_in, handed}
-use Rattle.inode_parts.specs.Parts.{IsPart, Part, lowered, with_part}
+use Rattle.inode_parts.specs.Parts.{answer_by, IsPart, Message, Part, lowered, with_part}
 use Rattle.inode_parts.specs.declared.note.Notes.{Notes}
 
 same_asks : (p : above.P Reply) → progs.asks p ≡ asks p
 same_asks (Ret r) = refl
 same_asks (Do op m k) = refl
 
-abbrev below_hears : Super → above.P Reply → Heard → above.P Reply
-below_hears sizes = layers.hears machine (below sizes) (handlers sizes) (answer_to [])
+abbrev below_hears : Super → above.P Reply → Message → above.P Reply
+below_hears sizes = layers.hears machine (below sizes) (handlers sizes) answer_by
 
-same_hears : (sizes : Super) (p : above.P Reply) (x : Heard) → hears [] p x ≡ below_hears sizes p x
-same_hears sizes (Ret r) x = refl
-same_hears sizes (Do op m k) x = refl
+same_hears : (sizes : Super) (text : List ℕ) (p : above.P Reply) (x : Heard) → hears text p x ≡ below_hears sizes p (text, x)
+same_hears sizes text (Ret r) x = refl
+same_hears sizes text (Do op m k) x = refl
 
 -- the part's operation is the next one
 pub asks_with : (sizes : Super) (q : Part) (p : above.P Reply) (op : steps.Op) → progs.asks q ≡ Some op → progs.asks (with_part sizes q p) ≡ Some op
@@ -46,12 +46,12 @@ nothing_in path m h e = ap (carry_in path m) e
 module _ (sizes : Super) (m : Notes) (h : Hand) where
   -- a call begins, or goes on with its next operation
   pub begins_so : (p : above.P Reply) (op : Op) (q : Part) → asks p ≡ Some op → IsPart sizes (carry_in [] m h) op q → lowered sizes (carry_in [] m h) p ≡ with_part sizes q p
-  begins_so p op q e is = part_begins machine (below sizes) (handlers sizes) (answer_to []) (carry_in [] m h) p op q (same_asks p ∙ e) is
+  begins_so p op q e is = part_begins machine (below sizes) (handlers sizes) answer_by (carry_in [] m h) p op q (same_asks p ∙ e) is
 
   module _ (q : Part) (p : above.P Reply) (x : Heard) (answer : (o : steps.Op) → steps.Answer o) (went : Goes q answer (Ret (handed [] m x h))) where
     heard_so : (p' : above.P Reply) → hears [] p x ≡ p' → Goes (with_part sizes q p) answer (lowered sizes (carry_in [] m h) p')
     heard_so p' e =
-        subst (λ (p' : above.P Reply). Goes (with_part sizes q p) answer (lowered sizes (carry_in [] m h) p')) (sym (same_hears sizes p x) ∙ e)
+        subst (λ (p' : above.P Reply). Goes (with_part sizes q p) answer (lowered sizes (carry_in [] m h) p')) (sym (same_hears sizes [] p x) ∙ e)
         (goes_bind q (Ret (handed [] m x h)) (λ r. lowered sizes r.carry (below_hears sizes p r.answer)) answer went)
 
     pub asks_on : (p' : above.P Reply) (op : Op) (next : Part) → hears [] p x ≡ p' → asks p' ≡ Some op → IsPart sizes (carry_in [] m h) op next → Goes (with_part sizes q p) answer (with_part sizes next p')

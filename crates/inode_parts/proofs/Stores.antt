@@ -21,11 +21,10 @@ use Rattle.inode_machine.specs.World as above
 use Rattle.inodes_on_blocks.specs.Handlers as handlers
 use Rattle.inodes_on_blocks.specs.Handlers.{Acts}
 use Rattle.inodes_on_blocks.specs.Lowering.{NothingMore, Carry, Has, record_had}
-use Rattle.whole_calls.specs.declared.asks.Heard.{Heard}
 use Rattle.whole_calls.specs.declared.asks.Heard.TheVariants as heard
 use Rattle.inode_parts.specs.Carries.{carry_in, handed, with_note}
 use Rattle.inode_parts.specs.OneSteps.{HasLock, seat_of_lock}
-use Rattle.inode_parts.specs.Parts.{IsPart}
+use Rattle.inode_parts.specs.Parts.{IsPart, Message}
 use Rattle.inode_parts.specs.Stores.{store_part_left}
 use Rattle.inode_parts.specs.declared.note.Note.TheVariants as note
 use Rattle.inode_parts.specs.declared.note.Notes.{Notes}
@@ -58,7 +57,7 @@ module _ (sizes : Super) (path : List ℕ) (m : Notes) (n count : ℕ) (before :
       bind (store_inode sizes.inodestart v.number d) (λ _. Ret (record { answer = tt {0}; carry = put (carry_in path m before) n (Has d NothingMore) }))
 
   module _ (p : StorePart) (h : Hand) (has : HasLock n before) (seat : p.seat ≡ seat_of_lock n before) (hand : h ≡ with_record (seat_of_lock n before) (counted count (record_of v)) before) where
-    abbrev ends : Handover Heard Carry
+    abbrev ends : Handover Message Carry
     ends = handed path (with_note p.seat note.Nothing m) heard.Did h
 
     -- the handler's record is that in hand
@@ -84,9 +83,9 @@ module _ (path : List ℕ) (m : Notes) (p : StorePart) (before h : Hand) (answer
   pub store_on : (q : StorePart) → q.seat ≡ p.seat → Goes (record_left p.store before) answer (record_left q.store h) → Goes (store_part_left path m p before) answer (store_part_left path m q h)
   store_on q seat goes =
       goes_with (record_left p.store before) (record_left q.store h) (λ _. Ret (handed path (with_note p.seat note.Nothing m) heard.Did before)) (λ _. Ret (handed path (with_note q.seat note.Nothing m) heard.Did h)) answer
-      (λ i _. Ret (record { answer = heard.Did; carry = (beside_buffer path (with_note p.seat note.Nothing m) (record_place p.store) before h same ∙ (λ j. carry_in path (with_note (sym seat j) note.Nothing m) h)) i })) goes
+      (λ i _. Ret (record { answer = (path, heard.Did); carry = (beside_buffer path (with_note p.seat note.Nothing m) (record_place p.store) before h same ∙ (λ j. carry_in path (with_note (sym seat j) note.Nothing m) h)) i })) goes
 
   pub store_ends : (m2 : Notes) → m2 ≡ with_note p.seat note.Nothing m → Goes (record_left p.store before) answer (Ret tt) → Goes (store_part_left path m p before) answer (Ret (handed path m2 heard.Did h))
   store_ends m2 noted goes =
       goes_with (record_left p.store before) (Ret tt) (λ _. Ret (handed path (with_note p.seat note.Nothing m) heard.Did before)) (λ _. Ret (handed path m2 heard.Did h)) answer
-      (λ i _. Ret (record { answer = heard.Did; carry = (beside_buffer path (with_note p.seat note.Nothing m) (record_place p.store) before h same ∙ (λ j. carry_in path (sym noted j) h)) i })) goes
+      (λ i _. Ret (record { answer = (path, heard.Did); carry = (beside_buffer path (with_note p.seat note.Nothing m) (record_place p.store) before h same ∙ (λ j. carry_in path (sym noted j) h)) i })) goes

@@ -29,14 +29,13 @@ use Rattle.inodes_on_blocks.specs.Reading as handlers
 use Rattle.inodes_on_blocks.specs.Reading.{face_in, learned, number_found, search_entries, seen_record}
 use Rattle.whole_calls.specs.Asks.{face_of, query_in, sight_in}
 use Rattle.whole_calls.specs.Elements.{name_in}
-use Rattle.whole_calls.specs.declared.asks.Heard.{Heard}
 use Rattle.whole_calls.specs.declared.asks.Query.{Query}
 use Rattle.whole_calls.specs.declared.asks.Query.TheVariants as query
 use Rattle.whole_calls.specs.declared.elements.Element.{Element}
 use Rattle.inode_parts.specs.Carries.{carry_in, had_of}
 use Rattle.inode_parts.specs.Faces.{face_by, face_unless_free}
 use Rattle.inode_parts.specs.OneSteps.{IsAlone, seat_of_reference}
-use Rattle.inode_parts.specs.Parts.{IsPart, Part}
+use Rattle.inode_parts.specs.Parts.{IsPart, Message, Part}
 use Rattle.inode_parts.specs.Sides.{beside_in}
 use Rattle.inode_parts.specs.Takes.{listed_ends, looked, named_ends, note_of, seen, TakeBegins}
 use Rattle.inode_parts.specs.declared.note.Note.{Note}
@@ -55,8 +54,8 @@ faces_same d = by (is_free d)
     by true = refl
     by false = ap (λ (f : Face). Some f) (face_same d)
 
-abbrev answers : Handover Heard Carry → code.P (Handover Sight Carry)
-answers r = Ret (record { answer = sight_in r.answer; carry = r.carry })
+abbrev answers : Handover Message Carry → code.P (Handover Sight Carry)
+answers r = Ret (record { answer = sight_in r.answer.1; carry = r.carry })
 
 module _ (path : List ℕ) (c : Carry) (n : ℕ) (d : Dinode) where
   -- and what is learned is noted so

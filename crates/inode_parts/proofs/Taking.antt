@@ -102,6 +102,6 @@ pub seen_ends : (path : List ℕ) (m m2 : Notes) (k : Seat) (h : Hand) (l : Note
     → x ≡ heard.Saw (record { face = face_unless_free d; found = found; empty = empty }) → m2 ≡ with_note k l m → seen path (beside_in path m k h) (number_at k h) (record_in k h) l found empty ≡ Ret (handed path m2 x h)
 seen_ends path m m2 k h l d found empty x is taken heard_so noted =
     λ i. Ret (record {
-      answer = (ap (λ (d : Dinode). heard.Saw (record { face = face_unless_free d; found = found; empty = empty })) (sym is) ∙ sym heard_so) i;
+      answer = (path, (ap (λ (d : Dinode). heard.Saw (record { face = face_unless_free d; found = found; empty = empty })) (sym is) ∙ sym heard_so) i);
       carry = (had_now path m k h l (number_at k h) taken.0 taken.1 taken.2 ∙ ap (λ (m : Notes). carry_in path m h) (sym noted)) i;
     })

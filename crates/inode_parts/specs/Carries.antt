@@ -7,6 +7,7 @@ use Rattle.hands.specs.declared.hand.Hand.{Hand}
 use Rattle.inodes_on_blocks.specs.Lowering.{NothingMore, Finds, Opened, Had, Apart, Has, Emptied, Carry}
 use Rattle.whole_calls.specs.Elements.{name_in}
 use Rattle.whole_calls.specs.declared.asks.Heard.{Heard}
+use Rattle.inode_parts.specs.Parts.{Message}
 use Rattle.atomic_programs.specs.Joined.{Handover}
 use Rattle.hands.specs.declared.hand.Seat.{Seat}
 use Rattle.hands.specs.declared.hand.Seat.TheVariants.{One, Two}
@@ -40,6 +41,6 @@ abbrev pub with_note : Seat → Note → Notes → Notes
 with_note One n m = record m { one = n }
 with_note Two n m = record m { two = n }
 
--- how a part ends: what is heard, and what is in hand
-abbrev pub handed : List ℕ → Notes → Heard → Hand → Handover Heard Carry
-handed path m x h = record { answer = x; carry = carry_in path m h }
+-- how a part ends: what is heard, in a call with this text, and what is in hand
+abbrev pub handed : List ℕ → Notes → Heard → Hand → Handover Message Carry
+handed text m x h = record { answer = (text, x); carry = carry_in text m h }

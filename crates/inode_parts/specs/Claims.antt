@@ -25,11 +25,11 @@ claimed_by made.NoPlace = claimed.NoPlace
 claimed_by made.NoInode = claimed.NoInode
 
 -- the locks stay as they are
-abbrev pub claim_ends : Carry → Made → Part
-claim_ends c a = Ret (record { answer = heard.Claimed (claimed_by a); carry = c })
+abbrev pub claim_ends : List ℕ → Carry → Made → Part
+claim_ends text c a = Ret (record { answer = (text, heard.Claimed (claimed_by a)); carry = c })
 
 abbrev pub claim_left : List ℕ → Notes → ClaimPart → Hand → Part
-claim_left path m p h = bind (new_left p.claim h) (claim_ends (carry_in path m h))
+claim_left path m p h = bind (new_left p.claim h) (claim_ends path (carry_in path m h))
 
 abbrev pub claim_asked : ClaimPart → Op
 claim_asked p = new_asked p.claim

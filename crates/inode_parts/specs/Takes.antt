@@ -42,7 +42,7 @@ use Rattle.inode_parts.specs.declared.take_part.TakePart.TheVariants as take
 
 -- what was seen of inode n, and what is had of it
 abbrev pub seen : List ℕ → Carry → ℕ → Dinode → Note → Option ℕ → Bool → Part
-seen path c n d l found empty = Ret (record { answer = heard.Saw (record { face = face_unless_free d; found = found; empty = empty }); carry = put c n (had_of path l (Some d)) })
+seen path c n d l found empty = Ret (record { answer = (path, heard.Saw (record { face = face_unless_free d; found = found; empty = empty })); carry = put c n (had_of path l (Some d)) })
 
 -- the slot under a name
 abbrev pub note_of : Element → Option Found → Note

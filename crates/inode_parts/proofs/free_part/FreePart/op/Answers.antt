@@ -10,4 +10,4 @@ pub returns-clause-asks : goal.returns-clause-asks
 returns-clause-asks c path m =
     let p = c.args.self.now in
     let h = c.args.hand.now in
-    asks_bind (freeing_left p.free h) (free_ends (beside_in path m p.seat h) (number_in p.seat h)) (op_in c.op.new.hand c.op.result) c.op.ensures.asks
+    asks_bind (freeing_left p.free h) (free_ends path (beside_in path m p.seat h) (number_in p.seat h)) (op_in c.op.new.hand c.op.result) c.op.ensures.asks
