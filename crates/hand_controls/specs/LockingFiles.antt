@@ -28,12 +28,12 @@ use Rattle.hand_controls.specs.declared.lock_open.LockOpen.TheVariants as opened
 abbrev pub HasInodeBlocks : ℕ → Type 0
 HasInodeBlocks inodestart = inode_block inodestart (2 ^ 16 - 1) < 2 ^ 32
 
--- the lock of a file's inode is in hand, and that is loaded
+-- the lock of a file's inode is in hand, and that is loaded; it has a block
 abbrev pub HasFile : HeldFile → Hand → Type 0
-HasFile f h = IsLoadedAt f.seat h × (number_in f.seat h ≡ f.file.number) × (h.first ≡ None)
+HasFile f h = IsLoadedAt f.seat h × (number_in f.seat h ≡ f.file.number) × (h.first ≡ None) × (f.file.number < 2 ^ 16)
 
 abbrev pub IsLoadingFile : HeldFile → Hand → Type 0
-IsLoadingFile f h = number_in f.seat h ≡ f.file.number
+IsLoadingFile f h = (number_in f.seat h ≡ f.file.number) × (f.file.number < 2 ^ 16)
 
 -- ---- where it may be had
 
