@@ -42,9 +42,17 @@ pub record IsReading (count : ℕ) (r : Reading) : Type 0 where
   pub within : r.upto ≤ most_bytes
   pub blocks : blocks_between r.from r.upto ≡ count
 
--- there is room for what is left
+-- how many bytes are read in all
+abbrev pub in_all : Reading → ℕ
+in_all r = r.filled + (r.upto - r.from)
+
+abbrev pub read_count : ReadPart → ℕ
+read_count (Fetching r m) = in_all r
+read_count (Giving r) = in_all r
+
+-- there is room for them
 abbrev pub HasRoom : Reading → List ℕ → Type 0
-HasRoom r bytes = r.filled + (r.upto - r.from) ≤ length bytes
+HasRoom r bytes = in_all r ≤ length bytes
 
 abbrev pub ReadReady : List ℕ → ReadPart → Hand → Type 0
 ReadReady bytes (Fetching r m) h = IsReading (r.left + 1) r × HasRoom r bytes × FetchesFirst m h
@@ -57,4 +65,5 @@ pub record HasRead (r : Reading) (bytes block : List ℕ) (next : Reading) (fill
   pub upto : next.upto ≡ r.upto
   pub left : next.left ≡ r.left
   pub ready : IsReading r.left next
+  pub same : in_all next ≡ in_all r
   pub room : HasRoom next filled

@@ -82,11 +82,15 @@ pub record IsWriting (count : ℕ) (w : Writing) : Type 0 where
 abbrev pub IsAmid : List ℕ → Writing → Type 0
 IsAmid bytes w = IsWriting (w.left + 1) w × (w.done ≤ length bytes)
 
+-- the bytes were written up to an offset that a content may have
+abbrev pub IsWithin : Written → Type 0
+IsWithin r = r.upto / block_len ≤ most_blocks
+
 abbrev pub WriteReady : List ℕ → WritePart → Hand → Type 0
 WriteReady bytes (Locating w m) h = IsAmid bytes w × LocateReady m h
 WriteReady bytes (Fetching w d f) h = IsAmid bytes w × FetchReady f h × (fetch_place f ≡ First) × (h.second ≡ None) × IsSome h.txn
 WriteReady bytes (There w d) h = IsAmid bytes w × HasBlock h × IsSome h.txn
-WriteReady bytes (Storing r m) h = StoreReady m h × (store_place m ≡ First) × (h.second ≡ None)
+WriteReady bytes (Storing r m) h = StoreReady m h × (store_place m ≡ First) × (h.second ≡ None) × IsWithin r
 
 -- a part that begins where so many of the bytes were written
 abbrev pub BeginsAmid : ℕ → WritePart → Type 0

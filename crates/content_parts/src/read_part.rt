@@ -1,10 +1,10 @@
 //! A part of a content read.
-ghost use Rattle.std.specs.Prelude.{◌≡◌, ◌+◌, ◌≤◌, ℕ, List, length, Some, None, IsSome, IfSome, IfNone};
+ghost use Rattle.std.specs.Prelude.{◌≡◌, ◌+◌, ◌-◌, ◌≤◌, ℕ, List, length, Some, None, IsSome, IfSome, IfNone};
 ghost use Rattle.std.specs.Option.{MatchOption};
 ghost use Rattle.atomic_programs.specs.Prog.{asks};
 ghost use Rattle.fs_layout.specs.declared.inode.Dinode.{Dinode as DinodeState};
 ghost use Rattle.inode_data.specs.Beginnings.{begun_of, IfBegun};
-ghost use Rattle.inode_data.specs.Programs.{read_blocks, read_from};
+ghost use Rattle.inode_data.specs.Programs.{end_of, read_blocks, read_from};
 ghost use Rattle.hands.specs.Hands.{bytes_at};
 ghost use Rattle.hands.specs.Ops.{op_in, answer_in, CanDo, Prepared, IsAfter};
 ghost use Rattle.hands.specs.Controls.{Goes, left_after};
@@ -12,7 +12,7 @@ ghost use Rattle.hands.specs.declared.hand.Hand.{Hand as HandState};
 ghost use Rattle.hands.specs.declared.hand.Place.TheVariants.{First};
 ghost use Rattle.hand_controls.specs.Locating.{Leaves};
 ghost use Rattle.content_parts.specs.InHand.{NoBuffers};
-ghost use Rattle.content_parts.specs.PartReading.{filled_in, filled_to, read_left, read_asked, HasRead, HasRoom, IsReading, ReadReady};
+ghost use Rattle.content_parts.specs.PartReading.{filled_in, filled_to, in_all, read_count, read_left, read_asked, HasRead, HasRoom, IsReading, ReadReady};
 
 use crate::place::{blocks, copy_into, fetch_of};
 use fs_layout::Dinode;
@@ -50,6 +50,7 @@ impl ReadPart {
             ≡ read_from inode.now offset count bytes }
         ensures ready { (bytes : List ℕ) (h : HandState) → NoBuffers h → count ≤ length bytes
             → IfBegun (λ m. ReadReady bytes m h) (λ _. Unit {0}) result }
+        ensures count { IfBegun (λ m. read_count m ≡ end_of inode.now offset count - offset) (λ n. n ≡ end_of inode.now offset count - offset) result }
     {
         let from = offset as usize;
         let upto = (from + count as usize).min((inode.size as usize).min(BLOCK_LEN * MOST_BLOCKS));
@@ -91,6 +92,8 @@ impl ReadPart {
             (left_after (read_left inode.now memory.new) (λ n _. filled_to n memory.new) result self.new hand.now) }
         ensures ready { IfNone result (ReadReady memory.new self.new hand.now) }
         ensures over { IfSome result (λ _. NoBuffers hand.now) }
+        ensures still { IfNone result (read_count self.new ≡ read_count self.old) }
+        ensures count { IfSome result (λ n. (n ≡ read_count self.old) × (n ≤ length memory.new)) }
         ensures beside { (before : HandState) → ReadReady memory.old self.old before → IsAfter (read_asked self.old) before answer hand.now
             → Leaves before hand.now }
     {
@@ -123,6 +126,7 @@ fn next(inode: &Dinode, reading: &Reading) -> Begun<ReadPart, usize>
         ≡ read_blocks reading.now.left inode.now reading.now.from reading.now.upto (filled_in reading.now bytes) }
     ensures ready { (bytes : List ℕ) (h : HandState) → NoBuffers h → HasRoom reading.now bytes
         → IfBegun (λ m. ReadReady bytes m h) (λ _. Unit {0}) result }
+    ensures count { IfBegun (λ m. read_count m ≡ in_all reading.now) (λ n. n ≡ in_all reading.now) result }
 {
     if reading.left == 0 {
         return Begun::Is(reading.filled);

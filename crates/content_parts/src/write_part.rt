@@ -11,7 +11,7 @@ ghost use Rattle.hands.specs.Controls.{Goes, left_after};
 ghost use Rattle.hands.specs.declared.hand.Hand.{Hand as HandState};
 ghost use Rattle.hand_controls.specs.Locating.{Leaves};
 ghost use Rattle.content_parts.specs.InHand.{NoBuffers};
-ghost use Rattle.content_parts.specs.PartWriting.{after_location, stored, write_left, write_asked, write_rest, written_as, written_so, BeginsAmid, IsPast, IsWriting, WriteReady};
+ghost use Rattle.content_parts.specs.PartWriting.{after_location, stored, write_left, write_asked, write_rest, written_as, written_so, BeginsAmid, IsPast, IsWithin, IsWriting, WriteReady};
 
 use crate::locating::seek;
 use crate::place::{blocks, write_at};
@@ -108,6 +108,7 @@ impl WritePart {
         ensures ready { IfNone result (WriteReady bytes.now self.new hand.new) }
         ensures same { hand.new ≡ hand.old }
         ensures over { IfSome result (λ _. NoBuffers hand.new) }
+        ensures within { IfSome result (λ r. IsWithin r) }
         ensures beside { (before : HandState) → WriteReady bytes.now self.old before
             → IsAfter (write_asked self.old) before answer hand.old → Leaves before hand.old }
     {
