@@ -10,7 +10,7 @@ use Rattle.plain_tree.specs.declared.answer.Reply.{Reply}
 use Rattle.plain_tree.specs.declared.answer.Answer.{Answer as CallAnswer}
 use Rattle.plain_tree.specs.declared.call.Call.{Call}
 use Rattle.atomic_programs.specs.Prog.{Ret, Do}
-use Rattle.whole_calls.specs.Elements.{name_in}
+use Rattle.whole_calls.specs.Elements.{name_in, IsElement}
 use Rattle.inode_machine.specs.Inodes as whole
 use Rattle.tree_moves.specs.Moves as moves
 use Rattle.inode_machine.specs.World as world
@@ -89,6 +89,17 @@ op_in path (ask.Settle n) = world.Settle n
 op_in path ask.Join = world.Join
 op_in path ask.Leave = world.Leave
 op_in path ask.Say = world.Say
+
+-- a name that is sought or entered is an element of the path
+abbrev pub IsSought : List ℕ → Query → Type 0
+IsSought path query.Nothing = Unit {0}
+IsSought path (query.Name e) = IsElement path e
+IsSought path query.Entries = Unit {0}
+
+abbrev pub IsNamed : List ℕ → Ask → Type 0
+IsNamed path (ask.Take n q) = IsSought path q
+IsNamed path (ask.Enter d e n) = IsElement path e
+IsNamed path a = Unit {0}
 
 -- ---- what is heard
 

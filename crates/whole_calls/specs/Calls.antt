@@ -7,7 +7,7 @@ use Rattle.plain_tree.specs.declared.answer.Reply.{Reply}
 use Rattle.plain_tree.specs.declared.call.Call.TheVariants as calls
 use Rattle.plain_tree.specs.declared.step.Action.TheVariants as steps
 use Rattle.atomic_programs.specs.Prog.{Do, unmarked}
-use Rattle.whole_calls.specs.Elements.{name_in}
+use Rattle.whole_calls.specs.Elements.{name_in, IsElement}
 use Rattle.inode_machine.specs.Inodes.{Face}
 use Rattle.inode_machine.specs.World.Op.{Give, Store, Settle, Join}
 use Rattle.inode_machine.specs.Parts.{P, failed, done, drop, give_up, tail, say, stopped}
@@ -25,6 +25,7 @@ use Rattle.whole_calls.specs.declared.descriptors.Dup.{Dup}
 use Rattle.whole_calls.specs.declared.descriptors.Dup.TheVariants as dup
 use Rattle.whole_calls.specs.declared.descriptors.Fstat.{Fstat}
 use Rattle.whole_calls.specs.declared.descriptors.Fstat.TheVariants as fstat
+use Rattle.whole_calls.specs.declared.elements.Element.{Element}
 use Rattle.whole_calls.specs.declared.unlink.Unlink.{Unlink}
 use Rattle.whole_calls.specs.declared.unlink.Unlink.TheVariants as unlink
 use Rattle.whole_calls.specs.declared.walk.Goal.TheVariants as goal
@@ -35,16 +36,18 @@ use Rattle.whole_calls.specs.declared.walk.Walk.TheVariants as walking
 abbrev pub most_listed : ℕ
 most_listed = 128
 
--- where a call with a path is: it begins, it walks, or its walks are behind it
+-- where a call with a path is: it begins, it walks, its walk is behind it and a name is to be sought or entered, or that too is behind it
 pub data Stage : Type 0 where
   Fresh : Stage
   Walks : Walk → Stage
+  Names : Element → Stage
   Past : Stage
 
--- its list has room, and the places of its walk are in the path
+-- its list has room, and the places of its walk and of its name are in the path
 abbrev pub Fits : List ℕ → List ℕ → Stage → Type 0
 Fits path ns Fresh = (ns ≡ []) × (length (elements path) ≤ most_listed)
 Fits path ns (Walks w) = Stands path w × (length ns + most_left path w ≤ most_listed)
+Fits path ns (Names e) = IsElement path e
 Fits path ns Past = Unit {0}
 
 abbrev pub FitsOn : {C : Type 0} → (C → Stage) → List ℕ → List ℕ → Turn C CallAnswer → Type 0
@@ -115,4 +118,5 @@ unlink_of path ns (unlink.Ends e) = ending_of (calls.Unlink path) ns e
 abbrev pub unlink_stage : Unlink → Stage
 unlink_stage unlink.Join = Fresh
 unlink_stage (unlink.Walks w) = Walks w
+unlink_stage (unlink.Look d e) = Names e
 unlink_stage c = Past

@@ -8,7 +8,7 @@ use Rattle.plain_tree.specs.declared.call.Call.TheVariants as calls
 use Rattle.plain_tree.specs.declared.step.Action.{Action}
 use Rattle.plain_tree.specs.declared.step.Action.TheVariants as steps
 use Rattle.atomic_programs.specs.Prog.{Do}
-use Rattle.whole_calls.specs.Elements.{name_in}
+use Rattle.whole_calls.specs.Elements.{name_in, IsElement}
 use Rattle.inode_machine.specs.Inodes.{Face, is_directory_sort}
 use Rattle.inode_machine.specs.World.Op.{Store, Enter}
 use Rattle.inode_machine.specs.Parts.{P, own_step, failed, done, drop, give_up, tail, stopped}
@@ -19,6 +19,7 @@ use Rattle.whole_calls.specs.Ends.{dropping_of, ending_of}
 use Rattle.whole_calls.specs.Walks.{After, Stands, most_left, walk_of}
 use Rattle.whole_calls.specs.declared.asks.Turn.{Turn}
 use Rattle.whole_calls.specs.declared.asks.Turn.TheVariants as turn
+use Rattle.whole_calls.specs.declared.elements.Element.{Element}
 use Rattle.whole_calls.specs.declared.link.Link.{Link}
 use Rattle.whole_calls.specs.declared.link.Link.TheVariants as linking
 use Rattle.whole_calls.specs.declared.walk.Goal.TheVariants as goal
@@ -29,6 +30,7 @@ pub data LinkStage : Type 0 where
   WalksOld : Walk → LinkStage
   Between : LinkStage
   WalksNew : Walk → LinkStage
+  Names : Element → LinkStage
   Past : LinkStage
 
 abbrev pub link_stage : Link → LinkStage
@@ -38,6 +40,8 @@ link_stage (linking.Take n) = Between
 link_stage (linking.Raise n f) = Between
 link_stage (linking.Give n) = Between
 link_stage (linking.WalksNew w n) = WalksNew w
+link_stage (linking.Look d e n) = Names e
+link_stage (linking.Enter d e n) = Names e
 link_stage c = Past
 
 module _ (old new : List ℕ) where
@@ -84,12 +88,13 @@ module _ (old new : List ℕ) where
   link_action (linking.WalksOld w) = steps.Find old
   link_action c = steps.Enter new
 
-  -- where it is: at its beginning, on the old path, between the two, on the new one, or past that
+  -- where it is: at its beginning, on the old path, between the two, on the new one, at the name that is entered there, or past that
   abbrev pub LinkFits : List ℕ → LinkStage → Type 0
   LinkFits ns Fresh = (ns ≡ []) × (length (elements old) + length (elements new) ≤ most_listed)
   LinkFits ns (WalksOld w) = Stands old w × (length ns + most_left old w + length (elements new) ≤ most_listed)
   LinkFits ns Between = length ns + length (elements new) ≤ most_listed
   LinkFits ns (WalksNew w) = Stands new w × (length ns + most_left new w ≤ most_listed)
+  LinkFits ns (Names e) = IsElement new e
   LinkFits ns Past = Unit {0}
 
   abbrev pub LinkFitsOn : List ℕ → Turn Link CallAnswer → Type 0

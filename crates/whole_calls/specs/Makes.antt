@@ -15,7 +15,7 @@ use Rattle.inode_machine.specs.Parts.{P, mends_if_full, failed, full, done, give
 use Rattle.inode_machine.specs.Opening.{entered_file, mends_unless_new, unmake}
 use Rattle.inode_machine.specs.Naming.{mkdir_in, mkdir_other, mkdir_program, mkdir_with, name_directory}
 use Rattle.whole_calls.specs.Asks.{face_of, reply_to}
-use Rattle.whole_calls.specs.Calls.{Stage, Fresh, Walks, Past}
+use Rattle.whole_calls.specs.Calls.{Stage, Fresh, Walks, Names, Past}
 use Rattle.whole_calls.specs.Ends.{ending_of}
 use Rattle.whole_calls.specs.Walks.{After, walk_of}
 use Rattle.whole_calls.specs.declared.opens.NewName.{NewName}
@@ -54,4 +54,10 @@ mkdir_of path ns (making.Ends e) = ending_of (calls.Mkdir path) ns e
 abbrev pub mkdir_stage : Mkdir → Stage
 mkdir_stage making.Join = Fresh
 mkdir_stage (making.Walks w) = Walks w
+mkdir_stage (making.Look d e) = Names e
+mkdir_stage (making.Claim d e f) = Names e
+mkdir_stage (making.TakeNew x f) = Names x.element
+mkdir_stage (making.StoreNew x f) = Names x.element
+mkdir_stage (making.Fill x f) = Names x.element
+mkdir_stage (making.Enter x f) = Names x.element
 mkdir_stage c = Past

@@ -14,7 +14,7 @@ use Rattle.inode_machine.specs.World.Op.{Claim, Forget, Up, Store, Enter, Empty,
 use Rattle.inode_machine.specs.Parts.{P, own_step, mends_if_full, full, give_up, tail, stopped}
 use Rattle.inode_machine.specs.Opening.{create_in, empties, entered_file, file_for, installed_on, installs, make_on, make_other, mends_unless_new, make_with, open_at, open_end, open_made, open_program, take_descriptor, truncates}
 use Rattle.whole_calls.specs.Asks.{reply_to, sort_of}
-use Rattle.whole_calls.specs.Calls.{Stage, Fresh, Walks, Past}
+use Rattle.whole_calls.specs.Calls.{Stage, Fresh, Walks, Names, Past}
 use Rattle.whole_calls.specs.Ends.{dropping_of, ending_of}
 use Rattle.inode_machine.specs.Inodes.{OfFile}
 use Rattle.whole_calls.specs.Walks.{After, walk_of}
@@ -70,4 +70,9 @@ open_of path flags ns (opening.Ends e) = ending_of (calls.Open path flags) ns e
 abbrev pub open_stage : Open → Stage
 open_stage opening.Join = Fresh
 open_stage (opening.Walks w) = Walks w
+open_stage (opening.Look d e) = Names e
+open_stage (opening.Claim d e) = Names e
+open_stage (opening.TakeNew x) = Names x.element
+open_stage (opening.StoreNew x sort) = Names x.element
+open_stage (opening.Enter x sort) = Names x.element
 open_stage c = Past

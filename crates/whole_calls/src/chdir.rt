@@ -2,7 +2,7 @@
 ghost use Rattle.std.specs.Prelude.{◌≡◌, ◌≢◌, ◌≤◌, ◌+◌, ℕ, All, [], List, Option, Some, length};
 ghost use Rattle.plain_tree.specs.declared.call.Call.TheVariants as calls;
 ghost use Rattle.plain_tree.specs.declared.step.Action.TheVariants as steps;
-ghost use Rattle.whole_calls.specs.Asks.{asks, hears, mark_at, marked_as, op_in, turned};
+ghost use Rattle.whole_calls.specs.Asks.{asks, hears, mark_at, marked_as, op_in, turned, IsNamed};
 ghost use Rattle.whole_calls.specs.Calls.{chdir_of, chdir_stage, Fits, FitsOn, Fresh, chdir_after};
 ghost use Rattle.inode_machine.specs.Moving.{chdir_program};
 ghost use Rattle.whole_calls.specs.Walks.{StandsAt, most_walked, walked_to};
@@ -46,7 +46,8 @@ impl Chdir {
     }
 
     pub fn ask(&self, path: &[u8]) -> Ask
-        ensures { (list : List ℕ) → asks (chdir_of path.now list self.now) ≡ Some (op_in path.now result) }
+        ensures asks { (list : List ℕ) → asks (chdir_of path.now list self.now) ≡ Some (op_in path.now result) }
+        ensures named { (list : List ℕ) → Fits path.now list (chdir_stage self.now) → IsNamed path.now result }
     {
         match self {
             Chdir::Join => Ask::Join,

@@ -2,7 +2,7 @@
 ghost use Rattle.std.specs.Prelude.{◌≡◌, ◌≤◌, ℕ, [], List, Option, Some};
 ghost use Rattle.plain_tree.specs.declared.call.Call.TheVariants as calls;
 ghost use Rattle.plain_tree.specs.declared.step.Action.TheVariants as steps;
-ghost use Rattle.whole_calls.specs.Asks.{asks, hears, loan_of, mark_at, marked_as, op_in, turned};
+ghost use Rattle.whole_calls.specs.Asks.{asks, hears, loan_of, mark_at, marked_as, op_in, turned, IsNamed};
 ghost use Rattle.whole_calls.specs.Closes.{close_of, inherit_of};
 ghost use Rattle.inode_machine.specs.Descriptors.{close_program};
 ghost use Rattle.inode_machine.specs.Moving.{inherit_program, lend_from, lend_on};
@@ -29,7 +29,8 @@ impl Close {
     }
 
     pub fn ask(&self, fd: u32) -> Ask
-        ensures { asks (close_of fd self.now) ≡ Some (op_in [] result) }
+        ensures asks { asks (close_of fd self.now) ≡ Some (op_in [] result) }
+        ensures named { (path : List ℕ) → IsNamed path result }
     {
         match self {
             Close::Shut => Ask::Shut(fd),
@@ -111,7 +112,8 @@ impl Inherit {
     }
 
     pub fn ask(&self, child: u8) -> Ask
-        ensures { asks (inherit_of child self.now) ≡ Some (op_in [] result) }
+        ensures asks { asks (inherit_of child self.now) ≡ Some (op_in [] result) }
+        ensures named { (path : List ℕ) → IsNamed path result }
     {
         match self {
             Inherit::Lend(_, from) => Ask::Lend(child, *from),

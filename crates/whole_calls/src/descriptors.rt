@@ -2,7 +2,7 @@
 ghost use Rattle.std.specs.Prelude.{◌≡◌, ℕ, [], List, Option, Some};
 ghost use Rattle.plain_tree.specs.declared.call.Call.TheVariants as calls;
 ghost use Rattle.plain_tree.specs.declared.step.Action.TheVariants as steps;
-ghost use Rattle.whole_calls.specs.Asks.{asks, hears, mark_at, marked_as, op_in, turned, face_of};
+ghost use Rattle.whole_calls.specs.Asks.{asks, hears, mark_at, marked_as, op_in, turned, face_of, IsNamed};
 ghost use Rattle.whole_calls.specs.Calls.{dup_of, stat_of};
 ghost use Rattle.inode_machine.specs.Descriptors.{dup_program, stat_program};
 ghost use Rattle.plain_tree.specs.declared.answer.Answer.TheVariants as answers;
@@ -26,7 +26,8 @@ impl Dup {
     }
 
     pub fn ask(&self, fd: u32) -> Ask
-        ensures { asks (dup_of fd self.now) ≡ Some (op_in [] result) }
+        ensures asks { asks (dup_of fd self.now) ≡ Some (op_in [] result) }
+        ensures named { (path : List ℕ) → IsNamed path result }
     {
         match self {
             Dup::Double => Ask::Double(fd),
@@ -92,7 +93,8 @@ impl Fstat {
     }
 
     pub fn ask(&self, fd: u32) -> Ask
-        ensures { asks (stat_of fd self.now) ≡ Some (op_in [] result) }
+        ensures asks { asks (stat_of fd self.now) ≡ Some (op_in [] result) }
+        ensures named { (path : List ℕ) → IsNamed path result }
     {
         match self {
             Fstat::Look => Ask::StatFile(fd),

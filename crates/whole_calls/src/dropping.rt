@@ -2,7 +2,7 @@
 ghost use Rattle.std.specs.Prelude.{◌≡◌, ℕ, List, Option, Some};
 ghost use Rattle.plain_tree.specs.declared.answer.Reply.{Reply};
 ghost use Rattle.plain_tree.specs.declared.step.Action.{Action};
-ghost use Rattle.whole_calls.specs.Asks.{asks, hears, mark_at, marked_as, op_in};
+ghost use Rattle.whole_calls.specs.Asks.{asks, hears, mark_at, marked_as, op_in, IsNamed};
 ghost use Rattle.whole_calls.specs.Ends.{after_drop, dropping_of};
 ghost use Rattle.inode_machine.specs.Parts.{P};
 
@@ -20,7 +20,8 @@ pub enum Dropping {
 
 impl Dropping {
     pub fn ask(&self) -> Ask
-        ensures { (path : List ℕ) (k : P Reply) → asks (dropping_of k self.now) ≡ Some (op_in path result) }
+        ensures asks { (path : List ℕ) (k : P Reply) → asks (dropping_of k self.now) ≡ Some (op_in path result) }
+        ensures named { (path : List ℕ) → IsNamed path result }
     {
         match self {
             Dropping::Give(n) | Dropping::GiveFreed(n) => Ask::Give(*n),

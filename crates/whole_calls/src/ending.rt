@@ -3,7 +3,7 @@ ghost use Rattle.std.specs.Prelude.{◌≡◌, ℕ, List, Option, Some};
 ghost use Rattle.plain_tree.specs.declared.answer.Reply.{Reply};
 ghost use Rattle.plain_tree.specs.declared.call.Call.{Call};
 ghost use Rattle.plain_tree.specs.declared.step.Action.{Action};
-ghost use Rattle.whole_calls.specs.Asks.{asks, hears, mark_at, marked_as, op_in, reply_to, turned};
+ghost use Rattle.whole_calls.specs.Asks.{asks, hears, mark_at, marked_as, op_in, reply_to, turned, IsNamed};
 ghost use Rattle.whole_calls.specs.Ends.{after_free, ending_of, freeing_of};
 ghost use Rattle.inode_machine.specs.Parts.{P, free_all, say, tail};
 
@@ -23,7 +23,8 @@ pub enum Freeing {
 
 impl Freeing {
     pub fn ask(&self) -> Ask
-        ensures { (path : List ℕ) (k : P Reply) → asks (freeing_of k self.now) ≡ Some (op_in path result) }
+        ensures asks { (path : List ℕ) (k : P Reply) → asks (freeing_of k self.now) ≡ Some (op_in path result) }
+        ensures named { (path : List ℕ) → IsNamed path result }
     {
         match self {
             Freeing::Join(_) => Ask::Join,
@@ -79,7 +80,8 @@ fn free_next(list: &mut Numbers, answer: Answer) -> Ending
 
 impl Ending {
     pub fn ask(&self) -> Ask
-        ensures { (path : List ℕ) (call : Call) (list : List ℕ) → asks (ending_of call list self.now) ≡ Some (op_in path result) }
+        ensures asks { (path : List ℕ) (call : Call) (list : List ℕ) → asks (ending_of call list self.now) ≡ Some (op_in path result) }
+        ensures named { (path : List ℕ) → IsNamed path result }
     {
         match self {
             Ending::GivesTwo(dropping, _, _) | Ending::Gives(dropping, _) => dropping.ask(),

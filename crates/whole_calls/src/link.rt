@@ -3,8 +3,8 @@ ghost use Rattle.std.specs.Prelude.{◌≡◌, ◌≢◌, ◌≤◌, ◌+◌, �
 ghost use Rattle.plain_tree.specs.Tree.{elements};
 ghost use Rattle.plain_tree.specs.declared.call.Call.TheVariants as calls;
 ghost use Rattle.plain_tree.specs.declared.step.Action.TheVariants as steps;
-ghost use Rattle.whole_calls.specs.Asks.{asks, entered_of, face_of, hears, mark_at, marked_as, op_in, reply_to, sight_of, turned};
-ghost use Rattle.whole_calls.specs.Elements.{name_in};
+ghost use Rattle.whole_calls.specs.Asks.{asks, entered_of, face_of, hears, mark_at, marked_as, op_in, reply_to, sight_of, turned, IsNamed};
+ghost use Rattle.whole_calls.specs.Elements.{name_in, IsElement};
 ghost use Rattle.inode_machine.specs.Inodes.{face_or};
 ghost use Rattle.whole_calls.specs.Links.{link_action, link_of, link_text, new_after, old_after, link_stage, LinkFits, LinkFitsOn, Fresh, Past, took};
 ghost use Rattle.inode_machine.specs.Naming.{bump_refused, link_at, link_found, link_program, lower, named_on};
@@ -122,7 +122,7 @@ fn fail(directory: u32, number: u32, answer: Answer) -> Link
 /// What the directory has under the name.
 fn looked(directory: u32, element: Element, number: u32, found: Option<u32>) -> Link
     ensures program { (old new list : List ℕ) → link_of old new list result ≡ link_found old new number directory (name_in new element) list found }
-    ensures past { link_stage result ≡ Past }
+    ensures fits { (old new list : List ℕ) → IsElement new element → LinkFits old new list (link_stage result) }
 {
     match found {
         Some(_) => fail(directory, number, Answer::Failed(Cause::Exists)),
@@ -160,7 +160,8 @@ impl Link {
     }
 
     pub fn ask(&self, old: &[u8], new: &[u8]) -> Ask
-        ensures { (list : List ℕ) → asks (link_of old.now new.now list self.now) ≡ Some (op_in (link_text old.now new.now self.now) result) }
+        ensures asks { (list : List ℕ) → asks (link_of old.now new.now list self.now) ≡ Some (op_in (link_text old.now new.now self.now) result) }
+        ensures named { (list : List ℕ) → LinkFits old.now new.now list (link_stage self.now) → IsNamed (link_text old.now new.now self.now) result }
     {
         match self {
             Link::Join => Ask::Join,

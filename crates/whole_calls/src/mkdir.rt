@@ -3,9 +3,9 @@ ghost use Rattle.std.specs.Prelude.{◌≡◌, ◌≢◌, ◌≤◌, ◌+◌, �
 ghost use Rattle.plain_tree.specs.Tree.{elements};
 ghost use Rattle.plain_tree.specs.declared.call.Call.TheVariants as calls;
 ghost use Rattle.plain_tree.specs.declared.step.Action.TheVariants as steps;
-ghost use Rattle.whole_calls.specs.Asks.{asks, claimed_of, entered_of, face_of, hears, mark_at, marked_as, op_in, reply_to, sight_of, turned};
+ghost use Rattle.whole_calls.specs.Asks.{asks, claimed_of, entered_of, face_of, hears, mark_at, marked_as, op_in, reply_to, sight_of, turned, IsNamed};
 ghost use Rattle.whole_calls.specs.Calls.{Fits, FitsOn, Fresh, Past};
-ghost use Rattle.whole_calls.specs.Elements.{name_in};
+ghost use Rattle.whole_calls.specs.Elements.{name_in, IsElement};
 ghost use Rattle.inode_machine.specs.Inodes.{face_or};
 ghost use Rattle.whole_calls.specs.Makes.{mkdir_after, mkdir_of, mkdir_stage};
 ghost use Rattle.inode_machine.specs.Naming.{mkdir_on, mkdir_program, mkdir_refused, mkdir_with, name_directory};
@@ -93,7 +93,7 @@ fn refusal(sight: &Sight) -> Option<Cause>
 fn looked(directory: u32, element: Element, sight: &Sight) -> Mkdir
     ensures program { (path list : List ℕ) → mkdir_of path list result ≡
         mkdir_on path directory (name_in path element) list (face_or (sight_of sight.now).face) (mkdir_refused sight.now.found (face_or (sight_of sight.now).face)) }
-    ensures past { mkdir_stage result ≡ Past }
+    ensures fits { (path list : List ℕ) → IsElement path element → Fits path list (mkdir_stage result) }
 {
     match refusal(sight) {
         Some(cause) => refuse(directory, Answer::Failed(cause)),
@@ -103,7 +103,7 @@ fn looked(directory: u32, element: Element, sight: &Sight) -> Mkdir
 
 fn claimed(directory: u32, element: Element, face: Face, claimed: Claimed) -> Mkdir
     ensures program { (path list : List ℕ) → mkdir_of path list result ≡ mkdir_with path directory (name_in path element) list (face_of face) (claimed_of claimed) }
-    ensures past { mkdir_stage result ≡ Past }
+    ensures fits { (path list : List ℕ) → IsElement path element → Fits path list (mkdir_stage result) }
 {
     match claimed {
         Claimed::NoInode => refuse(directory, Answer::Full(Full::DiskInodes)),
@@ -140,7 +140,8 @@ impl Mkdir {
     }
 
     pub fn ask(&self, path: &[u8]) -> Ask
-        ensures { (list : List ℕ) → asks (mkdir_of path.now list self.now) ≡ Some (op_in path.now result) }
+        ensures asks { (list : List ℕ) → asks (mkdir_of path.now list self.now) ≡ Some (op_in path.now result) }
+        ensures named { (list : List ℕ) → Fits path.now list (mkdir_stage self.now) → IsNamed path.now result }
     {
         match self {
             Mkdir::Join => Ask::Join,

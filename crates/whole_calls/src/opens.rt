@@ -4,9 +4,9 @@ ghost use Rattle.plain_tree.specs.Steps.{creates, has};
 ghost use Rattle.plain_tree.specs.Tree.{elements};
 ghost use Rattle.plain_tree.specs.declared.call.Call.TheVariants as calls;
 ghost use Rattle.plain_tree.specs.declared.step.Action.TheVariants as steps;
-ghost use Rattle.whole_calls.specs.Asks.{asks, claimed_of, entered_of, face_of, hears, mark_at, marked_as, op_in, reply_to, sight_of, sort_of, turned};
+ghost use Rattle.whole_calls.specs.Asks.{asks, claimed_of, entered_of, face_of, hears, mark_at, marked_as, op_in, reply_to, sight_of, sort_of, turned, IsNamed};
 ghost use Rattle.whole_calls.specs.Calls.{Fits, FitsOn, Fresh, Past};
-ghost use Rattle.whole_calls.specs.Elements.{name_in};
+ghost use Rattle.whole_calls.specs.Elements.{name_in, IsElement};
 ghost use Rattle.inode_machine.specs.Inodes.{face_or, open_refusal};
 ghost use Rattle.inode_machine.specs.Opening.{create_found, empties, make_on, make_with, open_face, open_program};
 ghost use Rattle.whole_calls.specs.Opens.{installed, open_after, open_goal, open_of, open_stage};
@@ -195,7 +195,7 @@ fn installed(found: Found, flags: u32, fd: Option<u32>) -> Open
 /// What the directory has under the name.
 fn looked(directory: u32, element: Element, number: Option<u32>) -> Open
     ensures program { (path : List ℕ) (flags : ℕ) (list : List ℕ) → open_of path flags list result ≡ create_found path flags directory (name_in path element) list number }
-    ensures past { open_stage result ≡ Past }
+    ensures fits { (path list : List ℕ) → IsElement path element → Fits path list (open_stage result) }
 {
     match number {
         None => Open::Claim(directory, element),
@@ -206,7 +206,7 @@ fn looked(directory: u32, element: Element, number: Option<u32>) -> Open
 /// A new inode was wanted.
 fn claimed(directory: u32, element: Element, claimed: Claimed) -> Open
     ensures program { (path : List ℕ) (flags : ℕ) (list : List ℕ) → open_of path flags list result ≡ make_with path flags directory (name_in path element) list (claimed_of claimed) }
-    ensures past { open_stage result ≡ Past }
+    ensures fits { (path list : List ℕ) → IsElement path element → Fits path list (open_stage result) }
 {
     match claimed {
         Claimed::NoInode => refuse(directory, Answer::Full(Full::DiskInodes)),
@@ -245,7 +245,8 @@ impl Open {
     }
 
     pub fn ask(&self, path: &[u8], flags: u32) -> Ask
-        ensures { (list : List ℕ) → asks (open_of path.now flags list self.now) ≡ Some (op_in path.now result) }
+        ensures asks { (list : List ℕ) → asks (open_of path.now flags list self.now) ≡ Some (op_in path.now result) }
+        ensures named { (list : List ℕ) → Fits path.now list (open_stage self.now) → IsNamed path.now result }
     {
         match self {
             Open::Join => Ask::Join,

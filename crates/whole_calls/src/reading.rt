@@ -2,7 +2,7 @@
 ghost use Rattle.std.specs.Prelude.{◌≡◌, ◌≤◌, ◌<◌, ◌^◌, ℕ, [], List, Option, Some, length};
 ghost use Rattle.plain_tree.specs.declared.call.Call.TheVariants as calls;
 ghost use Rattle.plain_tree.specs.declared.step.Action.TheVariants as steps;
-ghost use Rattle.whole_calls.specs.Asks.{asks, hears, mark_at, marked_as, op_in, turned, count_in};
+ghost use Rattle.whole_calls.specs.Asks.{asks, hears, mark_at, marked_as, op_in, turned, count_in, IsNamed};
 ghost use Rattle.inode_machine.specs.Descriptors.{read_program};
 ghost use Rattle.whole_calls.specs.Reads.{FilledFrom, ReadFits, ReadFitsOn, read_of};
 
@@ -26,7 +26,8 @@ impl Read {
     }
 
     pub fn ask(&self, fd: u32, buffer: &[u8]) -> Ask
-        ensures { (text : List ℕ) → asks (read_of fd buffer.now self.now) ≡ Some (op_in text result) }
+        ensures asks { (text : List ℕ) → asks (read_of fd buffer.now self.now) ≡ Some (op_in text result) }
+        ensures named { (path : List ℕ) → IsNamed path result }
     {
         match self {
             Read::Lock => Ask::LockFile(fd),

@@ -2,7 +2,7 @@
 ghost use Rattle.std.specs.Prelude.{◌≡◌, ◌≢◌, ◌≤◌, ◌+◌, ℕ, All, [], List, Option, Some, length};
 ghost use Rattle.plain_tree.specs.declared.call.Call.TheVariants as calls;
 ghost use Rattle.plain_tree.specs.declared.step.Action.TheVariants as steps;
-ghost use Rattle.whole_calls.specs.Asks.{asks, face_of, hears, mark_at, marked_as, op_in, turned, reply_to, sight_of};
+ghost use Rattle.whole_calls.specs.Asks.{asks, face_of, hears, mark_at, marked_as, op_in, turned, reply_to, sight_of, IsNamed};
 ghost use Rattle.whole_calls.specs.Calls.{Fits, FitsOn, Fresh, Past, unlink_stage, cleared, gave_parent, is_dots, unlink_after, unlink_of};
 ghost use Rattle.inode_machine.specs.Inodes.{is_directory_sort, face_or};
 ghost use Rattle.inode_machine.specs.Naming.{unlink_program, unlink_found};
@@ -121,7 +121,8 @@ impl Unlink {
     }
 
     pub fn ask(&self, path: &[u8]) -> Ask
-        ensures { (list : List ℕ) → asks (unlink_of path.now list self.now) ≡ Some (op_in path.now result) }
+        ensures asks { (list : List ℕ) → asks (unlink_of path.now list self.now) ≡ Some (op_in path.now result) }
+        ensures named { (list : List ℕ) → Fits path.now list (unlink_stage self.now) → IsNamed path.now result }
     {
         match self {
             Unlink::Join => Ask::Join,

@@ -1,7 +1,7 @@
 //! A call under way over whole inodes, whichever it is.
 ghost use Rattle.std.specs.Prelude.{◌≡◌, ◌≤◌, ℕ, [], List, Option, Some, length};
 ghost use Rattle.plain_tree.specs.declared.call.Call.{Call};
-ghost use Rattle.whole_calls.specs.Asks.{asks, count_in, hears, mark_at, marked_as, op_in, reply_to};
+ghost use Rattle.whole_calls.specs.Asks.{asks, count_in, hears, mark_at, marked_as, op_in, reply_to, IsNamed};
 ghost use Rattle.inode_machine.specs.Programs.{program};
 ghost use Rattle.whole_calls.specs.Wholes.{HasRoomFor, IsCall, WholeFits, action_in, call_in, text_in, went_to, whole_of};
 
@@ -91,7 +91,8 @@ impl Whole {
 
     /// The next operation. Its names stand in the call's path, its pieces in its bytes.
     pub fn ask(&self) -> Ask
-        ensures { (list : List ℕ) → asks (whole_of list self.now) ≡ Some (op_in (text_in self.now) result) }
+        ensures asks { (list : List ℕ) → asks (whole_of list self.now) ≡ Some (op_in (text_in self.now) result) }
+        ensures named { (list : List ℕ) → WholeFits list self.now → IsNamed (text_in self.now) result }
     {
         match self {
             Whole::Open { path, flags, at } => at.ask(path.as_slice(), *flags),
