@@ -35,8 +35,8 @@ use Rattle.whole_calls.specs.declared.asks.Heard.TheVariants as heard
 use Rattle.inode_parts.specs.Carries.{carry_in, had_at, had_of}
 use Rattle.inode_parts.specs.Parts.{IsPart, one}
 use Rattle.inode_parts.specs.OneSteps.{Begins, HasReference, IsAlone, joining_heard, loan_heard, locks, seat_of_lock, seat_of_reference, still}
-use Rattle.inode_parts.specs.Enters.{AskStands}
-use Rattle.inode_parts.specs.InodeParts.{ends_with, part_for, part_left, PartBegins, PartReady, one_or_leave, AskTold, PartTold}
+use Rattle.inode_parts.specs.Leaving.{having}
+use Rattle.inode_parts.specs.InodeParts.{ends_with, part_for, part_left, PartBegins, PartReady, one_or_leave, PartTold}
 use Rattle.inode_parts.specs.declared.note.Note.{Note}
 use Rattle.inode_parts.specs.declared.note.Note.TheVariants as note
 use Rattle.inode_parts.specs.declared.note.Notes.{Notes}
@@ -141,25 +141,8 @@ module _ (sizes : Super) (path : List ℕ) (m : Notes) (h : Hand) where
 
 -- ---- what is asked
 
-pub may_begin : (sizes : Super) (path : List ℕ) (m : Notes) (op : above.Op) (h : Hand) → Begins op h → PartBegins sizes path m op h
-may_begin sizes path m (above.Store n count) h has = absurd has
-may_begin sizes path m (above.Empty n) h has = absurd has
-may_begin sizes path m (above.Enter d e n) h has = absurd has
-may_begin sizes path m (above.Clear d e) h has = absurd has
-may_begin sizes path m (above.Fill n d) h has = absurd has
-may_begin sizes path m (above.Free n) h has = absurd has
-may_begin sizes path m (above.Claim sort) h has = absurd has
-may_begin sizes path m (above.LockOpen fd n) h has = absurd has
-may_begin sizes path m (above.LockFile fd) h has = absurd has
-may_begin sizes path m (above.Take n looking) h has = absurd has
-may_begin sizes path m op h has = has
-
-pub stands_so : (path : List ℕ) (a : Ask) (h : Hand) → Begins (op_in path a) h → AskStands path a
-stands_so path (ask.Enter d e n) h has = absurd has
-stands_so path a h has = tt
-
 -- what isn't one of the longer ones is one below, or leaves a transaction
-pub short_begins : (sizes : Super) (path : List ℕ) (m : Notes) (a : Ask) (h : Hand) → PartBegins sizes path m (op_in path a) h
+pub short_begins : (path : List ℕ) (m : Notes) (a : Ask) (h : Hand) → PartBegins path (op_in path a) (having h m)
     → ((n count : ℕ) → a ≢ ask.Store n count)
     → ((n : ℕ) → a ≢ ask.Empty n)
     → ((d : ℕ) (e : Element) (n : ℕ) → a ≢ ask.Enter d e n)
@@ -171,30 +154,26 @@ pub short_begins : (sizes : Super) (path : List ℕ) (m : Notes) (a : Ask) (h : 
     → ((fd : ℕ) → a ≢ ask.LockFile fd)
     → ((n : ℕ) (q : Query) → a ≢ ask.Take n q)
     → Begins (op_in path a) h
-short_begins sizes path m (ask.Store n count) h has store empty enter clear fill free claim opened locked taken = absurd (store n count refl)
-short_begins sizes path m (ask.Empty n) h has store empty enter clear fill free claim opened locked taken = absurd (empty n refl)
-short_begins sizes path m (ask.Enter d e n) h has store empty enter clear fill free claim opened locked taken = absurd (enter d e n refl)
-short_begins sizes path m (ask.Clear d e) h has store empty enter clear fill free claim opened locked taken = absurd (clear d e refl)
-short_begins sizes path m (ask.Fill n d) h has store empty enter clear fill free claim opened locked taken = absurd (fill n d refl)
-short_begins sizes path m (ask.Free n) h has store empty enter clear fill free claim opened locked taken = absurd (free n refl)
-short_begins sizes path m (ask.Claim s) h has store empty enter clear fill free claim opened locked taken = absurd (claim s refl)
-short_begins sizes path m (ask.LockOpen fd n) h has store empty enter clear fill free claim opened locked taken = absurd (opened fd n refl)
-short_begins sizes path m (ask.LockFile fd) h has store empty enter clear fill free claim opened locked taken = absurd (locked fd refl)
-short_begins sizes path m (ask.Take n q) h has store empty enter clear fill free claim opened locked taken = absurd (taken n q refl)
-short_begins sizes path m a h has store empty enter clear fill free claim opened locked taken = has
+short_begins path m (ask.Store n count) h has store empty enter clear fill free claim opened locked taken = absurd (store n count refl)
+short_begins path m (ask.Empty n) h has store empty enter clear fill free claim opened locked taken = absurd (empty n refl)
+short_begins path m (ask.Enter d e n) h has store empty enter clear fill free claim opened locked taken = absurd (enter d e n refl)
+short_begins path m (ask.Clear d e) h has store empty enter clear fill free claim opened locked taken = absurd (clear d e refl)
+short_begins path m (ask.Fill n d) h has store empty enter clear fill free claim opened locked taken = absurd (fill n d refl)
+short_begins path m (ask.Free n) h has store empty enter clear fill free claim opened locked taken = absurd (free n refl)
+short_begins path m (ask.Claim s) h has store empty enter clear fill free claim opened locked taken = absurd (claim s refl)
+short_begins path m (ask.LockOpen fd n) h has store empty enter clear fill free claim opened locked taken = absurd (opened fd n refl)
+short_begins path m (ask.LockFile fd) h has store empty enter clear fill free claim opened locked taken = absurd (locked fd refl)
+short_begins path m (ask.Take n q) h has store empty enter clear fill free claim opened locked taken = absurd (taken n q refl)
+short_begins path m a h has store empty enter clear fill free claim opened locked taken = has
 
 -- none of these has a name to seek
 pub told_for : (path : List ℕ) (o : Option OneStep) → PartTold path (one_or_leave o)
 told_for path None = tt
 told_for path (Some s) = tt
 
-pub told_so : (path : List ℕ) (a : Ask) (h : Hand) → Begins (op_in path a) h → AskTold path a
-told_so path (ask.Take n q) h has = absurd has
-told_so path a h has = tt
-
 -- ---- it is ready
 
-locked_there : (n : ℕ) (o : Option (GuardState Inode)) → locks n o ≡ true → IsSome o × (n ≡ (option_map_or (λ (g : GuardState Inode). g.value) o no_inode).number)
+pub locked_there : (n : ℕ) (o : Option (GuardState Inode)) → locks n o ≡ true → IsSome o × (n ≡ (option_map_or (λ (g : GuardState Inode). g.value) o no_inode).number)
 locked_there n None e = absurd (cc e)
 locked_there n (Some g) e = (refl, eq_is n g.value.number e)
 

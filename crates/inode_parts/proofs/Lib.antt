@@ -1,4 +1,5 @@
 pub mod Begins
+pub mod Beginning
 pub mod Handing
 pub mod Changing
 pub mod Stores
@@ -25,7 +26,9 @@ pub mod Takes
 pub mod Relocks
 pub mod Taking
 pub mod Goings
+pub mod StepLeaves
 pub mod Lowering
-pub mod Dups
-pub mod Calling
 pub mod Amid
+pub mod UnderWay
+pub mod OnWay
+pub mod Dups

@@ -15,7 +15,7 @@ use Rattle.hand_controls.specs.Calling.{IsEmpty}
 use Rattle.inode_machine.specs.Parts as above
 use Rattle.inode_machine.specs.Rules.{machine}
 use Rattle.inode_machine.specs.World.{Op}
-use Rattle.inodes_on_blocks.specs.Lowering.{below, nothing}
+use Rattle.inodes_on_blocks.specs.Lowering.{Carry, below, nothing}
 use Rattle.inodes_on_blocks.specs.Programs.{handlers}
 use Rattle.whole_calls.specs.Asks.{asks, hears}
 use Rattle.whole_calls.specs.declared.asks.Heard.{Heard}
@@ -39,28 +39,35 @@ pub asks_with : (sizes : Super) (q : Part) (p : above.P Reply) (op : steps.Op) �
 asks_with sizes (Ret r) p op e = absurd (cc e)
 asks_with sizes (Do o m k) p op e = e
 
+-- it goes on within the call
+pub goes_within : (sizes : Super) (q r : Part) (p : above.P Reply) (answer : (o : steps.Op) → steps.Answer o) → Goes q answer r → Goes (with_part sizes q p) answer (with_part sizes r p)
+goes_within sizes q r p answer went = goes_bind q r (λ end. lowered sizes end.carry (below_hears sizes p end.answer)) answer went
+
 -- a hart with nothing in hand
 pub nothing_in : (path : List ℕ) (m : Notes) (h : Hand) → IsEmpty h → carry_in path m h ≡ nothing
 nothing_in path m h e = ap (carry_in path m) e
 
-module _ (sizes : Super) (m : Notes) (h : Hand) where
+module _ (sizes : Super) (path : List ℕ) (m : Notes) (h : Hand) where
+  abbrev c : Carry
+  c = carry_in path m h
+
   -- a call begins, or goes on with its next operation
-  pub begins_so : (p : above.P Reply) (op : Op) (q : Part) → asks p ≡ Some op → IsPart sizes (carry_in [] m h) op q → lowered sizes (carry_in [] m h) p ≡ with_part sizes q p
-  begins_so p op q e is = part_begins machine (below sizes) (handlers sizes) answer_by (carry_in [] m h) p op q (same_asks p ∙ e) is
+  pub begins_so : (p : above.P Reply) (op : Op) (q : Part) → asks p ≡ Some op → IsPart sizes c op q → lowered sizes c p ≡ with_part sizes q p
+  begins_so p op q e is = part_begins machine (below sizes) (handlers sizes) answer_by c p op q (same_asks p ∙ e) is
 
-  module _ (q : Part) (p : above.P Reply) (x : Heard) (answer : (o : steps.Op) → steps.Answer o) (went : Goes q answer (Ret (handed [] m x h))) where
-    heard_so : (p' : above.P Reply) → hears [] p x ≡ p' → Goes (with_part sizes q p) answer (lowered sizes (carry_in [] m h) p')
+  module _ (q : Part) (p : above.P Reply) (x : Heard) (answer : (o : steps.Op) → steps.Answer o) (went : Goes q answer (Ret (handed path m x h))) where
+    heard_so : (p' : above.P Reply) → hears path p x ≡ p' → Goes (with_part sizes q p) answer (lowered sizes c p')
     heard_so p' e =
-        subst (λ (p' : above.P Reply). Goes (with_part sizes q p) answer (lowered sizes (carry_in [] m h) p')) (sym (same_hears sizes [] p x) ∙ e)
-        (goes_bind q (Ret (handed [] m x h)) (λ r. lowered sizes r.carry (below_hears sizes p r.answer)) answer went)
+        subst (λ (p' : above.P Reply). Goes (with_part sizes q p) answer (lowered sizes c p')) (sym (same_hears sizes path p x) ∙ e)
+        (goes_bind q (Ret (handed path m x h)) (λ r. lowered sizes r.carry (below_hears sizes p r.answer)) answer went)
 
-    pub asks_on : (p' : above.P Reply) (op : Op) (next : Part) → hears [] p x ≡ p' → asks p' ≡ Some op → IsPart sizes (carry_in [] m h) op next → Goes (with_part sizes q p) answer (with_part sizes next p')
+    pub asks_on : (p' : above.P Reply) (op : Op) (next : Part) → hears path p x ≡ p' → asks p' ≡ Some op → IsPart sizes c op next → Goes (with_part sizes q p) answer (with_part sizes next p')
     asks_on p' op next e asked is = subst (λ (r : P Reply). Goes (with_part sizes q p) answer r) (begins_so p' op next asked is) (heard_so p' e)
 
-    pub ends_on : (r : Reply) → hears [] p x ≡ Ret r → Goes (with_part sizes q p) answer (Ret r)
+    pub ends_on : (r : Reply) → hears path p x ≡ Ret r → Goes (with_part sizes q p) answer (Ret r)
     ends_on r e = heard_so (Ret r) e
 
 -- a call with its first part is its program below
-pub new_is : (sizes : Super) (m : Notes) (h : Hand) (p q : above.P Reply) (op : Op) (first : Part) → IsEmpty h → p ≡ q → asks p ≡ Some op → IsPart sizes (carry_in [] m h) op first → with_part sizes first p ≡ lowered sizes nothing q
-new_is sizes m h p q op first empty same e is =
-    sym (begins_so sizes m h p op first e is) ∙ (λ i. lowered sizes (nothing_in [] m h empty i) (same i))
+pub new_is : (sizes : Super) (path : List ℕ) (m : Notes) (h : Hand) (p q : above.P Reply) (op : Op) (first : Part) → IsEmpty h → p ≡ q → asks p ≡ Some op → IsPart sizes (carry_in path m h) op first → with_part sizes first p ≡ lowered sizes nothing q
+new_is sizes path m h p q op first empty same e is =
+    sym (begins_so sizes path m h p op first e is) ∙ (λ i. lowered sizes (nothing_in path m h empty i) (same i))

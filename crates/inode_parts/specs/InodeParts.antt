@@ -1,6 +1,5 @@
 -- Operations on whole inodes, each as a part over blocks.
-use Rattle.std.specs.Prelude.{◌≡◌, ◌⊎◌, ℕ, List, Option, Some, None}
-use Rattle.fs_layout.specs.declared.superblock.Super.{Super}
+use Rattle.std.specs.Prelude.{ℕ, List, Option, Some, None}
 use Rattle.atomic_programs.specs.Prog.{Ret, bind}
 use Rattle.hands.specs.declared.hand.Hand.{Hand}
 use Rattle.hands.specs.declared.op.Op.{Op}
@@ -14,17 +13,19 @@ use Rattle.whole_calls.specs.declared.asks.Heard.{Heard}
 use Rattle.whole_calls.specs.declared.asks.Heard.TheVariants as heard
 use Rattle.inode_parts.specs.Carries.{handed}
 use Rattle.inode_parts.specs.Parts.{Part}
-use Rattle.inode_parts.specs.OneSteps.{step_for, step_left, step_asked, Begins, StepReady}
-use Rattle.inode_parts.specs.Empties.{empty_part_left, empty_part_asked, EmptyBegins, EmptyPartReady}
-use Rattle.inode_parts.specs.Enters.{enter_part_left, enter_part_asked, EnterBegins, EnterPartReady}
-use Rattle.inode_parts.specs.Clears.{clear_part_left, clear_part_asked, ClearBegins, ClearPartReady}
-use Rattle.inode_parts.specs.Fills.{fill_part_left, fill_part_asked, FillBegins, FillPartReady}
-use Rattle.inode_parts.specs.Claims.{claim_left, claim_asked, ClaimBegins, ClaimReady}
-use Rattle.inode_parts.specs.FileLocks.{lock_file_left, lock_file_asked, lock_open_left, lock_open_asked, LockBegins, LockFileReady, LockOpenReady}
-use Rattle.inode_parts.specs.Frees.{free_left, free_asked, FreeBegins, FreeReady}
-use Rattle.inode_parts.specs.Relocks.{relock_left, relock_asked, RelockBegins, RelockReady}
-use Rattle.inode_parts.specs.Takes.{take_left, take_asked, IsTold, TakeBegins, TakeReady, TakeTold}
-use Rattle.inode_parts.specs.Stores.{store_part_left, store_part_asked, StoreBegins, StorePartReady}
+use Rattle.inode_parts.specs.OneSteps.{step_for, step_left, step_asked, StepReady}
+use Rattle.inode_parts.specs.Empties.{empty_part_left, empty_part_asked, EmptyPartReady}
+use Rattle.inode_parts.specs.Enters.{enter_part_left, enter_part_asked, EnterPartReady}
+use Rattle.inode_parts.specs.Clears.{clear_part_left, clear_part_asked, ClearPartReady}
+use Rattle.inode_parts.specs.Fills.{fill_part_left, fill_part_asked, FillPartReady}
+use Rattle.inode_parts.specs.Claims.{claim_left, claim_asked, ClaimReady}
+use Rattle.inode_parts.specs.FileLocks.{lock_file_left, lock_file_asked, lock_open_left, lock_open_asked, LockFileReady, LockOpenReady}
+use Rattle.inode_parts.specs.Frees.{free_left, free_asked, FreeReady}
+use Rattle.inode_parts.specs.Takes.{take_left, take_asked, IsTold, TakeReady, TakeTold}
+use Rattle.inode_parts.specs.Relocks.{relock_left, relock_asked, RelockReady}
+use Rattle.inode_parts.specs.Expecting.{BeginsWith}
+use Rattle.inode_parts.specs.Holding.{Having}
+use Rattle.inode_parts.specs.Stores.{store_part_left, store_part_asked, StorePartReady}
 use Rattle.inode_parts.specs.declared.note.Notes.{Notes}
 use Rattle.inode_parts.specs.declared.one_step.OneStep.{OneStep}
 use Rattle.inode_parts.specs.declared.part.InodePart.{InodePart}
@@ -99,19 +100,12 @@ one_or_leave None = part.Leave finish.Leave
 abbrev pub part_for : above.Op → Hand → InodePart
 part_for op h = one_or_leave (step_for op h)
 
--- what an operation asks of the hand, and of what was learned, on a disk of these sizes
-abbrev pub PartBegins : Super → List ℕ → Notes → above.Op → Hand → Type 0
-PartBegins sizes path m (above.Store n count) h = StoreBegins sizes n count h
-PartBegins sizes path m (above.Empty n) h = EmptyBegins sizes n h
-PartBegins sizes path m (above.Enter d e n) h = EnterBegins sizes d e h
-PartBegins sizes path m (above.Clear d e) h = ClearBegins sizes path m d e h
-PartBegins sizes path m (above.Fill n d) h = FillBegins sizes n h
-PartBegins sizes path m (above.Free n) h = FreeBegins sizes n h
-PartBegins sizes path m (above.Claim sort) h = ClaimBegins sizes h
-PartBegins sizes path m (above.LockOpen fd n) h = LockBegins sizes h
-PartBegins sizes path m (above.LockFile fd) h = LockBegins sizes h
-PartBegins sizes path m (above.Take n looking) h = TakeBegins sizes n h ⊎ (RelockBegins sizes n h × (looking ≡ AtNothing))
-PartBegins sizes path m op h = Begins op h
+-- what an operation asks of the hand, and of what was learned, where it has a part
+abbrev pub PartBegins : List ℕ → above.Op → Having → Type 0
+PartBegins path (above.StatFile fd) s = ⊥
+PartBegins path (above.ReadFile fd n offset count) s = ⊥
+PartBegins path (above.WriteFile fd n offset bytes) s = ⊥
+PartBegins path op s = BeginsWith path op s
 
 -- it may be more than one operation
 abbrev pub MayGoOn : InodePart → Type 0

@@ -1,3 +1,4 @@
+pub mod Sizes
 pub mod Carries
 pub mod Parts
 pub mod OneSteps
@@ -18,5 +19,6 @@ pub mod InodeParts
 pub mod Holding
 pub mod Leaving
 pub mod Coming
+pub mod UnderWay
 pub mod Expecting
 pub mod Calls

@@ -24,8 +24,9 @@ use Rattle.whole_calls.specs.declared.asks.Heard.{Heard}
 use Rattle.whole_calls.specs.declared.asks.Heard.TheVariants as heard
 use Rattle.whole_calls.specs.declared.asks.Joined.TheVariants as joined
 use Rattle.whole_calls.specs.declared.asks.Loan.TheVariants as loan
-use Rattle.inode_parts.specs.Carries.{carry_in}
+use Rattle.inode_parts.specs.Carries.{carry_in, with_note}
 use Rattle.inode_parts.specs.Parts.{Part, one}
+use Rattle.inode_parts.specs.declared.note.Note.TheVariants as note
 use Rattle.inode_parts.specs.declared.note.Notes.{Notes}
 use Rattle.inode_parts.specs.declared.one_step.OneStep.{OneStep}
 use Rattle.inode_parts.specs.declared.one_step.OneStep.TheVariants as step
@@ -84,6 +85,11 @@ step_asked (step.LendDirectory k child) = ops.GiveTo k child descriptor_count
 step_asked step.Release = ops.Reply
 step_asked step.Join = ops.Join
 step_asked step.Say = ops.Reply
+
+-- nothing is learned yet of an inode whose lock comes
+abbrev pub step_notes : OneStep → Bool → Notes → Notes
+step_notes (step.Down k) dies m = if dies then with_note k note.Nothing m else m
+step_notes s dies m = m
 
 -- a lock of inode n
 abbrev pub locks : ℕ → Option (GuardState Inode) → Bool

@@ -1,5 +1,5 @@
 //! A call over whole inodes, run below.
-ghost use Rattle.std.specs.Prelude.{◌≡◌, [], Some, None, IfSome, IfNone};
+ghost use Rattle.std.specs.Prelude.{◌≡◌, Some, None, IfSome, IfNone};
 ghost use Rattle.plain_tree.specs.declared.answer.Reply.{Reply as ReplyState};
 ghost use Rattle.inode_machine.specs.Programs.{program};
 ghost use Rattle.whole_calls.specs.Wholes.{IsCall};
@@ -8,7 +8,8 @@ ghost use Rattle.hand_controls.specs.Calling.{IsEmpty};
 ghost use Rattle.hands.specs.Controls.{bare};
 ghost use Rattle.hands.specs.declared.hand.Hand.{Hand as HandState};
 ghost use Rattle.inode_parts.specs.Parts.{lowered};
-ghost use Rattle.inode_parts.specs.Calls.{lowered_left, lowered_asked, IsServed, LoweredReady};
+ghost use Rattle.inode_parts.specs.Calls.{lowered_left, lowered_asked, path_of, HasOnePath, LoweredReady, RunsByParts};
+ghost use Rattle.inode_parts.specs.Sizes.{IsSized};
 
 use crate::note::Notes;
 use crate::part::InodePart;
@@ -17,9 +18,6 @@ use hands::{Answer, Control, Hand, Op};
 use plain_tree::{Call, Reply};
 use std::mem;
 use whole_calls::{Dup, Numbers, Whole};
-
-// The calls that run so have no path.
-const NO_PATH: &[u8] = &[];
 
 /// A call with the part of its present operation.
 #[derive(Drop)]
@@ -35,7 +33,9 @@ impl Lowered {
     /// On a disk of these sizes, of a hart with nothing in hand.
     pub fn new(sizes: Super, call: Call, hand: &mut Hand) -> Lowered
         requires call { IsCall call }
-        requires served { IsServed call }
+        requires path { HasOnePath call }
+        requires runs { RunsByParts (path_of call) call }
+        requires sizes { IsSized sizes }
         requires empty { IsEmpty hand.old }
         ensures program { lowered_left result hand.new ≡ lowered sizes nothing (program call) }
         ensures ready { LoweredReady result hand.new }
@@ -43,7 +43,7 @@ impl Lowered {
     {
         let call = Whole::new(call);
         let notes = Notes::new();
-        let part = InodePart::begin(call.ask(), &sizes, NO_PATH, &notes, hand);
+        let part = InodePart::begin(call.ask(), &sizes, call.text(), &notes, hand);
         Lowered {
             sizes,
             call,
@@ -84,14 +84,17 @@ impl Control for Lowered {
         self.part.op(hand)
     }
 
-    #[tactic(auto, using(hands::proofs::Going::goes_bind))]
     fn next(&mut self, answer: Answer, hand: &mut Hand) -> Option<Reply> {
-        match self.part.next(NO_PATH, &mut self.notes, answer, hand) {
+        match self
+            .part
+            .next(self.call.text(), &mut self.notes, answer, hand)
+        {
             None => None,
             Some(heard) => match self.call.next(&heard, &mut self.list) {
                 None => {
                     let ask = self.call.ask();
-                    self.part = InodePart::begin(ask, &self.sizes, NO_PATH, &self.notes, hand);
+                    let path = self.call.text();
+                    self.part = InodePart::begin(ask, &self.sizes, path, &self.notes, hand);
                     None
                 }
                 Some(answer) => Some(take_call(&mut self.call).reply(answer)),

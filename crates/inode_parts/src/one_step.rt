@@ -5,7 +5,7 @@ ghost use Rattle.hands.specs.Ops.{op_in, answer_in, CanDo, Prepared, IsAfter};
 ghost use Rattle.hands.specs.Controls.{Goes};
 ghost use Rattle.hands.specs.declared.hand.Hand.{Hand as HandState};
 ghost use Rattle.inode_parts.specs.Carries.{handed};
-ghost use Rattle.inode_parts.specs.OneSteps.{step_for, step_left, step_asked, StepReady};
+ghost use Rattle.inode_parts.specs.OneSteps.{step_for, step_left, step_asked, step_notes, StepReady};
 ghost use Rattle.whole_calls.specs.Asks.{op_in as above_op};
 ghost use Rattle.inode_parts.specs.declared.note.Notes.{Notes as NotesState};
 ghost use Rattle.std.specs.Prelude.{if◌then◌else◌};
@@ -118,6 +118,7 @@ impl OneStep {
         requires came { (before : HandState) × StepReady self.now before × IsAfter (step_asked self.now) before answer hand.now }
         ensures goes { (path : List ℕ) (before : HandState) → StepReady self.now before → IsAfter (step_asked self.now) before answer hand.now
             → Goes (step_left path notes.old self.now before) (answer_in (step_asked self.now) answer hand.now) (Ret (handed path notes.new result hand.now)) }
+        ensures notes { notes.new ≡ step_notes self.now (yes_in answer) notes.old }
     {
         match *self {
             OneStep::Give(_) => Heard::Did,

@@ -4,14 +4,19 @@ ghost use Rattle.atomic_programs.specs.Prog.{Ret, asks};
 ghost use Rattle.hands.specs.Ops.{op_in, answer_in, CanDo, Prepared, IsAfter};
 ghost use Rattle.hands.specs.Controls.{Goes, bare};
 ghost use Rattle.hands.specs.declared.hand.Hand.{Hand as HandState};
+ghost use Rattle.inode_machine.specs.World.{Op as OpAbove};
 ghost use Rattle.inode_machine.specs.World.Op.{Take};
 ghost use Rattle.whole_calls.specs.Asks.{op_in as above_op, query_in};
 ghost use Rattle.inode_parts.specs.Carries.{carry_in, handed};
+ghost use Rattle.inode_parts.specs.Holding.{Having};
+ghost use Rattle.inode_parts.specs.Leaving.{having};
 ghost use Rattle.inode_parts.specs.OneSteps.{Begins};
 ghost use Rattle.inode_parts.specs.Parts.{IsPart};
+ghost use Rattle.inode_parts.specs.Sizes.{IsSized};
 ghost use Rattle.inode_parts.specs.Enters.{AskStands};
 ghost use Rattle.inode_parts.specs.Takes.{IsTold};
 ghost use Rattle.inode_parts.specs.InodeParts.{part_for, part_left, part_left_after, part_asked, AskTold, ChangesNone, MayGoOn, PartBegins, PartReady, PartTold};
+ghost use Rattle.inode_parts.specs.UnderWay.{GoesOrLeaves, UnderWay};
 ghost use Rattle.inode_parts.specs.declared.note.Notes.{Notes as NotesState};
 
 use crate::claim_part::ClaimPart;
@@ -68,13 +73,15 @@ impl InodePart {
     /// one of them may change in hand.
     #[tactic(auto, using(crate::proofs::Begins::is_part, crate::proofs::Begins::is_ready))]
     pub fn begin(ask: Ask, sizes: &Super, path: &[u8], notes: &Notes, hand: &mut Hand) -> InodePart
-        requires begins { PartBegins sizes.now path.now notes.now (above_op path.now ask) hand.old }
+        requires sizes { IsSized sizes.now }
+        requires begins { PartBegins path.now (above_op path.now ask) (having hand.old notes.now) }
         requires stands { AskStands path.now ask }
         requires told { AskTold path.now ask }
         ensures part { IsPart sizes.now (carry_in path.now notes.now hand.old) (above_op path.now ask) (part_left path.now notes.now result hand.new) }
         ensures ready { PartReady result hand.new }
         ensures told { PartTold path.now result }
         ensures known { Begins (above_op path.now ask) hand.old → (result ≡ part_for (above_op path.now ask) hand.old) × (hand.new ≡ hand.old) }
+        ensures under { UnderWay path.now (above_op path.now ask) (having hand.old notes.now) result (having hand.new notes.now) }
         ensures hand { bare hand.new ≡ bare hand.old }
     {
         match ask {
@@ -139,6 +146,9 @@ impl InodePart {
         requires came { (before : HandState) × PartReady self.old before × IsAfter (part_asked self.old) before answer hand.old }
         ensures goes { (before : HandState) → PartReady self.old before → IsAfter (part_asked self.old) before answer hand.old
             → Goes (part_left path.now notes.old self.old before) (answer_in (part_asked self.old) answer hand.old) (part_left_after path.now notes.new result self.new hand.new) }
+        ensures under { (op : OpAbove) (start : Having) (before : HandState) → UnderWay path.now op start self.old (having before notes.old)
+            → PartReady self.old before → IsAfter (part_asked self.old) before answer hand.old
+            → GoesOrLeaves path.now op start result self.new (having hand.new notes.new) }
         ensures ready { IfNone result (PartReady self.new hand.new) }
         ensures told { IfNone result (PartTold path.now self.new) }
         ensures on { IfNone result (MayGoOn self.old) }
@@ -168,11 +178,14 @@ impl InodePart {
 
 // An inode is locked by the reference at a seat, or where none is there by the first listed one.
 fn take(number: u32, query: Query, sizes: &Super, hand: &Hand) -> InodePart
-    requires begins { (path : List ℕ) × (notes : NotesState) × PartBegins sizes.now path notes (Take number (query_in path query)) hand.now }
-    ensures part { (path : List ℕ) (notes : NotesState) → PartBegins sizes.now path notes (Take number (query_in path query)) hand.now
+    requires sizes { IsSized sizes.now }
+    requires begins { (path : List ℕ) × (notes : NotesState) × PartBegins path (Take number (query_in path query)) (having hand.now notes) }
+    ensures part { (path : List ℕ) (notes : NotesState) → PartBegins path (Take number (query_in path query)) (having hand.now notes)
         → IsPart sizes.now (carry_in path notes hand.now) (Take number (query_in path query)) (part_left path notes result hand.now) }
     ensures ready { PartReady result hand.now }
     ensures told { (path : List ℕ) → IsTold path query → PartTold path result }
+    ensures under { (path : List ℕ) (notes : NotesState) → PartBegins path (Take number (query_in path query)) (having hand.now notes)
+        → UnderWay path (Take number (query_in path query)) (having hand.now notes) result (having hand.now notes) }
 {
     let seat = reference_seat(hand, number);
     let there = refers_at(hand, seat, number);

@@ -1,28 +1,58 @@
-use Rattle.std.proofs.Common.{◌≡◌, sym, subst, ◌∙◌}
+use Rattle.std.proofs.Common.{◌≡◌, ◌⊎◌, rules, refl, sym, subst, ◌∙◌}
+use Rattle.std.specs.Prelude.{◌<◌, ◌^◌}
 use Rattle.inode_machine.specs.Inodes.{AtNothing, Query}
 use Rattle.inode_machine.specs.World.Op.{Take}
 use Rattle.inode_parts.specs.Carries.{carry_in}
+use Rattle.inode_parts.specs.Leaving.{having}
 use Rattle.inode_parts.specs.Parts.{IsPart}
 use Rattle.inode_parts.specs.Relocks.{relock_left}
+use Rattle.inode_parts.specs.UnderWay.{UnderWay}
+use Rattle.inode_parts.specs.declared.part.InodePart.TheVariants as part
 use Rattle.whole_calls.specs.Asks.{query_in}
+use Rattle.inode_parts.proofs.Beginning.{may_take_by}
 use Rattle.inode_parts.proofs.Relocks.{relocked_by, taken_by}
 use Rattle.inode_parts.proofs.part.take.Goals as goal
 
 pub begin-requires : goal.begin-requires
 begin-requires c =
-    let path = c.requires.begins.0 in
-    record { begins = taken_by c.args.sizes.now c.args.number (query_in path c.args.query) c.args.hand.now c.reference_seat-seat.result c.reference_seat-seat.ensures (sym c.refers_at-there.ensures ∙ c.if-there.true) c.requires.begins.2 }
+    let sizes = c.args.sizes.now in
+    let n = c.args.number in
+    let h = c.args.hand.now in
+    let q = query_in c.requires.begins.0 c.args.query in
+    let few : n < 2 ^ 32 = search rules in
+    record { begins = taken_by sizes n q h c.reference_seat-seat.result c.reference_seat-seat.ensures (sym c.refers_at-there.ensures ∙ c.if-there.true) (may_take_by sizes c.requires.sizes n q h few c.requires.begins.2) }
 
 pub returns-then-there-clause-part : goal.returns-then-there-clause-part
 returns-then-there-clause-part c path m begins = c.begin.ensures.part path m
 
+pub returns-then-there-clause-under : goal.returns-then-there-clause-under
+returns-then-there-clause-under c path m begins = (c.begin.ensures.amid path, refl)
+
 pub begin-requires-else-there : goal.begin-requires-else-there
 begin-requires-else-there c =
-    let path = c.requires.begins.0 in
-    record { begins = (c.args.number, (relocked_by c.args.sizes.now c.args.number (query_in path c.args.query) c.args.hand.now c.reference_seat-seat.result c.reference_seat-seat.ensures (sym c.refers_at-there.ensures ∙ c.if-there.false) c.requires.begins.2).0) }
+    let sizes = c.args.sizes.now in
+    let n = c.args.number in
+    let h = c.args.hand.now in
+    let q = query_in c.requires.begins.0 c.args.query in
+    let few : n < 2 ^ 32 = search rules in
+    record { begins = (n, (relocked_by sizes n q h c.reference_seat-seat.result c.reference_seat-seat.ensures (sym c.refers_at-there.ensures ∙ c.if-there.false) (may_take_by sizes c.requires.sizes n q h few c.requires.begins.2)).0) }
 
 pub returns-else-there-clause-part : goal.returns-else-there-clause-part
 returns-else-there-clause-part c path m begins =
+    let sizes = c.args.sizes.now in
+    let n = c.args.number in
     let h = c.args.hand.now in
-    let has = relocked_by c.args.sizes.now c.args.number (query_in path c.args.query) h c.reference_seat-seat.result c.reference_seat-seat.ensures (sym c.refers_at-there.ensures ∙ c.if-there.false) begins in
-    subst (λ (q : Query). IsPart c.args.sizes.now (carry_in path m h) (Take c.args.number q) (relock_left path m c.begin-else-there.result h)) (sym has.1) (c.begin-else-there.ensures.part path m c.args.number has.0)
+    let q = query_in path c.args.query in
+    let few : n < 2 ^ 32 = search rules in
+    let has = relocked_by sizes n q h c.reference_seat-seat.result c.reference_seat-seat.ensures (sym c.refers_at-there.ensures ∙ c.if-there.false) (may_take_by sizes c.requires.sizes n q h few begins) in
+    subst (λ (q : Query). IsPart sizes (carry_in path m h) (Take n q) (relock_left path m c.begin-else-there.result h)) (sym has.1) (c.begin-else-there.ensures.part path m n has.0)
+
+pub returns-else-there-clause-under : goal.returns-else-there-clause-under
+returns-else-there-clause-under c path m begins =
+    let sizes = c.args.sizes.now in
+    let n = c.args.number in
+    let h = c.args.hand.now in
+    let q = query_in path c.args.query in
+    let few : n < 2 ^ 32 = search rules in
+    let has = relocked_by sizes n q h c.reference_seat-seat.result c.reference_seat-seat.ensures (sym c.refers_at-there.ensures ∙ c.if-there.false) (may_take_by sizes c.requires.sizes n q h few begins) in
+    subst (λ (q : Query). UnderWay path (Take n q) (having h m) (part.Relock c.begin-else-there.result) (having h m)) (sym has.1) ((refl, c.begin-else-there.ensures.amid n has.0), refl)

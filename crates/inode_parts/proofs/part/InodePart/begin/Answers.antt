@@ -1,14 +1,18 @@
-use Rattle.std.proofs.Common.{refl, sym, subst}
+use Rattle.std.proofs.Common.{rules, refl, sym, subst}
+use Rattle.std.specs.Prelude.{◌<◌, ◌^◌}
 use Rattle.whole_calls.specs.Asks.{op_in}
 use Rattle.whole_calls.specs.Elements.{name_in}
 use Rattle.whole_calls.specs.declared.asks.Ask.{Ask}
 use Rattle.inode_parts.specs.Carries.{carry_in}
 use Rattle.inode_parts.specs.InodeParts.{part_left, AskTold, PartBegins, PartReady, PartTold}
+use Rattle.inode_parts.specs.Leaving.{having}
 use Rattle.inode_parts.specs.OneSteps.{step_for}
 use Rattle.inode_parts.specs.Parts.{IsPart}
 use Rattle.inode_parts.specs.declared.part.InodePart.{InodePart}
+use Rattle.inode_parts.specs.UnderWay.{UnderWay}
+use Rattle.inode_parts.proofs.Beginning.{may_change, may_claim, may_free, may_lock}
 use Rattle.inode_parts.proofs.Begins.{is_part, is_ready, short_begins, told_for}
-use Rattle.inode_parts.specs.declared.part.InodePart.TheVariants as part
+use Rattle.inode_parts.proofs.StepLeaves.{under_way}
 use Rattle.inode_parts.proofs.part.InodePart.begin.Goals as goal
 
 pub returns-in-Store-clause-part : goal.returns-in-Store-clause-part
@@ -17,11 +21,67 @@ returns-in-Store-clause-part c = rw c.in-Store.is (c.begin.ensures.part c.args.p
 pub returns-in-Empty-clause-part : goal.returns-in-Empty-clause-part
 returns-in-Empty-clause-part c = rw c.in-Empty.is (c.begin-in-Empty.ensures.part c.args.path.now c.args.notes.now)
 
+pub begin-requires-in-Empty : goal.begin-requires-in-Empty
+begin-requires-in-Empty c =
+    let sizes = c.args.sizes.now in
+    let sized = c.requires.sizes in
+    let h = c.args.hand.now in
+    let n = c.in-Empty.number in
+    let few : n < 2 ^ 32 = search rules in
+    let begins = rw c.in-Empty.is at c.requires.begins in
+    record { begins = may_change sizes sized n h few begins }
+
+pub begin-requires-in-Fill : goal.begin-requires-in-Fill
+begin-requires-in-Fill c =
+    let sizes = c.args.sizes.now in
+    let sized = c.requires.sizes in
+    let h = c.args.hand.now in
+    let n = c.in-Fill.number in
+    let few : n < 2 ^ 32 = search rules in
+    let begins = rw c.in-Fill.is at c.requires.begins in
+    record { begins = (may_change sizes sized n h few begins, sized.size) }
+
+pub begin-requires-in-Free : goal.begin-requires-in-Free
+begin-requires-in-Free c =
+    let sizes = c.args.sizes.now in
+    let sized = c.requires.sizes in
+    let h = c.args.hand.now in
+    let n = c.in-Free.number in
+    let few : n < 2 ^ 32 = search rules in
+    let begins = rw c.in-Free.is at c.requires.begins in
+    record { begins = may_free sizes sized n h few begins }
+
+pub begin-requires-in-Claim : goal.begin-requires-in-Claim
+begin-requires-in-Claim c =
+    let sizes = c.args.sizes.now in
+    let sized = c.requires.sizes in
+    let h = c.args.hand.now in
+    let begins = rw c.in-Claim.is at c.requires.begins in
+    record { begins = may_claim sizes sized h begins }
+
+pub begin-requires-in-LockOpen : goal.begin-requires-in-LockOpen
+begin-requires-in-LockOpen c =
+    let sizes = c.args.sizes.now in
+    let sized = c.requires.sizes in
+    let h = c.args.hand.now in
+    let begins = rw c.in-LockOpen.is at c.requires.begins in
+    record { begins = may_lock sizes sized h begins }
+
+pub begin-requires-in-LockFile : goal.begin-requires-in-LockFile
+begin-requires-in-LockFile c =
+    let sizes = c.args.sizes.now in
+    let sized = c.requires.sizes in
+    let h = c.args.hand.now in
+    let begins = rw c.in-LockFile.is at c.requires.begins in
+    record { begins = may_lock sizes sized h begins }
+
 pub begin-requires-in-Clear : goal.begin-requires-in-Clear
 begin-requires-in-Clear c =
     let path = c.args.path.now in
-    let begins = subst (λ (a : Ask). PartBegins c.args.sizes.now path c.args.notes.now (op_in path a) c.args.hand.now) c.in-Clear.is c.requires.begins in
-    record { begins = (path, name_in path c.in-Clear.field-1, begins) }
+    let n = c.in-Clear.number in
+    let few : n < 2 ^ 32 = search rules in
+    let begins = subst (λ (a : Ask). PartBegins path (op_in path a) (having c.args.hand.now c.args.notes.now)) c.in-Clear.is c.requires.begins in
+    record { begins = (path, name_in path c.in-Clear.field-1, (may_change c.args.sizes.now c.requires.sizes n c.args.hand.now few begins.0, begins.1)) }
 
 pub returns-in-Enter-clause-part : goal.returns-in-Enter-clause-part
 returns-in-Enter-clause-part c = rw c.in-Enter.is (c.begin-in-Enter.ensures.part c.args.path.now c.args.notes.now)
@@ -29,10 +89,10 @@ returns-in-Enter-clause-part c = rw c.in-Enter.is (c.begin-in-Enter.ensures.part
 pub returns-in-Clear-clause-part : goal.returns-in-Clear-clause-part
 returns-in-Clear-clause-part c =
     let path = c.args.path.now in
-    let m = c.args.notes.now in
-    let begins = c.requires.begins in
-    subst (λ (a : Ask). PartBegins c.args.sizes.now path m (op_in path a) c.args.hand.now → IsPart c.args.sizes.now (carry_in path m c.args.hand.now) (op_in path a) (part_left path m (part.Clear c.begin-in-Clear.result) c.args.hand.now)) (sym c.in-Clear.is)
-    (λ begins. c.begin-in-Clear.ensures.part path (name_in path c.in-Clear.field-1) begins) begins
+    let n = c.in-Clear.number in
+    let few : n < 2 ^ 32 = search rules in
+    let begins = subst (λ (a : Ask). PartBegins path (op_in path a) (having c.args.hand.now c.args.notes.now)) c.in-Clear.is c.requires.begins in
+    rw c.in-Clear.is (c.begin-in-Clear.ensures.part path (name_in path c.in-Clear.field-1) (may_change c.args.sizes.now c.requires.sizes n c.args.hand.now few begins.0, begins.1))
 
 pub returns-in-Fill-clause-part : goal.returns-in-Fill-clause-part
 returns-in-Fill-clause-part c = rw c.in-Fill.is (c.begin-in-Fill.ensures.part c.args.path.now c.args.notes.now)
@@ -52,14 +112,24 @@ returns-in-LockFile-clause-part c = rw c.in-LockFile.is (c.begin-in-LockFile.ens
 pub take-requires : goal.take-requires
 take-requires c =
     let path = c.args.path.now in
-    record { begins = (path, c.args.notes.now, subst (λ (a : Ask). PartBegins c.args.sizes.now path c.args.notes.now (op_in path a) c.args.hand.now) c.in-Take.is c.requires.begins) }
+    let m = c.args.notes.now in
+    record { sizes = c.requires.sizes; begins = (path, m, subst (λ (a : Ask). PartBegins path (op_in path a) (having c.args.hand.now m)) c.in-Take.is c.requires.begins) }
 
 pub returns-in-Take-clause-part : goal.returns-in-Take-clause-part
 returns-in-Take-clause-part c =
     let path = c.args.path.now in
     let m = c.args.notes.now in
-    subst (λ (a : Ask). PartBegins c.args.sizes.now path m (op_in path a) c.args.hand.now → IsPart c.args.sizes.now (carry_in path m c.args.hand.now) (op_in path a) (part_left path m c.take.result c.args.hand.now)) (sym c.in-Take.is)
+    let h = c.args.hand.now in
+    subst (λ (a : Ask). PartBegins path (op_in path a) (having h m) → IsPart c.args.sizes.now (carry_in path m h) (op_in path a) (part_left path m c.take.result h)) (sym c.in-Take.is)
     (λ begins. c.take.ensures.part path m begins) c.requires.begins
+
+pub returns-in-Take-clause-under : goal.returns-in-Take-clause-under
+returns-in-Take-clause-under c =
+    let path = c.args.path.now in
+    let m = c.args.notes.now in
+    let h = c.args.hand.now in
+    subst (λ (a : Ask). PartBegins path (op_in path a) (having h m) → UnderWay path (op_in path a) (having h m) c.take.result (having h m)) (sym c.in-Take.is)
+    (λ begins. c.take.ensures.under path m begins) c.requires.begins
 
 pub returns-in-Take-clause-told : goal.returns-in-Take-clause-told
 returns-in-Take-clause-told c = c.take.ensures.told c.args.path.now (subst (λ (a : Ask). AskTold c.args.path.now a) c.in-Take.is c.requires.told)
@@ -72,12 +142,13 @@ returns-in_default c =
     let h = c.args.hand.now in
     let op = op_in path c.args.ask in
     let no = c.in_default in
-    let has = short_begins sizes path m c.args.ask h c.requires.begins no.not-Store no.not-Empty no.not-Enter no.not-Clear no.not-Fill no.not-Free no.not-Claim no.not-LockOpen no.not-LockFile no.not-Take in
+    let has = short_begins path m c.args.ask h c.requires.begins no.not-Store no.not-Empty no.not-Enter no.not-Clear no.not-Fill no.not-Free no.not-Claim no.not-LockOpen no.not-LockFile no.not-Take in
     let is = c.one_or_leave.ensures.is path in
     record {
       part = subst (λ (p : InodePart). IsPart sizes (carry_in path m h) op (part_left path m p h)) (sym is) (is_part sizes path m h op has);
       ready = subst (λ (p : InodePart). PartReady p h) (sym is) (is_ready op h has);
       told = subst (λ (p : InodePart). PartTold path p) (sym is) (told_for path (step_for op h));
       known = λ begins. (is, refl);
+      under = subst (λ (p : InodePart). UnderWay path op (having h m) p (having h m)) (sym is) (under_way path op h m has);
       hand = refl;
     }

@@ -4,6 +4,8 @@ use Rattle.hands.specs.Ops.{answer_in}
 use Rattle.inode_parts.specs.FileLocks.{lock_file_left, lock_file_asked}
 use Rattle.inode_parts.specs.Parts.{Part}
 use Rattle.inode_parts.proofs.Lefts.{lock_file_after}
+use Rattle.inode_parts.proofs.StepLeaves.{step_leaves}
+use Rattle.inode_parts.proofs.UnderWay.{claims, clears, empties, enters, fills, frees, leave_leaves, leave_stays, lock_files, lock_opens, relocks, stores, takes}
 use Rattle.inode_parts.proofs.part.InodePart.next.Goals as goal
 
 pub returns-in-LockFile-clause-goes : goal.returns-in-LockFile-clause-goes
@@ -14,3 +16,86 @@ returns-in-LockFile-clause-goes c before =
     rw c.in-LockFile.is (λ ready after.
     subst (λ (q : Part). Goes (lock_file_left path c.args.notes.now p before) (answer_in (lock_file_asked p) c.args.answer c.args.hand.now) q)
     (lock_file_after path did.new.notes did.result did.new.self did.new.hand) (did.ensures.goes path before ready after))
+
+pub returns-in-One-clause-under : goal.returns-in-One-clause-under
+returns-in-One-clause-under c op start before =
+    let did = c.next in
+    rw c.in-One.is (λ under ready after.
+    step_leaves c.args.path.now c.args.notes.now did.new.notes before c.args.hand.now c.args.answer did.result op c.in-One.step start under after (did.ensures.goes c.args.path.now before ready after) did.ensures.notes)
+
+pub returns-in-Store-clause-under : goal.returns-in-Store-clause-under
+returns-in-Store-clause-under c op start before =
+    let path = c.args.path.now in
+    let did = c.next-in-Store in
+    rw c.in-Store.is (λ under ready after.
+    stores path start before c.args.hand.now c.args.notes.now did.new.notes did.result c.in-Store.part did.new.self (λ n count amid. did.ensures.leaves path n count start.hand before amid ready after) op under)
+
+pub returns-in-Empty-clause-under : goal.returns-in-Empty-clause-under
+returns-in-Empty-clause-under c op start before =
+    let path = c.args.path.now in
+    let did = c.next-in-Empty in
+    rw c.in-Empty.is (λ under ready after.
+    empties path start before did.new.hand c.args.notes.now did.new.notes did.result c.in-Empty.part did.new.self (λ n amid. did.ensures.leaves path n start.hand before amid ready after) op under)
+
+pub returns-in-Enter-clause-under : goal.returns-in-Enter-clause-under
+returns-in-Enter-clause-under c op start before =
+    let path = c.args.path.now in
+    let did = c.next-in-Enter in
+    rw c.in-Enter.is (λ under ready after.
+    enters path start before did.new.hand c.args.notes.now did.new.notes did.result c.in-Enter.part did.new.self (λ n child e amid. did.ensures.leaves path n child e start.hand before amid ready after) op under)
+
+pub returns-in-Clear-clause-under : goal.returns-in-Clear-clause-under
+returns-in-Clear-clause-under c op start before =
+    let path = c.args.path.now in
+    let did = c.next-in-Clear in
+    rw c.in-Clear.is (λ under ready after.
+    clears path start before did.new.hand c.args.notes.now did.new.notes did.result c.in-Clear.part did.new.self (λ n e amid. did.ensures.leaves path n e start.hand before amid ready after) op under)
+
+pub returns-in-Fill-clause-under : goal.returns-in-Fill-clause-under
+returns-in-Fill-clause-under c op start before =
+    let path = c.args.path.now in
+    let did = c.next-in-Fill in
+    rw c.in-Fill.is (λ under ready after.
+    fills path start before did.new.hand c.args.notes.now did.new.notes did.result c.in-Fill.part did.new.self (λ n d amid. did.ensures.leaves path n d start.hand before amid ready after) op under)
+
+pub returns-in-Free-clause-under : goal.returns-in-Free-clause-under
+returns-in-Free-clause-under c op start before =
+    let path = c.args.path.now in
+    let did = c.next-in-Free in
+    rw c.in-Free.is (λ under ready after.
+    frees path start before did.new.hand c.args.notes.now did.new.notes did.result c.in-Free.part did.new.self (λ n amid. did.ensures.leaves path n start.hand before amid ready after) op under)
+
+pub returns-in-Claim-clause-under : goal.returns-in-Claim-clause-under
+returns-in-Claim-clause-under c op start before =
+    let path = c.args.path.now in
+    let did = c.next-in-Claim in
+    rw c.in-Claim.is (λ under ready after.
+    claims path start before did.new.hand c.args.notes.now c.args.notes.now did.result c.in-Claim.part did.new.self (λ sort amid. did.ensures.leaves path sort start.hand before amid ready after) op under)
+
+pub returns-in-LockOpen-clause-under : goal.returns-in-LockOpen-clause-under
+returns-in-LockOpen-clause-under c op start before =
+    let path = c.args.path.now in
+    let did = c.next-in-LockOpen in
+    rw c.in-LockOpen.is (λ under ready after.
+    lock_opens path start before did.new.hand c.args.notes.now did.new.notes did.result c.in-LockOpen.part did.new.self (λ fd n amid. did.ensures.leaves path fd n start.hand before amid ready after) op under)
+
+pub returns-in-LockFile-clause-under : goal.returns-in-LockFile-clause-under
+returns-in-LockFile-clause-under c op start before =
+    let path = c.args.path.now in
+    let did = c.next-in-LockFile in
+    rw c.in-LockFile.is (λ under ready after.
+    lock_files path start before did.new.hand c.args.notes.now did.new.notes did.result c.in-LockFile.part did.new.self (λ fd amid. did.ensures.leaves path fd start.hand before amid ready after) op under)
+
+pub returns-in-Take-clause-under : goal.returns-in-Take-clause-under
+returns-in-Take-clause-under c op start before =
+    let path = c.args.path.now in
+    let did = c.next-in-Take in
+    rw c.in-Take.is (λ under ready after.
+    takes path start before did.new.hand c.args.notes.now did.new.notes did.result c.in-Take.part did.new.self (λ n looking amid. did.ensures.leaves n looking start.hand before amid ready after) op under)
+
+pub returns-in-Relock-clause-under : goal.returns-in-Relock-clause-under
+returns-in-Relock-clause-under c op start before =
+    let path = c.args.path.now in
+    let did = c.next-in-Relock in
+    rw c.in-Relock.is (λ under ready after.
+    relocks path start before did.new.hand c.args.notes.now did.new.notes did.result c.in-Relock.part did.new.self (λ n amid. did.ensures.leaves path n start.hand before amid ready after) op under)

@@ -1,0 +1,107 @@
+-- How parts of several steps go on: each is under way, or leaves what its operation does.
+use Rattle.std.proofs.Common.{◌≡◌, ℕ, List, [], Option, Some, None, refl, sym, ap, ◌∙◌, subst}
+use Rattle.hands.specs.Hands.{with_txn}
+use Rattle.hands.specs.declared.hand.Hand.{Hand}
+use Rattle.hand_controls.specs.declared.finish.Finish.{Finish}
+use Rattle.inode_machine.specs.Inodes.{AtNothing, Query, Sort}
+use Rattle.inode_machine.specs.World as above
+use Rattle.plain_tree.specs.Tree.{Name}
+use Rattle.whole_calls.specs.Asks.{answer_to}
+use Rattle.whole_calls.specs.declared.asks.Heard.{Heard}
+use Rattle.whole_calls.specs.declared.asks.Heard.TheVariants as heard
+use Rattle.inode_parts.specs.Claims.{ClaimAmid}
+use Rattle.inode_parts.specs.Clears.{ClearAmid}
+use Rattle.inode_parts.specs.Empties.{EmptyAmid}
+use Rattle.inode_parts.specs.Enters.{EnterAmid}
+use Rattle.inode_parts.specs.FileLocks.{LockFileAmid, LockOpenAmid}
+use Rattle.inode_parts.specs.Fills.{FillAmid}
+use Rattle.inode_parts.specs.Frees.{FreeAmid}
+use Rattle.inode_parts.specs.Relocks.{RelockAmid}
+use Rattle.inode_parts.specs.Stores.{StoreAmid}
+use Rattle.inode_parts.specs.Takes.{TakeAmid}
+use Rattle.inode_parts.specs.Holding.{Having, Leaves}
+use Rattle.inode_parts.specs.Leaving.{having, StaysOrLeaves}
+use Rattle.inode_parts.specs.UnderWay.{GoesOrLeaves, UnderWay}
+use Rattle.inode_parts.specs.declared.claim_part.ClaimPart.{ClaimPart}
+use Rattle.inode_parts.specs.declared.clear_part.ClearPart.{ClearPart}
+use Rattle.inode_parts.specs.declared.empty_part.EmptyPart.{EmptyPart}
+use Rattle.inode_parts.specs.declared.enter_part.EnterPart.{EnterPart}
+use Rattle.inode_parts.specs.declared.fill_part.FillPart.{FillPart}
+use Rattle.inode_parts.specs.declared.free_part.FreePart.{FreePart}
+use Rattle.inode_parts.specs.declared.lock_file_part.LockFilePart.{LockFilePart}
+use Rattle.inode_parts.specs.declared.lock_open_part.LockOpenPart.{LockOpenPart}
+use Rattle.inode_parts.specs.declared.note.Notes.{Notes}
+use Rattle.inode_parts.specs.declared.part.InodePart.{InodePart}
+use Rattle.inode_parts.specs.declared.part.InodePart.TheVariants as part
+use Rattle.inode_parts.specs.declared.relock_part.RelockPart.{RelockPart}
+use Rattle.inode_parts.specs.declared.store_part.StorePart.{StorePart}
+use Rattle.inode_parts.specs.declared.take_part.TakePart.{TakePart}
+
+-- it began with what was learned then, and so it goes on
+went : (path : List ℕ) (op : above.Op) (start : Having) (Amid : Hand → Type 0) (q : InodePart) (m m2 : Notes) (h : Hand) (o : Option Heard) → m ≡ start.notes
+    → ((Amid h × (m2 ≡ start.notes)) → UnderWay path op start q (having h m2)) → StaysOrLeaves Amid path op o (having start.hand m) (having h m2) → GoesOrLeaves path op start o q (having h m2)
+went path op start Amid q m m2 h None e on stays = on (stays.0, stays.1 ∙ e)
+went path op start Amid q m m2 h (Some x) e on leaves = subst (λ (m : Notes). Leaves path op (answer_to [] op x) (having start.hand m) (having h m2)) e leaves
+
+module _ (path : List ℕ) (start : Having) (before h : Hand) (m m2 : Notes) (o : Option Heard) where
+  abbrev Goes : InodePart → InodePart → Type 0
+  Goes q r = (op : above.Op) → UnderWay path op start q (having before m) → GoesOrLeaves path op start o r (having h m2)
+
+  pub stores : (p r : StorePart) → ((n count : ℕ) → StoreAmid n start.hand p before → StaysOrLeaves (StoreAmid n start.hand r) path (above.Store n count) o (having start.hand m) (having h m2)) → Goes (part.Store p) (part.Store r)
+  stores p r on (above.Store n count) under = went path (above.Store n count) start (StoreAmid n start.hand r) (part.Store r) m m2 h o under.1 (λ stays. stays) (on n count under.0)
+  stores p r on op under = absurd under.0
+
+  pub empties : (p r : EmptyPart) → ((n : ℕ) → EmptyAmid n start.hand p before → StaysOrLeaves (EmptyAmid n start.hand r) path (above.Empty n) o (having start.hand m) (having h m2)) → Goes (part.Empty p) (part.Empty r)
+  empties p r on (above.Empty n) under = went path (above.Empty n) start (EmptyAmid n start.hand r) (part.Empty r) m m2 h o under.1 (λ stays. stays) (on n under.0)
+  empties p r on op under = absurd under.0
+
+  pub enters : (p r : EnterPart) → ((n child : ℕ) (e : Name) → EnterAmid n start.hand p before → StaysOrLeaves (EnterAmid n start.hand r) path (above.Enter n e child) o (having start.hand m) (having h m2)) → Goes (part.Enter p) (part.Enter r)
+  enters p r on (above.Enter n e child) under = went path (above.Enter n e child) start (EnterAmid n start.hand r) (part.Enter r) m m2 h o under.1 (λ stays. stays) (on n child e under.0)
+  enters p r on op under = absurd under.0
+
+  pub clears : (p r : ClearPart) → ((n : ℕ) (e : Name) → ClearAmid n start.hand p before → StaysOrLeaves (ClearAmid n start.hand r) path (above.Clear n e) o (having start.hand m) (having h m2)) → Goes (part.Clear p) (part.Clear r)
+  clears p r on (above.Clear n e) under = went path (above.Clear n e) start (ClearAmid n start.hand r) (part.Clear r) m m2 h o under.1 (λ stays. stays) (on n e under.0)
+  clears p r on op under = absurd under.0
+
+  pub fills : (p r : FillPart) → ((n d : ℕ) → FillAmid n start.hand p before → StaysOrLeaves (FillAmid n start.hand r) path (above.Fill n d) o (having start.hand m) (having h m2)) → Goes (part.Fill p) (part.Fill r)
+  fills p r on (above.Fill n d) under = went path (above.Fill n d) start (FillAmid n start.hand r) (part.Fill r) m m2 h o under.1 (λ stays. stays) (on n d under.0)
+  fills p r on op under = absurd under.0
+
+  pub frees : (p r : FreePart) → ((n : ℕ) → FreeAmid n start.hand p before → StaysOrLeaves (FreeAmid n start.hand r) path (above.Free n) o (having start.hand m) (having h m2)) → Goes (part.Free p) (part.Free r)
+  frees p r on (above.Free n) under = went path (above.Free n) start (FreeAmid n start.hand r) (part.Free r) m m2 h o under.1 (λ stays. stays) (on n under.0)
+  frees p r on op under = absurd under.0
+
+  pub claims : (p r : ClaimPart) → ((sort : Sort) → ClaimAmid start.hand p before → StaysOrLeaves (ClaimAmid start.hand r) path (above.Claim sort) o (having start.hand m) (having h m2)) → Goes (part.Claim p) (part.Claim r)
+  claims p r on (above.Claim sort) under = went path (above.Claim sort) start (ClaimAmid start.hand r) (part.Claim r) m m2 h o under.1 (λ stays. stays) (on sort under.0)
+  claims p r on op under = absurd under.0
+
+  pub lock_opens : (p r : LockOpenPart) → ((fd n : ℕ) → LockOpenAmid fd start.hand p before → StaysOrLeaves (LockOpenAmid fd start.hand r) path (above.LockOpen fd n) o (having start.hand m) (having h m2)) → Goes (part.LockOpen p) (part.LockOpen r)
+  lock_opens p r on (above.LockOpen fd n) under = went path (above.LockOpen fd n) start (LockOpenAmid fd start.hand r) (part.LockOpen r) m m2 h o under.1 (λ stays. stays) (on fd n under.0)
+  lock_opens p r on op under = absurd under.0
+
+  pub lock_files : (p r : LockFilePart) → ((fd : ℕ) → LockFileAmid fd start.hand p before → StaysOrLeaves (LockFileAmid fd start.hand r) path (above.LockFile fd) o (having start.hand m) (having h m2)) → Goes (part.LockFile p) (part.LockFile r)
+  lock_files p r on (above.LockFile fd) under = went path (above.LockFile fd) start (LockFileAmid fd start.hand r) (part.LockFile r) m m2 h o under.1 (λ stays. stays) (on fd under.0)
+  lock_files p r on op under = absurd under.0
+
+  pub relocks : (p r : RelockPart) → ((n : ℕ) → RelockAmid n start.hand p before → StaysOrLeaves (RelockAmid n start.hand r) path (above.Take n AtNothing) o (having start.hand m) (having h m2)) → Goes (part.Relock p) (part.Relock r)
+  relocks p r on (above.Take n looking) under =
+      subst (λ (q : Query). GoesOrLeaves path (above.Take n q) start o (part.Relock r) (having h m2)) (sym under.0.0)
+      (went path (above.Take n AtNothing) start (RelockAmid n start.hand r) (part.Relock r) m m2 h o under.1 (λ stays. ((refl, stays.0), stays.1)) (on n under.0.1))
+  relocks p r on op under = absurd under.0
+
+  pub takes : (p r : TakePart) → ((n : ℕ) (looking : Query) → TakeAmid path n looking start.hand p before → StaysOrLeaves (TakeAmid path n looking start.hand r) path (above.Take n looking) o (having start.hand m) (having h m2)) → Goes (part.Take p) (part.Take r)
+  takes p r on (above.Take n looking) under = went path (above.Take n looking) start (TakeAmid path n looking start.hand r) (part.Take r) m m2 h o under.1 (λ stays. stays) (on n looking under.0)
+  takes p r on op under = absurd under.0
+
+-- a transaction is left
+no_txn : (h : Hand) → h.txn ≡ None → h ≡ with_txn None h
+no_txn h e = λ i. record h { txn = e i }
+
+module _ (path : List ℕ) (m : Notes) (start : Having) (before h : Hand) (f g : Finish) (same : with_txn None h ≡ with_txn None before) where
+  pub leave_stays : (op : above.Op) → UnderWay path op start (part.Leave f) (having before m) → UnderWay path op start (part.Leave g) (having h m)
+  leave_stays above.Leave under = (same ∙ under.0, under.1)
+  leave_stays op under = absurd under.0
+
+  pub leave_leaves : (op : above.Op) → UnderWay path op start (part.Leave f) (having before m) → h.txn ≡ None → Leaves path op (answer_to [] op heard.Did) start (having h m)
+  leave_leaves above.Leave under gone = (no_txn h gone ∙ same ∙ under.0, under.1)
+  leave_leaves op under gone = absurd under.0
