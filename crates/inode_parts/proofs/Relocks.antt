@@ -15,21 +15,29 @@ use Rattle.hands.specs.declared.hand.Seat.{Seat}
 use Rattle.hands.specs.declared.hand.Seat.TheVariants.{One, Two}
 use Rattle.hand_controls.specs.Emptying.{HasNoBuffer}
 use Rattle.hand_controls.specs.HeldInodes.{number_in, HasBlock}
+use Rattle.hand_controls.specs.LoadingHeld.{beside_lock}
 use Rattle.hand_controls.specs.LockingInodes.{lock_loaded}
 use Rattle.tree_laws.proofs.Maps.{eq_is, eq_self}
 use Rattle.inode_machine.specs.Inodes.{AtNothing, Query}
 use Rattle.inode_machine.specs.World.Op.{Take}
+use Rattle.whole_calls.specs.Asks.{answer_to}
+use Rattle.whole_calls.specs.declared.asks.Heard.{Heard}
 use Rattle.whole_calls.specs.declared.asks.Query.TheVariants as query
 use Rattle.inode_parts.specs.Carries.{carry_in}
+use Rattle.inode_parts.specs.Coming.{Comes}
+use Rattle.inode_parts.specs.Holding.{CameTo, Leaves}
+use Rattle.inode_parts.specs.Leaving.{having}
 use Rattle.inode_parts.specs.OneSteps.{IsAlone, free_seat, other, refers, seat_of_reference}
 use Rattle.inode_parts.specs.Parts.{IsPart, Part}
-use Rattle.inode_parts.specs.Relocks.{RelockBegins, RelockReady}
+use Rattle.inode_parts.specs.Relocks.{MayRelock, RelockBegins, RelockReady}
 use Rattle.inode_parts.specs.Sides.{beside_in}
-use Rattle.inode_parts.specs.Takes.{looked, TakeBegins}
+use Rattle.inode_parts.specs.Takes.{looked, IsTaken, Sees, TakeBegins}
 use Rattle.inode_parts.specs.declared.note.Notes.{Notes}
 use Rattle.inode_parts.specs.declared.relock_part.RelockPart.TheVariants as relock
+use Rattle.inode_parts.proofs.Seeing.{taken_leaves}
 use Rattle.inode_parts.proofs.Sides.{alone_still, same_beside}
 use Rattle.inode_parts.proofs.Takes.{locked_is_part}
+use Rattle.inode_parts.proofs.Taking.{number_same}
 
 -- ---- by which reference it is locked
 
@@ -132,3 +140,34 @@ module _ (k : Seat) (before h : Hand) (g : GuardState Inode) (is : h ≡ with_in
       (λ i. bind (load_unless inodestart (sym locks_so i) (inode_in k h).content) (looked path query.Nothing (same_beside path m k before h other_same i) (sym refers_so i)))
       ∙ ap (λ (p : code.P Dinode). bind p (looked path query.Nothing (beside_in path m k h) (number_at k h))) (sym program)
       ∙ ends
+
+-- ---- what it leaves
+
+-- the reference came to this seat
+first_at : (k : Seat) (h : Hand) → number_at k (with_first k h) ≡ first_listed h
+first_at One h = refl
+first_at Two h = refl
+
+-- .. and its lock comes there too
+first_comes : (k : Seat) (h : Hand) (g : GuardState Inode) → inode_at k h ≡ None → h.first ≡ None → Comes k (with_first k h) (with_inode k (Some g) (with_first k h))
+first_comes One h g free empty = (free, empty, refl)
+first_comes Two h g free empty = (free, empty, refl)
+
+module _ (n : ℕ) (start : Hand) (may : MayRelock n start) (k : Seat) (at : k ≡ free_seat start) where
+  abbrev referred_to : Hand
+  referred_to = with_first (free_seat start) start
+
+  number_came : number_at k referred_to ≡ n
+  number_came = (λ i. number_at (at i) referred_to) ∙ first_at (free_seat start) start ∙ ap first_in may.1.1
+
+  pub relock_comes : (before h : Hand) (g : GuardState Inode) → before ≡ start → h ≡ with_inode k (Some g) (with_first k before) → Comes k referred_to h
+  relock_comes before h g still is =
+      subst (λ (h : Hand). Comes k referred_to h) (sym (is ∙ ap (λ (h : Hand). with_inode k (Some g) (with_first k h)) still))
+      (subst (λ (k : Seat). Comes k referred_to (with_inode k (Some g) (with_first k start))) (sym at) (first_comes (free_seat start) start g may.3 may.5.0))
+
+  pub relock_leaves : (path : List ℕ) (m m2 : Notes) (h : Hand) (x : Heard) → Comes k referred_to h → IsTaken k h → h.first ≡ None → Sees path AtNothing k x m m2
+      → Leaves path (Take n AtNothing) (answer_to [] (Take n AtNothing) x) (having start m) (having h m2)
+  relock_leaves path m m2 h x comes taken over sees =
+      let kept = sym (number_same k referred_to h comes.2) ∙ number_came in
+      let left = taken_leaves path m m2 n AtNothing start referred_to k h x kept comes taken over sees in
+      ((((λ has. absurd (may.0 has)), (λ none. subst (λ (k : Seat). CameTo k n referred_to h) at left.0)), sees.0), left.1)

@@ -28,7 +28,7 @@ use Rattle.inode_parts.specs.Leaving.{having}
 use Rattle.inode_parts.specs.Carries.{note_at, with_note}
 use Rattle.inode_parts.specs.Clears.{HasFound}
 use Rattle.inode_parts.specs.Coming.{Comes}
-use Rattle.inode_parts.specs.Holding.{CameTo, IsCounted, Learns, Leaves}
+use Rattle.inode_parts.specs.Holding.{CameTo, IsCounted, Learns, LearnsBy, Leaves}
 use Rattle.inode_parts.specs.OneSteps.{HasReference, IsAlone, other, seat_of_lock, seat_of_reference}
 use Rattle.inode_parts.specs.Takes.{note_of, IsTaken, Sees}
 use Rattle.inode_parts.specs.declared.note.Note.{Note}
@@ -88,13 +88,19 @@ number_kept : (k : Seat) (n : ℕ) (start h : Hand) → k ≡ seat_of_reference 
 number_kept k n start h at has same =
     sym (number_same k start h same) ∙ ap (λ (k : Seat). number_at k start) at ∙ ap (λ (o : Option ℕ). unwrap_or o 0) has
 
-pub take_leaves : (path : List ℕ) (m m2 : Notes) (n : ℕ) (looking : whole.Query) (start : Hand) (k : Seat) (h : Hand) (x : Heard) → HasReference n start → k ≡ seat_of_reference n start → Comes k start h
-    → IsTaken k h → h.first ≡ None → Sees path looking k x m m2 → Leaves path (Take n looking) (answer_to [] (Take n looking) x) (having start m) (having h m2)
-take_leaves path m m2 n looking start k h x has at comes taken over sees =
-    let kept = number_kept k n start h at has comes.2 in
+-- what comes of a lock at a seat beside which all is as it was, and of what was seen there
+pub taken_leaves : (path : List ℕ) (m m2 : Notes) (n : ℕ) (looking : whole.Query) (start from : Hand) (k : Seat) (h : Hand) (x : Heard) → number_at k h ≡ n → Comes k from h
+    → IsTaken k h → h.first ≡ None → Sees path looking k x m m2 → CameTo k n from h × LearnsBy path n looking (sight_in x) (having start m) (having h m2)
+taken_leaves path m m2 n looking start from k h x kept comes taken over sees =
     let named = taken.1 ∙ kept in
     let seat = its_seat n k h taken.0 named (subst (λ (i : ℕ). IsAlone i k h) kept taken.2) in
     let back : k ≡ seat_of_lock n h = sym seat in (
-      (((λ is. subst (λ (k : Seat). CameTo k n start h) at (came k n start h comes over taken.0 named)), (λ none. absurd (none has))), sees.0),
+      came k n from h comes over taken.0 named,
       (subst (λ (k : Seat). note_at (other k) m2 ≡ note_at (other k) m) back sees.1, subst (λ (k : Seat). Learns path looking (sight_in x) (note_at k m2)) back sees.2),
     )
+
+pub take_leaves : (path : List ℕ) (m m2 : Notes) (n : ℕ) (looking : whole.Query) (start : Hand) (k : Seat) (h : Hand) (x : Heard) → HasReference n start → k ≡ seat_of_reference n start → Comes k start h
+    → IsTaken k h → h.first ≡ None → Sees path looking k x m m2 → Leaves path (Take n looking) (answer_to [] (Take n looking) x) (having start m) (having h m2)
+take_leaves path m m2 n looking start k h x has at comes taken over sees =
+    let left = taken_leaves path m m2 n looking start start k h x (number_kept k n start h at has comes.2) comes taken over sees in
+    ((((λ is. subst (λ (k : Seat). CameTo k n start h) at left.0), (λ none. absurd (none has))), sees.0), left.1)

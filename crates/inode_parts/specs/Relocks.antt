@@ -6,10 +6,11 @@ use Rattle.inode_table.specs.Programs.{inode_block}
 use Rattle.hands.specs.declared.hand.Hand.{Hand}
 use Rattle.hands.specs.declared.op.Op.{Op}
 use Rattle.hands.specs.declared.op.Op.TheVariants as ops
-use Rattle.hands.specs.Hands.{first_listed, inode_at, number_at, reference_at}
+use Rattle.hands.specs.Hands.{first_listed, inode_at, number_at, reference_at, with_first}
 use Rattle.hand_controls.specs.Emptying.{HasNoBuffer}
 use Rattle.hand_controls.specs.LockingInodes.{lock_left, lock_loaded, lock_asked, lock_seat, LockReady}
 use Rattle.whole_calls.specs.declared.asks.Query.TheVariants as query
+use Rattle.inode_parts.specs.Coming.{Comes}
 use Rattle.inode_parts.specs.OneSteps.{HasReference, IsAlone, free_seat}
 use Rattle.inode_parts.specs.Parts.{Part}
 use Rattle.inode_parts.specs.Sides.{beside_in}
@@ -35,6 +36,11 @@ RelockReady (relock.Loading r) h = LockReady r h × IsAlone (number_at (lock_sea
 abbrev pub MayRelock : ℕ → Hand → Type 0
 MayRelock n h = (HasReference n h → ⊥) × ((rest : List ℕ) × (h.listed ≡ n ∷ rest)) × (reference_at (free_seat h) h ≡ None) × (inode_at (free_seat h) h ≡ None)
     × IsAlone n (free_seat h) h × HasNoBuffer h
+
+-- it comes to the free seat of the hand at the start: the hand is that still, or the lock came with the reference
+abbrev pub RelockAmid : ℕ → Hand → RelockPart → Hand → Type 0
+RelockAmid n start (relock.Locking k inodestart) now = MayRelock n start × (k ≡ free_seat start) × (now ≡ start)
+RelockAmid n start (relock.Loading r) now = MayRelock n start × (lock_seat r ≡ free_seat start) × Comes (lock_seat r) (with_first (free_seat start) start) now
 
 -- what it asks of the hand
 abbrev pub RelockBegins : Super → ℕ → Hand → Type 0

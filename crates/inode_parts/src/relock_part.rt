@@ -9,10 +9,11 @@ ghost use Rattle.hand_controls.specs.HeldInodes.{record_in};
 ghost use Rattle.inode_machine.specs.Inodes.{AtNothing};
 ghost use Rattle.inode_machine.specs.World.Op.{Take};
 ghost use Rattle.inode_parts.specs.Carries.{carry_in, handed};
+ghost use Rattle.inode_parts.specs.Leaving.{having, StaysOrLeaves};
 ghost use Rattle.inode_parts.specs.Parts.{IsPart};
-ghost use Rattle.inode_parts.specs.Relocks.{relock_left, relock_asked, RelockBegins, RelockReady};
+ghost use Rattle.inode_parts.specs.Relocks.{relock_left, relock_asked, RelockAmid, RelockBegins, RelockReady};
 ghost use Rattle.inode_parts.specs.Sides.{beside_in};
-ghost use Rattle.inode_parts.specs.Takes.{looked, IsTaken};
+ghost use Rattle.inode_parts.specs.Takes.{looked, IsTaken, Sees};
 ghost use Rattle.inode_parts.specs.declared.note.Notes.{Notes as NotesState};
 ghost use Rattle.whole_calls.specs.declared.asks.Query.TheVariants as query;
 
@@ -41,6 +42,7 @@ impl RelockPart {
         ensures part { (path : List ℕ) (notes : NotesState) (number : ℕ) → RelockBegins sizes.now number hand.now
             → IsPart sizes.now (carry_in path notes hand.now) (Take number AtNothing) (relock_left path notes result hand.now) }
         ensures ready { RelockReady result hand.now }
+        ensures amid { (number : ℕ) → RelockBegins sizes.now number hand.now → RelockAmid number hand.now result hand.now }
     {
         let seat = free_seat(hand);
         RelockPart::Locking(seat, sizes.inodestart)
@@ -68,6 +70,10 @@ impl RelockPart {
             → Goes (relock_left path notes.old self.old before) (answer_in (relock_asked self.old) answer hand.old)
             (left_after (relock_left path notes.new) (handed path notes.new) result self.new hand.new) }
         ensures ready { IfNone result (RelockReady self.new hand.new) }
+        ensures leaves { (path : List ℕ) (number : ℕ) (start before : HandState) → RelockAmid number start self.old before
+            → RelockReady self.old before → IsAfter (relock_asked self.old) before answer hand.old
+            → StaysOrLeaves (RelockAmid number start self.new) path (Take number AtNothing) result
+            (having start notes.old) (having hand.new notes.new) }
         ensures hand { bare hand.new ≡ bare hand.old }
     {
         match self {
@@ -92,8 +98,9 @@ impl RelockPart {
 // What is seen of the inode at a seat.
 fn seen(seat: Seat, notes: &mut Notes, hand: &Hand) -> Heard
     requires { IsTaken seat hand.now }
-    ensures { (path : List ℕ) → Ret (handed path notes.new result hand.now)
+    ensures program { (path : List ℕ) → Ret (handed path notes.new result hand.now)
         ≡ looked path query.Nothing (beside_in path notes.old seat hand.now) (number_at seat hand.now) (record_in seat hand.now) }
+    ensures sees { (path : List ℕ) → Sees path AtNothing seat result notes.old notes.new }
 {
     let inode = record_at(hand, seat);
     notes.set(seat, Note::Nothing);

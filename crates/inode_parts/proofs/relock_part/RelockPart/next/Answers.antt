@@ -1,18 +1,20 @@
-use Rattle.std.proofs.Common.{◌≡◌, ℕ, Some, None, sym, subst, ◌∙◌}
+use Rattle.std.proofs.Common.{◌≡◌, ℕ, Some, None, refl, sym, subst, ◌∙◌}
 use Rattle.atomic_programs.specs.Prog.{Ret, bind}
-use Rattle.hands.specs.Hands.{number_at}
+use Rattle.hands.specs.Hands.{number_at, with_first}
 use Rattle.hands.specs.Ops.{IsAfter, answer_in}
 use Rattle.hands.specs.declared.hand.Hand.{Hand}
 use Rattle.hands.specs.declared.hand.Seat.{Seat}
 use Rattle.hand_controls.specs.HeldInodes.{record_in}
 use Rattle.hand_controls.specs.LockingInodes.{lock_left, lock_asked, lock_seat}
 use Rattle.whole_calls.specs.declared.asks.Query.TheVariants as query
-use Rattle.inode_parts.specs.OneSteps.{IsAlone}
+use Rattle.inode_parts.specs.Coming.{Comes}
+use Rattle.inode_parts.specs.OneSteps.{IsAlone, free_seat}
 use Rattle.inode_parts.specs.Relocks.{relock_asked, RelockReady}
 use Rattle.inode_parts.specs.Sides.{beside_in}
 use Rattle.inode_parts.specs.Takes.{looked}
 use Rattle.inode_parts.specs.declared.relock_part.RelockPart.{RelockPart}
-use Rattle.inode_parts.proofs.Relocks.{came_alone, came_block, came_buffers, came_goes, came_number, came_some}
+use Rattle.inode_parts.proofs.Coming.{comes_on}
+use Rattle.inode_parts.proofs.Relocks.{came_alone, came_block, came_buffers, came_goes, came_number, came_some, relock_comes, relock_leaves}
 use Rattle.inode_parts.proofs.Taking.{alone_locked, is_taken, take_on, take_over}
 use Rattle.inode_parts.proofs.relock_part.RelockPart.next.Goals as goal
 
@@ -45,7 +47,7 @@ returns-in-None-clause-goes c path before =
     let h = c.args.hand.now in
     let k = c.in-Locking.seat in
     rw c.in-Locking.is (λ ready after.
-    came_goes k before h after.0 after.1 after.2 path c.args.notes.now c.in-Locking.inodestart (Ret (record_in k h)) _ c.in-None.ensures.program (sym (c.seen.ensures path)))
+    came_goes k before h after.0 after.1 after.2 path c.args.notes.now c.in-Locking.inodestart (Ret (record_in k h)) _ c.in-None.ensures.program (sym (c.seen.ensures.program path)))
 
 pub returns-in-Some-clause-goes : goal.returns-in-Some-clause-goes
 unfolding answer_in
@@ -84,4 +86,43 @@ returns-in-Some-next-clause-goes c path before =
     let did = c.in-Some-next.ensures in
     rw c.in-Loading.is (λ ready after.
     take_over path c.args.notes.now query.Nothing (lock_seat r) before c.next.new.hand (lock_left r before) (answer_in (lock_asked r) c.args.answer c.args.hand.now) (did.beside before ready.0 after) c.in-Some-next.seat _ did.ends.0
-    (sym (c.seen-in-Some-next.ensures path)) (did.goes before ready.0 after))
+    (sym (c.seen-in-Some-next.ensures.program path)) (did.goes before ready.0 after))
+
+pub returns-in-None-clause-leaves : goal.returns-in-None-clause-leaves
+returns-in-None-clause-leaves c path n start before =
+    let h = c.args.hand.now in
+    let k = c.in-Locking.seat in
+    let is = c.in-None.ensures.ready in
+    rw c.in-Locking.is (λ amid ready after.
+    relock_leaves n start amid.0 k amid.1 path c.args.notes.now c.seen.new.notes h c.seen.result (relock_comes n start amid.0 k amid.1 before h after.0 amid.2 after.1)
+    (is.0, is.1, came_alone k before h after.0 after.1 after.2 ready.3) is.2 (c.seen.ensures.sees path))
+
+pub returns-in-Some-clause-leaves : goal.returns-in-Some-clause-leaves
+returns-in-Some-clause-leaves c path n start before =
+    let h = c.args.hand.now in
+    let k = c.in-Locking.seat in
+    let at = c.in-Some.ensures.ready.1 in
+    rw c.in-Locking.is (λ amid ready after.
+    let comes = relock_comes n start amid.0 k amid.1 before h after.0 amid.2 after.1 in
+    ((amid.0, at ∙ amid.1, subst (λ (k : Seat). Comes k (with_first (free_seat start) start) h) (sym at) comes), refl))
+
+pub returns-in-None-next-clause-leaves : goal.returns-in-None-next-clause-leaves
+returns-in-None-next-clause-leaves c path n start before =
+    let r = c.in-Loading.lock in
+    let h = c.next.new.hand in
+    let did = c.in-None-next.ensures in
+    rw c.in-Loading.is (λ amid ready after.
+    let comes = comes_on (lock_seat r) (lock_seat c.next.new.self) (with_first (free_seat start) start) before h did.about (did.beside before ready.0 after) amid.2 in
+    ((amid.0, did.about ∙ amid.1, comes), refl))
+
+pub returns-in-Some-next-clause-leaves : goal.returns-in-Some-next-clause-leaves
+returns-in-Some-next-clause-leaves c path n start before =
+    let r = c.in-Loading.lock in
+    let k = c.in-Some-next.seat in
+    let h = c.next.new.hand in
+    let ends = c.in-Some-next.ensures.ends in
+    rw c.in-Loading.is (λ amid ready after.
+    let same = c.in-Some-next.ensures.beside before ready.0 after in
+    relock_leaves n start amid.0 k (ends.0 ∙ amid.1) path c.args.notes.now c.seen-in-Some-next.new.notes h c.seen-in-Some-next.result
+    (comes_on (lock_seat r) k (with_first (free_seat start) start) before h ends.0 same amid.2) (is_taken (lock_seat r) k before h ends.0 same ready.1 ends.1) ends.1.2
+    (c.seen-in-Some-next.ensures.sees path))
