@@ -15,7 +15,7 @@ use crate::note::Notes;
 use crate::part::InodePart;
 use fs_layout::Super;
 use hands::{Answer, Control, Hand, Op};
-use plain_tree::{Call, Reply};
+use plain_tree::{Answer as CallAnswer, Call, Reply};
 use std::mem;
 use whole_calls::{Dup, Numbers, Whole};
 
@@ -90,15 +90,17 @@ impl Control for Lowered {
             .next(self.call.text(), &mut self.notes, answer, hand)
         {
             None => None,
-            Some(heard) => match self.call.next(&heard, &mut self.list) {
-                None => {
+            Some(heard) => {
+                let mut says = CallAnswer::Done;
+                if self.call.next(&heard, &mut self.list, &mut says) {
+                    Some(take_call(&mut self.call).reply(says))
+                } else {
                     let ask = self.call.ask();
                     let path = self.call.text();
                     self.part = InodePart::begin(ask, &self.sizes, path, &self.notes, hand);
                     None
                 }
-                Some(answer) => Some(take_call(&mut self.call).reply(answer)),
-            },
+            }
         }
     }
 }

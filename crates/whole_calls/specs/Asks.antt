@@ -267,6 +267,11 @@ abbrev pub turned : {C : Type 0} → (C → P Reply) → Call → Turn C CallAns
 turned program call (turn.Asks c) = program c
 turned program call (turn.Ends a) = Ret (reply_to call a)
 
+-- the same of a call that is stepped in its place, and whose answer stands in another where it has ended
+abbrev pub stepped : P Reply → Call → CallAnswer → Bool → P Reply
+stepped p call a false = p
+stepped p call a true = Ret (reply_to call a)
+
 -- ---- marks, of moves for this tree step; that of a write is for all its bytes
 
 -- a piece of its bytes

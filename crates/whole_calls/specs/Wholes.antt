@@ -1,5 +1,5 @@
 -- What is left of a call, whichever it is.
-use Rattle.std.specs.Prelude.{◌≢◌, ◌≤◌, ◌<◌, ◌^◌, ◌+◌, ℕ, List, [], length, All, Option, Some, None}
+use Rattle.std.specs.Prelude.{◌≢◌, ◌≤◌, ◌<◌, ◌^◌, ◌+◌, ℕ, Bool, List, [], length, All}
 use Rattle.plain_tree.specs.Tree.{elements}
 use Rattle.plain_tree.specs.declared.answer.Answer.{Answer as CallAnswer}
 use Rattle.plain_tree.specs.declared.answer.Reply.{Reply}
@@ -7,9 +7,8 @@ use Rattle.plain_tree.specs.declared.call.Call.{Call}
 use Rattle.plain_tree.specs.declared.call.Call.TheVariants as calls
 use Rattle.plain_tree.specs.declared.step.Action.{Action}
 use Rattle.plain_tree.specs.declared.step.Action.TheVariants as steps
-use Rattle.atomic_programs.specs.Prog.{Ret}
 use Rattle.inode_machine.specs.Parts.{P}
-use Rattle.whole_calls.specs.Asks.{count_in, reply_to}
+use Rattle.whole_calls.specs.Asks.{count_in, stepped}
 use Rattle.whole_calls.specs.Calls.{Fits, chdir_of, chdir_stage, dup_of, most_listed, stat_of, unlink_of, unlink_stage}
 use Rattle.whole_calls.specs.Closes.{close_of, inherit_of}
 use Rattle.whole_calls.specs.Links.{LinkFits, link_action, link_of, link_stage, link_text}
@@ -76,9 +75,9 @@ action_in (whole.Fstat fd c) = steps.Fstat fd
 action_in (whole.Close fd c) = steps.Close fd
 action_in (whole.Inherit child c) = steps.Inherit child
 
-abbrev pub went_to : List ℕ → Whole → Option CallAnswer → P Reply
-went_to ns w None = whole_of ns w
-went_to ns w (Some a) = Ret (reply_to (call_in w) a)
+-- stepped in its place, with its answer where it has ended
+abbrev pub went_to : List ℕ → Whole → CallAnswer → Bool → P Reply
+went_to ns w a ended = stepped (whole_of ns w) (call_in w) a ended
 
 -- no byte of it is 0
 abbrev pub IsPath : List ℕ → Type 0

@@ -1,9 +1,13 @@
 //! What a call asks of whole inodes, and what it hears.
-ghost use Rattle.std.specs.Prelude.{◌≡◌};
-ghost use Rattle.whole_calls.specs.Asks.{at_in, bool_in, checked_in, claimed_in, claimed_of, count_in, doubled_in, entered_in, entered_of, face_in_stat, joined_in, joined_of, loan_in, loan_of, locked_in, locked_of, number_in, shut_in, sight_in, sight_of, start_in, with_face, wrote_in, wrote_of};
+ghost use Rattle.std.specs.Prelude.{◌≡◌, false};
+ghost use Rattle.plain_tree.specs.declared.answer.Reply.{Reply};
+ghost use Rattle.plain_tree.specs.declared.call.Call.{Call};
+ghost use Rattle.inode_machine.specs.Parts.{P};
+ghost use Rattle.whole_calls.specs.declared.asks.Turn.TheVariants as turns;
+ghost use Rattle.whole_calls.specs.Asks.{at_in, bool_in, checked_in, claimed_in, claimed_of, count_in, doubled_in, entered_in, entered_of, face_in_stat, joined_in, joined_of, loan_in, loan_of, locked_in, locked_of, number_in, shut_in, sight_in, sight_of, start_in, stepped, turned, with_face, wrote_in, wrote_of};
 
 use crate::elements::Element;
-use plain_tree::Cause;
+use plain_tree::{Answer, Cause};
 
 /// What is looked for in an inode whose lock is taken. A name stands in the call's path.
 #[derive(Clone, Copy)]
@@ -323,6 +327,26 @@ impl Heard {
 pub enum Turn<C, R> {
     Asks(C),
     Ends(R),
+}
+
+impl<C: Copy> Turn<C, Answer> {
+    /// Leaves what it asks next in the one place, or what it ends with in the other: true where it has ended.
+    #[inline(always)]
+    pub fn leave(self, at: &mut C, says: &mut Answer) -> bool
+        ensures goes { (program : C → P Reply) (call : Call) → turned program call self ≡ stepped (program at.new) call says.new result }
+        ensures asks { result ≡ false → self ≡ turns.Asks at.new }
+    {
+        match self {
+            Turn::Asks(next) => {
+                *at = next;
+                false
+            }
+            Turn::Ends(answer) => {
+                *says = answer;
+                true
+            }
+        }
+    }
 }
 
 /// What an operation is marked with: the tree's move that is made there, or a note of what has no move. Which tree step a move is for, the call says.

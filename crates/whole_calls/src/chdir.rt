@@ -1,8 +1,8 @@
 //! chdir.
-ghost use Rattle.std.specs.Prelude.{◌≡◌, ◌≢◌, ◌≤◌, ◌+◌, ℕ, All, [], List, Option, Some, length};
+ghost use Rattle.std.specs.Prelude.{◌≡◌, ◌≢◌, ◌≤◌, ◌+◌, ℕ, All, [], List, Option, Some, length, false};
 ghost use Rattle.plain_tree.specs.declared.call.Call.TheVariants as calls;
 ghost use Rattle.plain_tree.specs.declared.step.Action.TheVariants as steps;
-ghost use Rattle.whole_calls.specs.Asks.{asks, hears, mark_at, marked_as, op_in, turned, IsNamed};
+ghost use Rattle.whole_calls.specs.Asks.{asks, hears, mark_at, marked_as, op_in, stepped, turned, IsNamed};
 ghost use Rattle.whole_calls.specs.Calls.{chdir_of, chdir_stage, Fits, FitsOn, Fresh, chdir_after};
 ghost use Rattle.inode_machine.specs.Moving.{chdir_program};
 ghost use Rattle.whole_calls.specs.Walks.{StandsAt, most_walked, walked_to};
@@ -84,6 +84,23 @@ impl Chdir {
                 Turn::Ends(answer) => Turn::Ends(answer),
             },
         }
+    }
+
+    /// The same in its place: true where it has ended, with its answer left in `says`.
+    #[inline(always)]
+    pub fn step(
+        &mut self,
+        heard: &Heard,
+        path: &[u8],
+        list: &mut Numbers,
+        says: &mut Answer,
+    ) -> bool
+        requires nonzero { All (λ b. b ≢ 0) path.now }
+        requires fits { Fits path.now list.old (chdir_stage self.old) }
+        ensures goes { (text : List ℕ) → hears text (chdir_of path.now list.old self.old) heard.now ≡ stepped (chdir_of path.now list.new self.new) (calls.Chdir path.now) says.new result }
+        ensures fits { result ≡ false → Fits path.now list.new (chdir_stage self.new) }
+    {
+        (*self).next(heard, path, list).leave(self, says)
     }
 
     pub fn mark(&self, heard: &Heard) -> Option<Mark>

@@ -2,7 +2,7 @@
 ghost use Rattle.std.specs.Prelude.{◌≡◌, ◌≤◌, ℕ, [], List, Option, Some};
 ghost use Rattle.plain_tree.specs.declared.call.Call.TheVariants as calls;
 ghost use Rattle.plain_tree.specs.declared.step.Action.TheVariants as steps;
-ghost use Rattle.whole_calls.specs.Asks.{asks, hears, loan_of, mark_at, marked_as, op_in, turned, IsNamed};
+ghost use Rattle.whole_calls.specs.Asks.{asks, hears, loan_of, mark_at, marked_as, op_in, stepped, turned, IsNamed};
 ghost use Rattle.whole_calls.specs.Closes.{close_of, inherit_of};
 ghost use Rattle.inode_machine.specs.Descriptors.{close_program};
 ghost use Rattle.inode_machine.specs.Moving.{inherit_program, lend_from, lend_on};
@@ -58,6 +58,14 @@ impl Close {
             Close::Leave => Turn::Asks(Close::Say),
             Close::Say => Turn::Ends(Answer::Done),
         }
+    }
+
+    /// The same in its place: true where it has ended, with its answer left in `says`.
+    #[inline(always)]
+    pub fn step(&mut self, heard: &Heard, says: &mut Answer) -> bool
+        ensures { (text : List ℕ) (fd : ℕ) → hears text (close_of fd self.old) heard.now ≡ stepped (close_of fd self.new) (calls.Close fd) says.new result }
+    {
+        (*self).next(heard).leave(self, says)
     }
 
     pub fn mark(&self) -> Option<Mark>
@@ -139,6 +147,14 @@ impl Inherit {
             Inherit::Leave => Turn::Asks(Inherit::Release),
             Inherit::Release => Turn::Ends(Answer::Done),
         }
+    }
+
+    /// The same in its place: true where it has ended, with its answer left in `says`.
+    #[inline(always)]
+    pub fn step(&mut self, heard: &Heard, says: &mut Answer) -> bool
+        ensures { (text : List ℕ) (child : ℕ) → hears text (inherit_of child self.old) heard.now ≡ stepped (inherit_of child self.new) (calls.Inherit child) says.new result }
+    {
+        (*self).next(heard).leave(self, says)
     }
 
     pub fn mark(&self, heard: &Heard) -> Option<Mark>

@@ -2,7 +2,7 @@
 ghost use Rattle.std.specs.Prelude.{◌≡◌, ℕ, [], List, Option, Some};
 ghost use Rattle.plain_tree.specs.declared.call.Call.TheVariants as calls;
 ghost use Rattle.plain_tree.specs.declared.step.Action.TheVariants as steps;
-ghost use Rattle.whole_calls.specs.Asks.{asks, hears, mark_at, marked_as, op_in, turned, face_of, IsNamed};
+ghost use Rattle.whole_calls.specs.Asks.{asks, hears, mark_at, marked_as, op_in, stepped, turned, face_of, IsNamed};
 ghost use Rattle.whole_calls.specs.Calls.{dup_of, stat_of};
 ghost use Rattle.inode_machine.specs.Descriptors.{dup_program, stat_program};
 ghost use Rattle.plain_tree.specs.declared.answer.Answer.TheVariants as answers;
@@ -46,6 +46,14 @@ impl Dup {
             },
             Dup::Says(answer) => Turn::Ends(answer),
         }
+    }
+
+    /// The same in its place: true where it has ended, with its answer left in `says`.
+    #[inline(always)]
+    pub fn step(&mut self, heard: &Heard, says: &mut Answer) -> bool
+        ensures { (text : List ℕ) (fd : ℕ) → hears text (dup_of fd self.old) heard.now ≡ stepped (dup_of fd self.new) (calls.Dup fd) says.new result }
+    {
+        (*self).next(heard).leave(self, says)
     }
 
     pub fn mark(&self, heard: &Heard) -> Option<Mark>
@@ -116,6 +124,14 @@ impl Fstat {
             Fstat::Give(_, answer) => Turn::Asks(Fstat::Says(answer)),
             Fstat::Says(answer) => Turn::Ends(answer),
         }
+    }
+
+    /// The same in its place: true where it has ended, with its answer left in `says`.
+    #[inline(always)]
+    pub fn step(&mut self, heard: &Heard, says: &mut Answer) -> bool
+        ensures { (text : List ℕ) (fd : ℕ) → hears text (stat_of fd self.old) heard.now ≡ stepped (stat_of fd self.new) (calls.Fstat fd) says.new result }
+    {
+        (*self).next(heard).leave(self, says)
     }
 
     pub fn mark(&self) -> Option<Mark>

@@ -3,7 +3,7 @@ ghost use Rattle.std.specs.Prelude.{◌≡◌, ℕ, List, Option, Some};
 ghost use Rattle.plain_tree.specs.declared.answer.Reply.{Reply};
 ghost use Rattle.plain_tree.specs.declared.call.Call.{Call};
 ghost use Rattle.plain_tree.specs.declared.step.Action.{Action};
-ghost use Rattle.whole_calls.specs.Asks.{asks, hears, mark_at, marked_as, op_in, reply_to, turned, IsNamed};
+ghost use Rattle.whole_calls.specs.Asks.{asks, hears, mark_at, marked_as, op_in, reply_to, stepped, turned, IsNamed};
 ghost use Rattle.whole_calls.specs.Ends.{after_free, ending_of, freeing_of};
 ghost use Rattle.inode_machine.specs.Parts.{P, free_all, say, tail};
 
@@ -110,6 +110,13 @@ impl Ending {
             },
             Ending::Says(answer) => Turn::Ends(answer),
         }
+    }
+
+    /// The same in its place: true where it has ended, with its answer left in `says`.
+    pub fn step(&mut self, heard: &Heard, list: &mut Numbers, says: &mut Answer) -> bool
+        ensures { (text : List ℕ) (call : Call) → hears text (ending_of call list.old self.old) heard.now ≡ stepped (ending_of call list.new self.new) call says.new result }
+    {
+        (*self).next(heard, list).leave(self, says)
     }
 
     pub fn mark(&self) -> Option<Mark>

@@ -1,9 +1,9 @@
 //! link: the count goes up first, and down again where the name can't be entered.
-ghost use Rattle.std.specs.Prelude.{◌≡◌, ◌≢◌, ◌≤◌, ◌+◌, ℕ, All, [], List, Option, Some, length, if◌then◌else◌};
+ghost use Rattle.std.specs.Prelude.{◌≡◌, ◌≢◌, ◌≤◌, ◌+◌, ℕ, All, [], List, Option, Some, length, if◌then◌else◌, false};
 ghost use Rattle.plain_tree.specs.Tree.{elements};
 ghost use Rattle.plain_tree.specs.declared.call.Call.TheVariants as calls;
 ghost use Rattle.plain_tree.specs.declared.step.Action.TheVariants as steps;
-ghost use Rattle.whole_calls.specs.Asks.{asks, entered_of, face_of, hears, mark_at, marked_as, op_in, reply_to, sight_of, turned, IsNamed};
+ghost use Rattle.whole_calls.specs.Asks.{asks, entered_of, face_of, hears, mark_at, marked_as, op_in, reply_to, sight_of, stepped, turned, IsNamed};
 ghost use Rattle.whole_calls.specs.Elements.{name_in, IsElement};
 ghost use Rattle.inode_machine.specs.Inodes.{face_or};
 ghost use Rattle.whole_calls.specs.Links.{link_action, link_of, link_text, new_after, old_after, link_stage, LinkFits, LinkFitsOn, Fresh, Past, took};
@@ -233,6 +233,25 @@ impl Link {
             },
         };
         Turn::Asks(next)
+    }
+
+    /// The same in its place: true where it has ended, with its answer left in `says`.
+    #[inline(always)]
+    pub fn step(
+        &mut self,
+        heard: &Heard,
+        old: &[u8],
+        new: &[u8],
+        list: &mut Numbers,
+        says: &mut Answer,
+    ) -> bool
+        requires old_nonzero { All (λ b. b ≢ 0) old.now }
+        requires new_nonzero { All (λ b. b ≢ 0) new.now }
+        requires fits { LinkFits old.now new.now list.old (link_stage self.old) }
+        ensures goes { (text : List ℕ) → hears text (link_of old.now new.now list.old self.old) heard.now ≡ stepped (link_of old.now new.now list.new self.new) (calls.Link old.now new.now) says.new result }
+        ensures fits { result ≡ false → LinkFits old.now new.now list.new (link_stage self.new) }
+    {
+        (*self).next(heard, old, new, list).leave(self, says)
     }
 
     pub fn mark(&self, heard: &Heard, new: &[u8]) -> Option<Mark>

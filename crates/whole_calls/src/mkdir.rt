@@ -1,9 +1,9 @@
 //! mkdir: the new directory with its two entries first, then its name and its parent's count.
-ghost use Rattle.std.specs.Prelude.{◌≡◌, ◌≢◌, ◌≤◌, ◌+◌, ℕ, All, [], List, Option, Some, length};
+ghost use Rattle.std.specs.Prelude.{◌≡◌, ◌≢◌, ◌≤◌, ◌+◌, ℕ, All, [], List, Option, Some, length, false};
 ghost use Rattle.plain_tree.specs.Tree.{elements};
 ghost use Rattle.plain_tree.specs.declared.call.Call.TheVariants as calls;
 ghost use Rattle.plain_tree.specs.declared.step.Action.TheVariants as steps;
-ghost use Rattle.whole_calls.specs.Asks.{asks, claimed_of, entered_of, face_of, hears, mark_at, marked_as, op_in, reply_to, sight_of, turned, IsNamed};
+ghost use Rattle.whole_calls.specs.Asks.{asks, claimed_of, entered_of, face_of, hears, mark_at, marked_as, op_in, reply_to, sight_of, stepped, turned, IsNamed};
 ghost use Rattle.whole_calls.specs.Calls.{Fits, FitsOn, Fresh, Past};
 ghost use Rattle.whole_calls.specs.Elements.{name_in, IsElement};
 ghost use Rattle.inode_machine.specs.Inodes.{face_or};
@@ -204,6 +204,23 @@ impl Mkdir {
             },
         };
         Turn::Asks(next)
+    }
+
+    /// The same in its place: true where it has ended, with its answer left in `says`.
+    #[inline(always)]
+    pub fn step(
+        &mut self,
+        heard: &Heard,
+        path: &[u8],
+        list: &mut Numbers,
+        says: &mut Answer,
+    ) -> bool
+        requires nonzero { All (λ b. b ≢ 0) path.now }
+        requires fits { Fits path.now list.old (mkdir_stage self.old) }
+        ensures goes { (text : List ℕ) → hears text (mkdir_of path.now list.old self.old) heard.now ≡ stepped (mkdir_of path.now list.new self.new) (calls.Mkdir path.now) says.new result }
+        ensures fits { result ≡ false → Fits path.now list.new (mkdir_stage self.new) }
+    {
+        (*self).next(heard, path, list).leave(self, says)
     }
 
     pub fn mark(&self, heard: &Heard, path: &[u8]) -> Option<Mark>

@@ -1,10 +1,10 @@
 //! open: what is there is opened, or a new file made.
-ghost use Rattle.std.specs.Prelude.{◌≡◌, ◌≢◌, ◌≤◌, ◌+◌, ℕ, All, [], List, Option, Some, length, ◌==◌};
+ghost use Rattle.std.specs.Prelude.{◌≡◌, ◌≢◌, ◌≤◌, ◌+◌, ℕ, All, [], List, Option, Some, length, ◌==◌, false};
 ghost use Rattle.plain_tree.specs.Steps.{creates, has};
 ghost use Rattle.plain_tree.specs.Tree.{elements};
 ghost use Rattle.plain_tree.specs.declared.call.Call.TheVariants as calls;
 ghost use Rattle.plain_tree.specs.declared.step.Action.TheVariants as steps;
-ghost use Rattle.whole_calls.specs.Asks.{asks, claimed_of, entered_of, face_of, hears, mark_at, marked_as, op_in, reply_to, sight_of, sort_of, turned, IsNamed};
+ghost use Rattle.whole_calls.specs.Asks.{asks, claimed_of, entered_of, face_of, hears, mark_at, marked_as, op_in, reply_to, sight_of, sort_of, stepped, turned, IsNamed};
 ghost use Rattle.whole_calls.specs.Calls.{Fits, FitsOn, Fresh, Past};
 ghost use Rattle.whole_calls.specs.Elements.{name_in, IsElement};
 ghost use Rattle.inode_machine.specs.Inodes.{face_or, open_refusal};
@@ -339,6 +339,32 @@ impl Open {
         Turn::Asks(next)
     }
 
+    /// The same in its place: true where it has ended, with its answer left in `says`.
+    #[inline(always)]
+    pub fn step(
+        &mut self,
+        heard: &Heard,
+        path: &[u8],
+        flags: u32,
+        list: &mut Numbers,
+        says: &mut Answer,
+    ) -> bool
+        requires nonzero { All (λ b. b ≢ 0) path.now }
+        requires fits { Fits path.now list.old (open_stage self.old) }
+        ensures goes { (text : List ℕ) → hears text (open_of path.now flags list.old self.old) heard.now ≡ stepped (open_of path.now flags list.new self.new) (calls.Open path.now flags) says.new result }
+        ensures fits { result ≡ false → Fits path.now list.new (open_stage self.new) }
+    {
+        match self {
+            Open::Walks(walk) => {
+                let walk = *walk;
+                walk_on(self, walk, heard, path, flags, list);
+                false
+            }
+            Open::Ends(ending) => ending.step(heard, list, says),
+            _ => go_on(self, heard, path, flags, list, says),
+        }
+    }
+
     /// The move that is made here, if one is.
     pub fn mark(&self, heard: &Heard, path: &[u8], flags: u32) -> Option<Mark>
         requires { All (λ b. b ≢ 0) path.now }
@@ -390,4 +416,31 @@ impl Open {
             _ => None,
         }
     }
+}
+
+/// A step of the walk, in its place.
+fn walk_on(at: &mut Open, walk: Walk, heard: &Heard, path: &[u8], flags: u32, list: &mut Numbers)
+    requires nonzero { All (λ b. b ≢ 0) path.now }
+    requires fits { Fits path.now list.old (open_stage (opening.Walks walk)) }
+    ensures goes { (text : List ℕ) → hears text (open_of path.now flags list.old (opening.Walks walk)) heard.now ≡ open_of path.now flags list.new at.new }
+    ensures fits { Fits path.now list.new (open_stage at.new) }
+{
+    *at = walked(walk.next(goal(flags), heard, path, list), flags);
+}
+
+/// Any other step, in its place.
+fn go_on(
+    at: &mut Open,
+    heard: &Heard,
+    path: &[u8],
+    flags: u32,
+    list: &mut Numbers,
+    says: &mut Answer,
+) -> bool
+    requires nonzero { All (λ b. b ≢ 0) path.now }
+    requires fits { Fits path.now list.old (open_stage at.old) }
+    ensures goes { (text : List ℕ) → hears text (open_of path.now flags list.old at.old) heard.now ≡ stepped (open_of path.now flags list.new at.new) (calls.Open path.now flags) says.new result }
+    ensures fits { result ≡ false → Fits path.now list.new (open_stage at.new) }
+{
+    (*at).next(heard, path, flags, list).leave(at, says)
 }

@@ -1,8 +1,8 @@
 //! read: the inode is locked, then a part read, and the offset moves; or the descriptor isn't for that.
-ghost use Rattle.std.specs.Prelude.{◌≡◌, ◌≤◌, ◌<◌, ◌^◌, ℕ, [], List, Option, Some, length};
+ghost use Rattle.std.specs.Prelude.{◌≡◌, ◌≤◌, ◌<◌, ◌^◌, ℕ, [], List, Option, Some, length, false};
 ghost use Rattle.plain_tree.specs.declared.call.Call.TheVariants as calls;
 ghost use Rattle.plain_tree.specs.declared.step.Action.TheVariants as steps;
-ghost use Rattle.whole_calls.specs.Asks.{asks, hears, mark_at, marked_as, op_in, turned, count_in, IsNamed};
+ghost use Rattle.whole_calls.specs.Asks.{asks, hears, mark_at, marked_as, op_in, stepped, turned, count_in, IsNamed};
 ghost use Rattle.inode_machine.specs.Descriptors.{read_program};
 ghost use Rattle.whole_calls.specs.Reads.{FilledFrom, ReadFits, ReadFitsOn, read_of};
 
@@ -52,6 +52,18 @@ impl Read {
             Read::Part(_, _) => Turn::Asks(Read::Says(heard.count())),
             Read::Says(count) => Turn::Ends(Answer::Count(count as u32)),
         }
+    }
+
+    /// The same in its place: true where it has ended, with its answer left in `says`.
+    #[inline(always)]
+    pub fn step(&mut self, heard: &Heard, buffer: &[u8], says: &mut Answer) -> bool
+        requires short { length buffer.now < 2 ^ 31 }
+        requires fits { ReadFits buffer.now self.old }
+        requires count { count_in heard.now ≤ length buffer.now }
+        ensures goes { (fd : ℕ) (old : List ℕ) → FilledFrom old buffer.now self.old heard.now → hears buffer.now (read_of fd old self.old) heard.now ≡ stepped (read_of fd buffer.now self.new) (calls.Read fd buffer.now) says.new result }
+        ensures fits { result ≡ false → ReadFits buffer.now self.new }
+    {
+        (*self).next(heard, buffer).leave(self, says)
     }
 
     pub fn mark(&self, heard: &Heard) -> Option<Mark>

@@ -1,8 +1,8 @@
 //! unlink: a name removed.
-ghost use Rattle.std.specs.Prelude.{◌≡◌, ◌≢◌, ◌≤◌, ◌+◌, ℕ, All, [], List, Option, Some, length};
+ghost use Rattle.std.specs.Prelude.{◌≡◌, ◌≢◌, ◌≤◌, ◌+◌, ℕ, All, [], List, Option, Some, length, false};
 ghost use Rattle.plain_tree.specs.declared.call.Call.TheVariants as calls;
 ghost use Rattle.plain_tree.specs.declared.step.Action.TheVariants as steps;
-ghost use Rattle.whole_calls.specs.Asks.{asks, face_of, hears, mark_at, marked_as, op_in, turned, reply_to, sight_of, IsNamed};
+ghost use Rattle.whole_calls.specs.Asks.{asks, face_of, hears, mark_at, marked_as, op_in, stepped, turned, reply_to, sight_of, IsNamed};
 ghost use Rattle.whole_calls.specs.Calls.{Fits, FitsOn, Fresh, Past, unlink_stage, cleared, gave_parent, is_dots, unlink_after, unlink_of};
 ghost use Rattle.inode_machine.specs.Inodes.{is_directory_sort, face_or};
 ghost use Rattle.inode_machine.specs.Naming.{unlink_program, unlink_found};
@@ -195,6 +195,31 @@ impl Unlink {
         Turn::Asks(next)
     }
 
+    /// The same in its place: true where it has ended, with its answer left in `says`.
+    #[inline(always)]
+    pub fn step(
+        &mut self,
+        heard: &Heard,
+        path: &[u8],
+        list: &mut Numbers,
+        says: &mut Answer,
+    ) -> bool
+        requires nonzero { All (λ b. b ≢ 0) path.now }
+        requires fits { Fits path.now list.old (unlink_stage self.old) }
+        ensures goes { (text : List ℕ) → hears text (unlink_of path.now list.old self.old) heard.now ≡ stepped (unlink_of path.now list.new self.new) (calls.Unlink path.now) says.new result }
+        ensures fits { result ≡ false → Fits path.now list.new (unlink_stage self.new) }
+    {
+        match self {
+            Unlink::Walks(walk) => {
+                let walk = *walk;
+                walk_on(self, walk, heard, path, list);
+                false
+            }
+            Unlink::Ends(ending) => ending.step(heard, list, says),
+            _ => go_on(self, heard, path, list, says),
+        }
+    }
+
     /// The move that is made here, if one is.
     pub fn mark(&self, heard: &Heard, path: &[u8]) -> Option<Mark>
         requires { All (λ b. b ≢ 0) path.now }
@@ -271,4 +296,24 @@ fn found(directory: u32, element: Element, sight: &Sight) -> Unlink
             Unlink::Up(name, number)
         }
     }
+}
+
+/// A step of the walk, in its place.
+fn walk_on(at: &mut Unlink, walk: Walk, heard: &Heard, path: &[u8], list: &mut Numbers)
+    requires nonzero { All (λ b. b ≢ 0) path.now }
+    requires fits { Fits path.now list.old (unlink_stage (unlinking.Walks walk)) }
+    ensures goes { (text : List ℕ) → hears text (unlink_of path.now list.old (unlinking.Walks walk)) heard.now ≡ unlink_of path.now list.new at.new }
+    ensures fits { Fits path.now list.new (unlink_stage at.new) }
+{
+    *at = walked(walk.next(Goal::Parent, heard, path, list), path);
+}
+
+/// Any other step, in its place.
+fn go_on(at: &mut Unlink, heard: &Heard, path: &[u8], list: &mut Numbers, says: &mut Answer) -> bool
+    requires nonzero { All (λ b. b ≢ 0) path.now }
+    requires fits { Fits path.now list.old (unlink_stage at.old) }
+    ensures goes { (text : List ℕ) → hears text (unlink_of path.now list.old at.old) heard.now ≡ stepped (unlink_of path.now list.new at.new) (calls.Unlink path.now) says.new result }
+    ensures fits { result ≡ false → Fits path.now list.new (unlink_stage at.new) }
+{
+    (*at).next(heard, path, list).leave(at, says)
 }

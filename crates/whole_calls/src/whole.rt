@@ -1,11 +1,11 @@
 //! A call under way over whole inodes, whichever it is.
-ghost use Rattle.std.specs.Prelude.{◌≡◌, ◌≤◌, ℕ, [], List, Option, Some, length};
+ghost use Rattle.std.specs.Prelude.{◌≡◌, ◌≤◌, ℕ, [], List, Option, Some, length, false};
 ghost use Rattle.plain_tree.specs.declared.call.Call.{Call};
 ghost use Rattle.whole_calls.specs.Asks.{asks, count_in, hears, mark_at, marked_as, op_in, reply_to, IsNamed};
 ghost use Rattle.inode_machine.specs.Programs.{program};
 ghost use Rattle.whole_calls.specs.Wholes.{HasRoomFor, IsCall, WholeFits, action_in, call_in, text_in, went_to, whole_of};
 
-use crate::asks::{Ask, Heard, Mark, Turn};
+use crate::asks::{Ask, Heard, Mark};
 use crate::chdir::Chdir;
 use crate::close::{Close, Inherit};
 use crate::descriptors::{Dup, Fstat};
@@ -35,6 +35,7 @@ pub enum Whole {
 }
 
 impl Whole {
+    #[inline(always)]
     pub fn new(call: Call) -> Whole
         requires { IsCall call }
         ensures program { whole_of [] result ≡ program call }
@@ -90,85 +91,54 @@ impl Whole {
     }
 
     /// The next operation. Its names stand in the call's path, its pieces in its bytes.
+    #[inline(always)]
     pub fn ask(&self) -> Ask
         ensures asks { (list : List ℕ) → asks (whole_of list self.now) ≡ Some (op_in (text_in self.now) result) }
         ensures named { (list : List ℕ) → WholeFits list self.now → IsNamed (text_in self.now) result }
     {
         match self {
-            Whole::Open { path, flags, at } => at.ask(path.as_slice(), *flags),
-            Whole::Read { fd, buf, at } => at.ask(*fd, buf.as_slice()),
-            Whole::Write { fd, bytes, at } => at.ask(*fd, bytes.as_slice()),
-            Whole::Link { old, new, at } => at.ask(old.as_slice(), new.as_slice()),
-            Whole::Unlink { path, at } => at.ask(path.as_slice()),
-            Whole::Mkdir { path, at } => at.ask(path.as_slice()),
-            Whole::Chdir { path, at } => at.ask(path.as_slice()),
-            Whole::Dup { fd, at } => at.ask(*fd),
-            Whole::Fstat { fd, at } => at.ask(*fd),
-            Whole::Close { fd, at } => at.ask(*fd),
-            Whole::Inherit { child, at } => at.ask(*child),
+            Whole::Open { path, flags, at } => return at.ask(path.as_slice(), *flags),
+            Whole::Read { fd, buf, at } => return at.ask(*fd, buf.as_slice()),
+            Whole::Write { fd, bytes, at } => return at.ask(*fd, bytes.as_slice()),
+            Whole::Link { old, new, at } => return at.ask(old.as_slice(), new.as_slice()),
+            Whole::Unlink { path, at } => return at.ask(path.as_slice()),
+            Whole::Mkdir { path, at } => return at.ask(path.as_slice()),
+            Whole::Chdir { path, at } => return at.ask(path.as_slice()),
+            Whole::Dup { fd, at } => return at.ask(*fd),
+            Whole::Fstat { fd, at } => return at.ask(*fd),
+            Whole::Close { fd, at } => return at.ask(*fd),
+            Whole::Inherit { child, at } => return at.ask(*child),
         }
     }
 
-    /// Goes on with what it hears; or it has ended with this answer.
-    pub fn next(&mut self, heard: &Heard, list: &mut Numbers) -> Option<Answer>
+    /// Goes on with what it hears: true where it has ended, with its answer left in `says`.
+    #[inline(always)]
+    pub fn next(&mut self, heard: &Heard, list: &mut Numbers, says: &mut Answer) -> bool
         requires fits { WholeFits list.old self.old }
         requires count { HasRoomFor heard.now self.old }
-        ensures goes { hears (text_in self.old) (whole_of list.old self.old) heard.now ≡ went_to list.new self.new result }
+        ensures goes { hears (text_in self.old) (whole_of list.old self.old) heard.now ≡ went_to list.new self.new says.new result }
         ensures call { call_in self.new ≡ call_in self.old }
-        ensures fits { result ≡ None → WholeFits list.new self.new }
+        ensures fits { result ≡ false → WholeFits list.new self.new }
     {
         match self {
-            Whole::Open { path, flags, at } => match at.next(heard, path.as_slice(), *flags, list) {
-                Turn::Asks(next) => *at = next,
-                Turn::Ends(answer) => return Some(answer),
-            },
-            Whole::Read { fd, buf, at } => match at.next(heard, buf.as_slice()) {
-                Turn::Asks(next) => *at = next,
-                Turn::Ends(answer) => return Some(answer),
-            },
-            Whole::Write { fd, bytes, at } => match at.next(heard, bytes.as_slice()) {
-                Turn::Asks(next) => *at = next,
-                Turn::Ends(answer) => return Some(answer),
-            },
-            Whole::Link { old, new, at } => match at.next(
+            Whole::Open { path, flags, at } => at.step(heard, path.as_slice(), *flags, list, says),
+            Whole::Read { fd: _, buf, at } => at.step(heard, buf.as_slice(), says),
+            Whole::Write { fd: _, bytes, at } => at.step(heard, bytes.as_slice(), says),
+            Whole::Link { old, new, at } => at.step(
                 heard,
                 old.as_slice(),
                 new.as_slice(),
                 list,
-            ) {
-                Turn::Asks(next) => *at = next,
-                Turn::Ends(answer) => return Some(answer),
-            },
-            Whole::Unlink { path, at } => match at.next(heard, path.as_slice(), list) {
-                Turn::Asks(next) => *at = next,
-                Turn::Ends(answer) => return Some(answer),
-            },
-            Whole::Mkdir { path, at } => match at.next(heard, path.as_slice(), list) {
-                Turn::Asks(next) => *at = next,
-                Turn::Ends(answer) => return Some(answer),
-            },
-            Whole::Chdir { path, at } => match at.next(heard, path.as_slice(), list) {
-                Turn::Asks(next) => *at = next,
-                Turn::Ends(answer) => return Some(answer),
-            },
-            Whole::Dup { fd, at } => match at.next(heard) {
-                Turn::Asks(next) => *at = next,
-                Turn::Ends(answer) => return Some(answer),
-            },
-            Whole::Fstat { fd, at } => match at.next(heard) {
-                Turn::Asks(next) => *at = next,
-                Turn::Ends(answer) => return Some(answer),
-            },
-            Whole::Close { fd, at } => match at.next(heard) {
-                Turn::Asks(next) => *at = next,
-                Turn::Ends(answer) => return Some(answer),
-            },
-            Whole::Inherit { child, at } => match at.next(heard) {
-                Turn::Asks(next) => *at = next,
-                Turn::Ends(answer) => return Some(answer),
-            },
+                says,
+            ),
+            Whole::Unlink { path, at } => at.step(heard, path.as_slice(), list, says),
+            Whole::Mkdir { path, at } => at.step(heard, path.as_slice(), list, says),
+            Whole::Chdir { path, at } => at.step(heard, path.as_slice(), list, says),
+            Whole::Dup { fd: _, at } => at.step(heard, says),
+            Whole::Fstat { fd: _, at } => at.step(heard, says),
+            Whole::Close { fd: _, at } => at.step(heard, says),
+            Whole::Inherit { child: _, at } => at.step(heard, says),
         }
-        None
     }
 
     /// The move of the tree that is made as its operation acts with this answer, if one is.
@@ -192,6 +162,7 @@ impl Whole {
     }
 
     /// The path in which its names stand, or its bytes.
+    #[inline(always)]
     pub fn text(&self) -> &[u8]
         ensures { result.now ≡ text_in self.now }
     {
@@ -214,6 +185,7 @@ impl Whole {
     }
 
     /// The call handed back.
+    #[inline(always)]
     pub fn reply(self, answer: Answer) -> Reply
         ensures { result ≡ reply_to (call_in self) answer }
     {

@@ -1,9 +1,9 @@
 //! write: each piece in a transaction of its own; the first that is refused, or finds no block, ends the call.
-ghost use Rattle.std.specs.Prelude.{◌≡◌, ◌≢◌, ◌+◌, ◌<◌, ◌^◌, ℕ, [], List, Option, Some, length};
+ghost use Rattle.std.specs.Prelude.{◌≡◌, ◌≢◌, ◌+◌, ◌<◌, ◌^◌, ℕ, [], List, Option, Some, length, false};
 ghost use Rattle.plain_tree.specs.Calls.{piece_count};
 ghost use Rattle.plain_tree.specs.declared.call.Call.TheVariants as calls;
 ghost use Rattle.plain_tree.specs.declared.step.Action.TheVariants as steps;
-ghost use Rattle.whole_calls.specs.Asks.{asks, checked_in, hears, joined_of, mark_at, marked_as, op_in, reply_to, turned, wrote_of, IsNamed};
+ghost use Rattle.whole_calls.specs.Asks.{asks, checked_in, hears, joined_of, mark_at, marked_as, op_in, reply_to, stepped, turned, wrote_of, IsNamed};
 ghost use Rattle.inode_machine.specs.Descriptors.{checked_reply, joined_on, write_from, write_program, wrote_on};
 ghost use Rattle.whole_calls.specs.Writes.{WriteFits, WriteFitsOn, few, more_after, write_of};
 
@@ -141,6 +141,17 @@ impl Write {
             Write::JoinNext(piece) => Turn::Asks(Write::Lock(piece)),
             Write::Says(answer) => Turn::Ends(answer),
         }
+    }
+
+    /// The same in its place: true where it has ended, with its answer left in `says`.
+    #[inline(always)]
+    pub fn step(&mut self, heard: &Heard, bytes: &[u8], says: &mut Answer) -> bool
+        requires short { length bytes.now < 2 ^ 31 }
+        requires fits { WriteFits bytes.now self.old }
+        ensures goes { (text : List ℕ) (fd : ℕ) → hears text (write_of fd bytes.now self.old) heard.now ≡ stepped (write_of fd bytes.now self.new) (calls.Write fd bytes.now) says.new result }
+        ensures fits { result ≡ false → WriteFits bytes.now self.new }
+    {
+        (*self).next(heard, bytes).leave(self, says)
     }
 
     pub fn mark(&self, heard: &Heard, bytes: &[u8]) -> Option<Mark>
