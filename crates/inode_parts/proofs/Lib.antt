@@ -21,6 +21,7 @@ pub mod Coming
 pub mod Seeing
 pub mod Lefts
 pub mod Telling
+pub mod FileStats
 pub mod Searched
 pub mod Takes
 pub mod Relocks

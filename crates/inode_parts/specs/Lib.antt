@@ -13,6 +13,7 @@ pub mod Frees
 pub mod Claims
 pub mod FileLocks
 pub mod Faces
+pub mod FileStats
 pub mod Takes
 pub mod Relocks
 pub mod InodeParts

@@ -32,8 +32,8 @@ fn count(nlink: i16) -> u16
     if nlink < 0 { 0 } else { nlink as u16 }
 }
 
-// Its type, count and size.
-fn face(inode: &Dinode) -> Face
+/// Its type, count and size.
+pub(crate) fn face(inode: &Dinode) -> Face
     ensures is { result ≡ face_by inode.now }
     ensures few { result.count < 2 ^ 15 }
 {

@@ -20,6 +20,7 @@ mod part;
 mod places;
 mod records;
 mod relock_part;
+mod stat_file_part;
 mod store_part;
 mod take_part;
 
@@ -37,5 +38,6 @@ pub use note::{Note, Notes};
 pub use one_step::OneStep;
 pub use part::InodePart;
 pub use relock_part::RelockPart;
+pub use stat_file_part::StatFilePart;
 pub use store_part::StorePart;
 pub use take_part::TakePart;

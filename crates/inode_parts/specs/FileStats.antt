@@ -1,0 +1,43 @@
+-- What a descriptor names locked, to tell its state, as a part.
+use Rattle.std.specs.Prelude.{◌≡◌, ℕ, List, None}
+use Rattle.std.specs.Option.{option_map}
+use Rattle.plain_tree.specs.Tree.{put}
+use Rattle.fs_layout.specs.declared.inode.Dinode.{Dinode}
+use Rattle.atomic_programs.specs.Prog.{Ret, bind}
+use Rattle.fs_tables.specs.Inodes.{LockedState, Refuses, Locks}
+use Rattle.hands.specs.declared.hand.Hand.{Hand}
+use Rattle.hands.specs.declared.op.Op.{Op}
+use Rattle.hands.specs.Hands.{inode_at}
+use Rattle.hand_controls.specs.LockingFiles.{file_left, file_asked, file_seat, FileReady}
+use Rattle.inodes_on_blocks.specs.Lowering.{Carry}
+use Rattle.whole_calls.specs.declared.asks.Face.{Face}
+use Rattle.whole_calls.specs.declared.asks.Heard.TheVariants as heard
+use Rattle.inode_parts.specs.Carries.{had_of}
+use Rattle.inode_parts.specs.Coming.{Comes}
+use Rattle.inode_parts.specs.Faces.{face_by}
+use Rattle.inode_parts.specs.OneSteps.{other}
+use Rattle.inode_parts.specs.Parts.{Part}
+use Rattle.inode_parts.specs.Sides.{beside_in}
+use Rattle.inode_parts.specs.declared.note.Note.TheVariants as note
+use Rattle.inode_parts.specs.declared.note.Notes.{Notes}
+use Rattle.inode_parts.specs.declared.stat_file_part.StatFilePart.{StatFilePart}
+
+-- the state of inode n
+abbrev pub state_by : ℕ → Dinode → ℕ × Face
+state_by n d = (n, face_by d)
+
+abbrev pub stat_ends : List ℕ → Carry → LockedState → Part
+stat_ends path c (Refuses why) = Ret (record { answer = (path, heard.Stat None); carry = c })
+stat_ends path c (Locks f content) = Ret (record { answer = (path, heard.Stat (option_map (state_by f.number) content)); carry = put c f.number (had_of path note.Nothing content) })
+
+abbrev pub stat_left : List ℕ → Notes → StatFilePart → Hand → Part
+stat_left path m p h = bind (file_left p.lock h) (stat_ends path (beside_in path m (file_seat p.lock) h))
+
+abbrev pub stat_asked : StatFilePart → Op
+stat_asked p = file_asked p.lock
+
+abbrev pub StatReady : StatFilePart → Hand → Type 0
+StatReady p h = FileReady p.lock h × (inode_at (other (file_seat p.lock)) h ≡ None)
+
+abbrev pub StatAmid : Hand → StatFilePart → Hand → Type 0
+StatAmid start p now = Comes (file_seat p.lock) start now

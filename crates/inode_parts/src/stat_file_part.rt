@@ -1,0 +1,77 @@
+//! What a descriptor names locked, to tell its state.
+ghost use Rattle.std.specs.Prelude.{◌≡◌, ℕ, List, Some, IfNone};
+ghost use Rattle.atomic_programs.specs.Prog.{asks};
+ghost use Rattle.hands.specs.Ops.{op_in, answer_in, CanDo, Prepared, IsAfter};
+ghost use Rattle.hands.specs.Controls.{Goes, left_after, bare};
+ghost use Rattle.hands.specs.declared.hand.Hand.{Hand as HandState};
+ghost use Rattle.inode_machine.specs.World.Op.{StatFile as Stats};
+ghost use Rattle.inode_parts.specs.Carries.{carry_in, handed};
+ghost use Rattle.inode_parts.specs.FileLocks.{LockBegins};
+ghost use Rattle.inode_parts.specs.FileStats.{stat_left, stat_asked, StatAmid, StatReady};
+ghost use Rattle.inode_parts.specs.Leaving.{having, StaysOrLeaves};
+ghost use Rattle.inode_parts.specs.Parts.{IsPart};
+ghost use Rattle.inode_parts.specs.declared.note.Notes.{Notes as NotesState};
+
+use crate::faces::face;
+use crate::note::{Note, Notes};
+use crate::records::record_at;
+use fs_layout::Super;
+use fs_tables::Want;
+use hand_controls::{FileLocked, LockFile};
+use hands::{Answer, Hand, Op, Routine, Seat};
+use whole_calls::Heard;
+
+/// The lock of what a descriptor names is taken, where that has a state to tell.
+#[derive(Clone, Copy, Drop)]
+pub struct StatFilePart {
+    pub lock: LockFile,
+}
+
+impl StatFilePart {
+    /// That of this descriptor, on a disk of these sizes.
+    pub fn begin(fd: u32, sizes: &Super, hand: &Hand) -> StatFilePart
+        requires begins { LockBegins sizes.now hand.now }
+        ensures part { (path : List ℕ) (notes : NotesState)
+            → IsPart sizes.now (carry_in path notes hand.now) (Stats fd) (stat_left path notes result hand.now) }
+        ensures ready { StatReady result hand.now }
+        ensures amid { StatAmid hand.now result hand.now }
+    {
+        let lock = LockFile::new(sizes.inodestart, Seat::One, Want::Stat, fd);
+        StatFilePart { lock }
+    }
+
+    /// The next operation.
+    pub fn op(&self, hand: &mut Hand) -> Op
+        requires ready { StatReady self.now hand.old }
+        ensures op { result ≡ stat_asked self.now }
+        ensures asks { (path : List ℕ) (notes : NotesState) → asks (stat_left path notes self.now hand.old) ≡ Some (op_in hand.new result) }
+        ensures can { CanDo result hand.new }
+        ensures prepared { Prepared result hand.old hand.new }
+    {
+        self.lock.op(hand)
+    }
+
+    /// How it goes on; or what is heard.
+    pub fn next(&mut self, notes: &mut Notes, answer: Answer, hand: &mut Hand) -> Option<Heard>
+        requires came { (before : HandState) × StatReady self.old before × IsAfter (stat_asked self.old) before answer hand.old }
+        ensures goes { (path : List ℕ) (before : HandState) → StatReady self.old before
+            → IsAfter (stat_asked self.old) before answer hand.old
+            → Goes (stat_left path notes.old self.old before) (answer_in (stat_asked self.old) answer hand.old)
+            (left_after (stat_left path notes.new) (handed path notes.new) result self.new hand.new) }
+        ensures ready { IfNone result (StatReady self.new hand.new) }
+        ensures leaves { (path : List ℕ) (fd : ℕ) (start before : HandState) → StatAmid start self.old before
+            → StatReady self.old before → IsAfter (stat_asked self.old) before answer hand.old
+            → StaysOrLeaves (StatAmid start self.new) path (Stats fd) result (having start notes.old) (having hand.new notes.new) }
+        ensures hand { bare hand.new ≡ bare hand.old }
+    {
+        match self.lock.next(answer, hand) {
+            None => None,
+            Some(FileLocked::Refused(_)) => Some(Heard::Stat(None)),
+            Some(FileLocked::Locked(held)) => {
+                let inode = record_at(hand, held.seat);
+                notes.set(held.seat, Note::Nothing);
+                Some(Heard::Stat(Some((held.file.number as u16, face(&inode)))))
+            }
+        }
+    }
+}
