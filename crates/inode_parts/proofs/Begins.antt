@@ -152,19 +152,21 @@ pub short_begins : (path : List ℕ) (m : Notes) (a : Ask) (h : Hand) → PartBe
     → ((s : Sort) → a ≢ ask.Claim s)
     → ((fd n : ℕ) → a ≢ ask.LockOpen fd n)
     → ((fd : ℕ) → a ≢ ask.LockFile fd)
+    → ((fd : ℕ) → a ≢ ask.StatFile fd)
     → ((n : ℕ) (q : Query) → a ≢ ask.Take n q)
     → Begins (op_in path a) h
-short_begins path m (ask.Store n count) h has store empty enter clear fill free claim opened locked taken = absurd (store n count refl)
-short_begins path m (ask.Empty n) h has store empty enter clear fill free claim opened locked taken = absurd (empty n refl)
-short_begins path m (ask.Enter d e n) h has store empty enter clear fill free claim opened locked taken = absurd (enter d e n refl)
-short_begins path m (ask.Clear d e) h has store empty enter clear fill free claim opened locked taken = absurd (clear d e refl)
-short_begins path m (ask.Fill n d) h has store empty enter clear fill free claim opened locked taken = absurd (fill n d refl)
-short_begins path m (ask.Free n) h has store empty enter clear fill free claim opened locked taken = absurd (free n refl)
-short_begins path m (ask.Claim s) h has store empty enter clear fill free claim opened locked taken = absurd (claim s refl)
-short_begins path m (ask.LockOpen fd n) h has store empty enter clear fill free claim opened locked taken = absurd (opened fd n refl)
-short_begins path m (ask.LockFile fd) h has store empty enter clear fill free claim opened locked taken = absurd (locked fd refl)
-short_begins path m (ask.Take n q) h has store empty enter clear fill free claim opened locked taken = absurd (taken n q refl)
-short_begins path m a h has store empty enter clear fill free claim opened locked taken = has
+short_begins path m (ask.Store n count) h has store empty enter clear fill free claim opened locked told taken = absurd (store n count refl)
+short_begins path m (ask.Empty n) h has store empty enter clear fill free claim opened locked told taken = absurd (empty n refl)
+short_begins path m (ask.Enter d e n) h has store empty enter clear fill free claim opened locked told taken = absurd (enter d e n refl)
+short_begins path m (ask.Clear d e) h has store empty enter clear fill free claim opened locked told taken = absurd (clear d e refl)
+short_begins path m (ask.Fill n d) h has store empty enter clear fill free claim opened locked told taken = absurd (fill n d refl)
+short_begins path m (ask.Free n) h has store empty enter clear fill free claim opened locked told taken = absurd (free n refl)
+short_begins path m (ask.Claim s) h has store empty enter clear fill free claim opened locked told taken = absurd (claim s refl)
+short_begins path m (ask.LockOpen fd n) h has store empty enter clear fill free claim opened locked told taken = absurd (opened fd n refl)
+short_begins path m (ask.LockFile fd) h has store empty enter clear fill free claim opened locked told taken = absurd (locked fd refl)
+short_begins path m (ask.StatFile fd) h has store empty enter clear fill free claim opened locked told taken = absurd (told fd refl)
+short_begins path m (ask.Take n q) h has store empty enter clear fill free claim opened locked told taken = absurd (taken n q refl)
+short_begins path m a h has store empty enter clear fill free claim opened locked told taken = has
 
 -- none of these has a name to seek
 pub told_for : (path : List ℕ) (o : Option OneStep) → PartTold path (one_or_leave o)

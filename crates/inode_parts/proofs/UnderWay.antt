@@ -14,6 +14,7 @@ use Rattle.inode_parts.specs.Clears.{ClearAmid}
 use Rattle.inode_parts.specs.Empties.{EmptyAmid}
 use Rattle.inode_parts.specs.Enters.{EnterAmid}
 use Rattle.inode_parts.specs.FileLocks.{LockFileAmid, LockOpenAmid}
+use Rattle.inode_parts.specs.FileStats.{StatAmid}
 use Rattle.inode_parts.specs.Fills.{FillAmid}
 use Rattle.inode_parts.specs.Frees.{FreeAmid}
 use Rattle.inode_parts.specs.Relocks.{RelockAmid}
@@ -34,6 +35,7 @@ use Rattle.inode_parts.specs.declared.note.Notes.{Notes}
 use Rattle.inode_parts.specs.declared.part.InodePart.{InodePart}
 use Rattle.inode_parts.specs.declared.part.InodePart.TheVariants as part
 use Rattle.inode_parts.specs.declared.relock_part.RelockPart.{RelockPart}
+use Rattle.inode_parts.specs.declared.stat_file_part.StatFilePart.{StatFilePart}
 use Rattle.inode_parts.specs.declared.store_part.StorePart.{StorePart}
 use Rattle.inode_parts.specs.declared.take_part.TakePart.{TakePart}
 
@@ -82,6 +84,10 @@ module _ (path : List ℕ) (start : Having) (before h : Hand) (m m2 : Notes) (o 
   pub lock_files : (p r : LockFilePart) → ((fd : ℕ) → LockFileAmid fd start.hand p before → StaysOrLeaves (LockFileAmid fd start.hand r) path (above.LockFile fd) o (having start.hand m) (having h m2)) → Goes (part.LockFile p) (part.LockFile r)
   lock_files p r on (above.LockFile fd) under = went path (above.LockFile fd) start (LockFileAmid fd start.hand r) (part.LockFile r) m m2 h o under.1 (λ stays. stays) (on fd under.0)
   lock_files p r on op under = absurd under.0
+
+  pub stats : (p r : StatFilePart) → ((fd : ℕ) → StatAmid start.hand p before → StaysOrLeaves (StatAmid start.hand r) path (above.StatFile fd) o (having start.hand m) (having h m2)) → Goes (part.StatFile p) (part.StatFile r)
+  stats p r on (above.StatFile fd) under = went path (above.StatFile fd) start (StatAmid start.hand r) (part.StatFile r) m m2 h o under.1 (λ stays. stays) (on fd under.0)
+  stats p r on op under = absurd under.0
 
   pub relocks : (p r : RelockPart) → ((n : ℕ) → RelockAmid n start.hand p before → StaysOrLeaves (RelockAmid n start.hand r) path (above.Take n AtNothing) o (having start.hand m) (having h m2)) → Goes (part.Relock p) (part.Relock r)
   relocks p r on (above.Take n looking) under =

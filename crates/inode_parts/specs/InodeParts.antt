@@ -20,6 +20,7 @@ use Rattle.inode_parts.specs.Clears.{clear_part_left, clear_part_asked, ClearPar
 use Rattle.inode_parts.specs.Fills.{fill_part_left, fill_part_asked, FillPartReady}
 use Rattle.inode_parts.specs.Claims.{claim_left, claim_asked, ClaimReady}
 use Rattle.inode_parts.specs.FileLocks.{lock_file_left, lock_file_asked, lock_open_left, lock_open_asked, LockFileReady, LockOpenReady}
+use Rattle.inode_parts.specs.FileStats.{stat_left, stat_asked, StatReady}
 use Rattle.inode_parts.specs.Frees.{free_left, free_asked, FreeReady}
 use Rattle.inode_parts.specs.Takes.{take_left, take_asked, IsTold, TakeReady, TakeTold}
 use Rattle.inode_parts.specs.Relocks.{relock_left, relock_asked, RelockReady}
@@ -46,6 +47,7 @@ part_left path m (part.Free p) h = free_left path m p h
 part_left path m (part.Claim p) h = claim_left path m p h
 part_left path m (part.LockOpen p) h = lock_open_left path m p h
 part_left path m (part.LockFile p) h = lock_file_left path m p h
+part_left path m (part.StatFile p) h = stat_left path m p h
 part_left path m (part.Take p) h = take_left path m p h
 part_left path m (part.Relock p) h = relock_left path m p h
 
@@ -65,6 +67,7 @@ part_asked (part.Free p) = free_asked p
 part_asked (part.Claim p) = claim_asked p
 part_asked (part.LockOpen p) = lock_open_asked p
 part_asked (part.LockFile p) = lock_file_asked p
+part_asked (part.StatFile p) = stat_asked p
 part_asked (part.Take p) = take_asked p
 part_asked (part.Relock p) = relock_asked p
 
@@ -80,6 +83,7 @@ PartReady (part.Free p) h = FreeReady p h
 PartReady (part.Claim p) h = ClaimReady p h
 PartReady (part.LockOpen p) h = LockOpenReady p h
 PartReady (part.LockFile p) h = LockFileReady p h
+PartReady (part.StatFile p) h = StatReady p h
 PartReady (part.Take p) h = TakeReady p h
 PartReady (part.Relock p) h = RelockReady p h
 
@@ -102,7 +106,6 @@ part_for op h = one_or_leave (step_for op h)
 
 -- what an operation asks of the hand, and of what was learned, where it has a part
 abbrev pub PartBegins : List ℕ → above.Op → Having → Type 0
-PartBegins path (above.StatFile fd) s = ⊥
 PartBegins path (above.ReadFile fd n offset count) s = ⊥
 PartBegins path (above.WriteFile fd n offset bytes) s = ⊥
 PartBegins path op s = BeginsWith path op s

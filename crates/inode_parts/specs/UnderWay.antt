@@ -11,6 +11,7 @@ use Rattle.inode_parts.specs.Clears.{ClearAmid}
 use Rattle.inode_parts.specs.Empties.{EmptyAmid}
 use Rattle.inode_parts.specs.Enters.{EnterAmid}
 use Rattle.inode_parts.specs.FileLocks.{LockFileAmid, LockOpenAmid}
+use Rattle.inode_parts.specs.FileStats.{StatAmid}
 use Rattle.inode_parts.specs.Fills.{FillAmid}
 use Rattle.inode_parts.specs.Frees.{FreeAmid}
 use Rattle.inode_parts.specs.Relocks.{RelockAmid}
@@ -38,6 +39,7 @@ LongAmid path (above.Free n) start (part.Free p) now = FreeAmid n start p now
 LongAmid path (above.Claim sort) start (part.Claim p) now = ClaimAmid start p now
 LongAmid path (above.LockOpen fd n) start (part.LockOpen p) now = LockOpenAmid fd start p now
 LongAmid path (above.LockFile fd) start (part.LockFile p) now = LockFileAmid fd start p now
+LongAmid path (above.StatFile fd) start (part.StatFile p) now = StatAmid start p now
 LongAmid path (above.Take n looking) start (part.Relock p) now = (looking ≡ AtNothing) × RelockAmid n start p now
 LongAmid path (above.Take n looking) start (part.Take p) now = TakeAmid path n looking start p now
 LongAmid path op start p now = ⊥

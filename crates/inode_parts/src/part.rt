@@ -31,6 +31,7 @@ use crate::note::Notes;
 use crate::one_step::OneStep;
 use crate::places::{reference_seat, refers_at};
 use crate::relock_part::RelockPart;
+use crate::stat_file_part::StatFilePart;
 use crate::store_part::StorePart;
 use crate::take_part::TakePart;
 use fs_layout::Super;
@@ -62,6 +63,8 @@ pub enum InodePart {
     LockOpen(LockOpenPart),
     /// The same, to read it.
     LockFile(LockFilePart),
+    /// The state of what a descriptor names is told.
+    StatFile(StatFilePart),
     /// An inode is locked, and looked at.
     Take(TakePart),
     /// The first listed one is.
@@ -103,6 +106,7 @@ impl InodePart {
             Ask::Claim(sort) => InodePart::Claim(ClaimPart::begin(sort, sizes, hand)),
             Ask::LockOpen(fd, _) => InodePart::LockOpen(LockOpenPart::begin(fd, sizes, hand)),
             Ask::LockFile(fd) => InodePart::LockFile(LockFilePart::begin(fd, sizes, hand)),
+            Ask::StatFile(fd) => InodePart::StatFile(StatFilePart::begin(fd, sizes, hand)),
             Ask::Take(number, query) => take(number, query, sizes, hand),
             _ => one_or_leave(ask, hand),
         }
@@ -128,6 +132,7 @@ impl InodePart {
             InodePart::Claim(part) => part.op(hand),
             InodePart::LockOpen(part) => part.op(hand),
             InodePart::LockFile(part) => part.op(hand),
+            InodePart::StatFile(part) => part.op(hand),
             InodePart::Take(part) => part.op(hand),
             InodePart::Relock(part) => part.op(hand),
         }
@@ -170,6 +175,7 @@ impl InodePart {
             InodePart::Claim(part) => part.next(notes, answer, hand),
             InodePart::LockOpen(part) => part.next(notes, answer, hand),
             InodePart::LockFile(part) => part.next(notes, answer, hand),
+            InodePart::StatFile(part) => part.next(notes, answer, hand),
             InodePart::Take(part) => part.next(path, notes, answer, hand),
             InodePart::Relock(part) => part.next(notes, answer, hand),
         }

@@ -75,6 +75,14 @@ begin-requires-in-LockFile c =
     let begins = rw c.in-LockFile.is at c.requires.begins in
     record { begins = may_lock sizes sized h begins }
 
+pub begin-requires-in-StatFile : goal.begin-requires-in-StatFile
+begin-requires-in-StatFile c =
+    let sizes = c.args.sizes.now in
+    let sized = c.requires.sizes in
+    let h = c.args.hand.now in
+    let begins = rw c.in-StatFile.is at c.requires.begins in
+    record { begins = may_lock sizes sized h begins }
+
 pub begin-requires-in-Clear : goal.begin-requires-in-Clear
 begin-requires-in-Clear c =
     let path = c.args.path.now in
@@ -109,6 +117,9 @@ returns-in-LockOpen-clause-part c = rw c.in-LockOpen.is (c.begin-in-LockOpen.ens
 pub returns-in-LockFile-clause-part : goal.returns-in-LockFile-clause-part
 returns-in-LockFile-clause-part c = rw c.in-LockFile.is (c.begin-in-LockFile.ensures.part c.args.path.now c.args.notes.now)
 
+pub returns-in-StatFile-clause-part : goal.returns-in-StatFile-clause-part
+returns-in-StatFile-clause-part c = rw c.in-StatFile.is (c.begin-in-StatFile.ensures.part c.args.path.now c.args.notes.now)
+
 pub take-requires : goal.take-requires
 take-requires c =
     let path = c.args.path.now in
@@ -142,7 +153,7 @@ returns-in_default c =
     let h = c.args.hand.now in
     let op = op_in path c.args.ask in
     let no = c.in_default in
-    let has = short_begins path m c.args.ask h c.requires.begins no.not-Store no.not-Empty no.not-Enter no.not-Clear no.not-Fill no.not-Free no.not-Claim no.not-LockOpen no.not-LockFile no.not-Take in
+    let has = short_begins path m c.args.ask h c.requires.begins no.not-Store no.not-Empty no.not-Enter no.not-Clear no.not-Fill no.not-Free no.not-Claim no.not-LockOpen no.not-LockFile no.not-StatFile no.not-Take in
     let is = c.one_or_leave.ensures.is path in
     record {
       part = subst (λ (p : InodePart). IsPart sizes (carry_in path m h) op (part_left path m p h)) (sym is) (is_part sizes path m h op has);

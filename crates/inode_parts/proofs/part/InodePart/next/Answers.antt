@@ -2,10 +2,11 @@ use Rattle.std.proofs.Common.{subst}
 use Rattle.hands.specs.Controls.{Goes}
 use Rattle.hands.specs.Ops.{answer_in}
 use Rattle.inode_parts.specs.FileLocks.{lock_file_left, lock_file_asked}
+use Rattle.inode_parts.specs.FileStats.{stat_left, stat_asked}
 use Rattle.inode_parts.specs.Parts.{Part}
-use Rattle.inode_parts.proofs.Lefts.{lock_file_after}
+use Rattle.inode_parts.proofs.Lefts.{lock_file_after, stat_after}
 use Rattle.inode_parts.proofs.StepLeaves.{step_leaves}
-use Rattle.inode_parts.proofs.UnderWay.{claims, clears, empties, enters, fills, frees, leave_leaves, leave_stays, lock_files, lock_opens, relocks, stores, takes}
+use Rattle.inode_parts.proofs.UnderWay.{claims, clears, empties, enters, fills, frees, leave_leaves, leave_stays, lock_files, lock_opens, relocks, stats, stores, takes}
 use Rattle.inode_parts.proofs.part.InodePart.next.Goals as goal
 
 pub returns-in-LockFile-clause-goes : goal.returns-in-LockFile-clause-goes
@@ -99,3 +100,19 @@ returns-in-Relock-clause-under c op start before =
     let did = c.next-in-Relock in
     rw c.in-Relock.is (λ under ready after.
     relocks path start before did.new.hand c.args.notes.now did.new.notes did.result c.in-Relock.part did.new.self (λ n amid. did.ensures.leaves path n start.hand before amid ready after) op under)
+
+pub returns-in-StatFile-clause-under : goal.returns-in-StatFile-clause-under
+returns-in-StatFile-clause-under c op start before =
+    let path = c.args.path.now in
+    let did = c.next-in-StatFile in
+    rw c.in-StatFile.is (λ under ready after.
+    stats path start before did.new.hand c.args.notes.now did.new.notes did.result c.in-StatFile.part did.new.self (λ fd amid. did.ensures.leaves path fd start.hand before amid ready after) op under)
+
+pub returns-in-StatFile-clause-goes : goal.returns-in-StatFile-clause-goes
+returns-in-StatFile-clause-goes c before =
+    let path = c.args.path.now in
+    let p = c.in-StatFile.part in
+    let did = c.next-in-StatFile in
+    rw c.in-StatFile.is (λ ready after.
+    subst (λ (q : Part). Goes (stat_left path c.args.notes.now p before) (answer_in (stat_asked p) c.args.answer c.args.hand.now) q)
+    (stat_after path did.new.notes did.result did.new.self did.new.hand) (did.ensures.goes path before ready after))
