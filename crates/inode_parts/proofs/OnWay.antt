@@ -8,7 +8,7 @@ use Rattle.inode_machine.specs.Parts as programs
 use Rattle.inode_machine.specs.Programs.{program}
 use Rattle.inode_machine.specs.World as above
 use Rattle.whole_calls.specs.Asks.{answer_to, asks, hears, op_in, IsNamed}
-use Rattle.whole_calls.specs.Wholes.{call_in, text_in, whole_of, HasRoomFor}
+use Rattle.whole_calls.specs.Wholes.{call_in, text_in, whole_of}
 use Rattle.whole_calls.specs.declared.asks.Ask.{Ask}
 use Rattle.whole_calls.specs.declared.asks.Ask.TheVariants as ask
 use Rattle.whole_calls.specs.declared.asks.Heard.{Heard}
@@ -40,19 +40,6 @@ text_is (whole.Inherit child c) one = refl
 -- it stays
 pub text_stays : (w v : Whole) → HasOnePath (call_in w) → call_in v ≡ call_in w → text_in v ≡ text_in w
 text_stays w v one e = text_is v (subst HasOnePath (sym e) one) ∙ ap path_of e ∙ sym (text_is w one)
-
-pub has_room : (x : Heard) (w : Whole) → HasOnePath (call_in w) → HasRoomFor x w
-has_room x (whole.Open path flags c) one = tt
-has_room x (whole.Read fd buf c) one = absurd one
-has_room x (whole.Write fd bytes c) one = tt
-has_room x (whole.Link old new c) one = tt
-has_room x (whole.Unlink path c) one = tt
-has_room x (whole.Mkdir path c) one = tt
-has_room x (whole.Chdir path c) one = tt
-has_room x (whole.Dup fd c) one = tt
-has_room x (whole.Fstat fd c) one = tt
-has_room x (whole.Close fd c) one = tt
-has_room x (whole.Inherit child c) one = tt
 
 -- names that it asks about
 pub told_in : (path : List ℕ) (a : Ask) → IsNamed path a → AskTold path a
