@@ -7,6 +7,7 @@ use Rattle.fs_machine.specs.Steps.{state_of, exec}
 use Rattle.fs_machine.specs.Premises.{Honest}
 use Rattle.hands.specs.declared.hand.Hand.{Hand}
 use Rattle.hands.specs.declared.op.Op.{Op}
+use Rattle.hands.specs.declared.op.Answer.{Answer}
 use Rattle.hands.specs.declared.op.Did.TheVariants.{Waits}
 use Rattle.hands.specs.Hands.{HandFits}
 use Rattle.hands.specs.Ops.{op_in}
@@ -14,10 +15,10 @@ use Rattle.hands.specs.Performs.{Performs}
 
 module _ {D : Type 0} (contents : D → List (List ℕ)) (failures : D → ℕ) (Called : D → D → Type 0) where
   -- one that waits
-  pub waits : (hart : ℕ) (op : Op) (h : Hand) (old new : Core D) → new ≡ old → HandFits hart (state_of contents failures old) h → exec hart Passes (op_in h op) (state_of contents failures old) ≡ ItWaits
-      → Honest hart (op_in h op) (state_of contents failures old) Passes → Performs contents failures Called hart op h h Waits old new
-  waits hart op h old new same fits ran honest =
-      subst (λ (now : Core D). Performs contents failures Called hart op h h Waits old now) (sym same)
+  pub waits : (hart : ℕ) (op : Op) (h : Hand) (told : Answer) (old new : Core D) → new ≡ old → HandFits hart (state_of contents failures old) h → exec hart Passes (op_in h op) (state_of contents failures old) ≡ ItWaits
+      → Honest hart (op_in h op) (state_of contents failures old) Passes → Performs contents failures Called hart op h h told Waits old new
+  waits hart op h told old new same fits ran honest =
+      subst (λ (now : Core D). Performs contents failures Called hart op h h told Waits old now) (sym same)
       (record {
         ran = ran;
         kind = tt;

@@ -48,10 +48,10 @@ pub trait Control: Drop {
         ensures prepared { Prepared result hand.old hand.new };
 
     /// How it goes on. The record of a locked inode may change in hand, and the numbers of which one is to be claimed.
-    fn next(&mut self, answer: Answer, hand: &mut Hand) -> Option<Self::Out>
-        requires came { (before : HandState) × Ready self.old before × IsAfter (asked self.old) before answer hand.old }
-        ensures goes { (before : HandState) → Ready self.old before → IsAfter (asked self.old) before answer hand.old
-            → Goes (left self.old before) (answer_in (asked self.old) answer hand.old) (left_after left value result self.new hand.new) }
+    fn next(&mut self, answer: &Answer, hand: &mut Hand) -> Option<Self::Out>
+        requires came { (before : HandState) × Ready self.old before × IsAfter (asked self.old) before answer.now hand.old }
+        ensures goes { (before : HandState) → Ready self.old before → IsAfter (asked self.old) before answer.now hand.old
+            → Goes (left self.old before) (answer_in (asked self.old) answer.now hand.old) (left_after left value result self.new hand.new) }
         ensures ready { IfNone result (Ready self.new hand.new) }
         ensures ends { IfSome result (λ out. Ends out hand.new) }
         ensures hand { bare hand.new ≡ bare hand.old };
@@ -91,15 +91,15 @@ pub trait Part: Drop {
         ensures prepared { Prepared result hand.old hand.new };
 
     /// How it goes on.
-    fn next(&mut self, answer: Answer, hand: &Hand) -> Option<Self::Out>
-        requires came { (before : HandState) × Ready self.old before × IsAfter (asked self.old) before answer hand.now }
-        ensures goes { (before : HandState) → Ready self.old before → IsAfter (asked self.old) before answer hand.now
-            → Goes (left self.old before) (answer_in (asked self.old) answer hand.now) (left_after left value result self.new hand.now) }
+    fn next(&mut self, answer: &Answer, hand: &Hand) -> Option<Self::Out>
+        requires came { (before : HandState) × Ready self.old before × IsAfter (asked self.old) before answer.now hand.now }
+        ensures goes { (before : HandState) → Ready self.old before → IsAfter (asked self.old) before answer.now hand.now
+            → Goes (left self.old before) (answer_in (asked self.old) answer.now hand.now) (left_after left value result self.new hand.now) }
         ensures ready { IfNone result (Ready self.new hand.now) }
         ensures ends { IfSome result (λ out. Ends self.old out hand.now) }
         ensures place { IfNone result (place self.new ≡ place self.old) }
         ensures about { IfNone result (about self.new ≡ about self.old) }
-        ensures beside { (before : HandState) → IsAfter (asked self.old) before answer hand.now → with_buffer (place self.old) None hand.now ≡ with_buffer (place self.old) None before };
+        ensures beside { (before : HandState) → IsAfter (asked self.old) before answer.now hand.now → with_buffer (place self.old) None hand.now ≡ with_buffer (place self.old) None before };
 }
 
 /// A control within others, that tells what it may change in hand.
@@ -136,14 +136,14 @@ pub trait Routine: Drop {
         ensures prepared { Prepared result hand.old hand.new };
 
     /// How it goes on. The record of a locked inode may change in hand, and the numbers of which one is to be claimed.
-    fn next(&mut self, answer: Answer, hand: &mut Hand) -> Option<Self::Out>
-        requires came { (before : HandState) × Ready self.old before × IsAfter (asked self.old) before answer hand.old }
-        ensures goes { (before : HandState) → Ready self.old before → IsAfter (asked self.old) before answer hand.old
-            → Goes (left self.old before) (answer_in (asked self.old) answer hand.old) (left_after left value result self.new hand.new) }
+    fn next(&mut self, answer: &Answer, hand: &mut Hand) -> Option<Self::Out>
+        requires came { (before : HandState) × Ready self.old before × IsAfter (asked self.old) before answer.now hand.old }
+        ensures goes { (before : HandState) → Ready self.old before → IsAfter (asked self.old) before answer.now hand.old
+            → Goes (left self.old before) (answer_in (asked self.old) answer.now hand.old) (left_after left value result self.new hand.new) }
         ensures ready { IfNone result (Ready self.new hand.new) }
         ensures ends { IfSome result (λ out. Ends self.old out hand.new) }
         ensures about { IfNone result (about self.new ≡ about self.old) }
-        ensures beside { (before : HandState) → Ready self.old before → IsAfter (asked self.old) before answer hand.old
+        ensures beside { (before : HandState) → Ready self.old before → IsAfter (asked self.old) before answer.now hand.old
             → beside (about self.old) hand.new ≡ beside (about self.old) before }
         ensures hand { bare hand.new ≡ bare hand.old };
 }
@@ -152,6 +152,8 @@ pub trait Routine: Drop {
 pub struct Machine<C: Control> {
     pub control: C,
     pub hand: Hand,
+    /// What the last operation was told.
+    pub told: Answer,
 }
 
 impl<C: Control> Machine<C> {
@@ -166,10 +168,10 @@ impl<C: Control> Machine<C> {
         ensures fits { HandFits hart (state_of D.contents D.failures core.new) self.new.hand }
     {
         let op = self.control.op(&mut self.hand);
-        match self.hand.perform(hart, core, op) {
+        match self.hand.perform(hart, core, op, &mut self.told) {
             Did::Waits => Came::Waits,
             Did::Stopped => Came::Stopped,
-            Did::Ran(answer, kind) => match self.control.next(answer, &mut self.hand) {
+            Did::Ran(kind) => match self.control.next(&self.told, &mut self.hand) {
                 None => Came::Ran(kind),
                 Some(out) => Came::Done(out, kind),
             },
@@ -178,7 +180,11 @@ impl<C: Control> Machine<C> {
 
     /// Ends it in mid-call, after all that harts share has ended.
     pub fn retire(self, retired: &RetiredCore) {
-        let Machine { control: _, hand } = self;
+        let Machine {
+            control: _,
+            hand,
+            told: _,
+        } = self;
         hand.retire(retired);
     }
 }

@@ -1,6 +1,6 @@
 // What a hart has in hand between two operations.
 ghost use Rattle.std.specs.Prelude.{◌≡◌, ◌≢◌, [], Some, None, IfOk, IsSome, is_some};
-ghost use Rattle.std.specs.Option.{option_map, option_map_or};
+ghost use Rattle.std.specs.Option.{MatchOption, option_map, option_map_or};
 ghost use Rattle.hands.specs.Ops.{content_at};
 ghost use Rattle.hands.specs.Hands.{empty_hand, buffer_at, with_buffer, inode_at, with_inode, reference_at, with_first, with_reference, with_txn, inode_in, no_inode, recorded, with_record};
 
@@ -125,6 +125,17 @@ impl Hand {
             Seat::One => put(&mut self.one, guard),
             Seat::Two => put(&mut self.two, guard),
         }
+    }
+
+    /// The reference at a seat.
+    pub(crate) fn reference(&self, seat: Seat) -> Option<&Reference>
+        ensures { MatchOption result (reference_at seat self.now ≡ None) (λ reference. reference_at seat self.now ≡ Some reference.now) }
+    {
+        let place = match seat {
+            Seat::One => &self.to_one,
+            Seat::Two => &self.to_two,
+        };
+        place.as_ref()
     }
 
     /// The reference at a seat, which is empty then.

@@ -99,6 +99,6 @@ impl Answer {
 #[derive(Clone, Copy)]
 pub enum Did {
     Waits,
-    Ran(Answer, Kind),
+    Ran(Kind),
     Stopped,
 }

@@ -4,6 +4,7 @@ ghost use Rattle.fs_machine.specs.Steps.{state_of};
 ghost use Rattle.fs_machine.specs.Premises.{May};
 ghost use Rattle.hands.specs.Hands.{HandFits};
 ghost use Rattle.hands.specs.declared.hand.Hand.{Hand as HandState};
+ghost use Rattle.hands.specs.declared.op.Answer.{Answer as AnswerState};
 ghost use Rattle.hands.specs.Ops.{op_in, left_by, CanDo, Prepared};
 ghost use Rattle.hands.specs.Performs.{Performs};
 
@@ -22,43 +23,60 @@ impl Hand {
         requires fits { HandFits hart (state_of D.contents D.failures core.old) self.old }
         requires can { CanDo Op.Join self.old }
         requires may { May hart (op_in self.old Op.Join) (state_of D.contents D.failures core.old) }
-        ensures { Performs D.contents D.failures D.Called hart Op.Join self.old self.new result core.old core.new }
+        ensures { (told : AnswerState) → Performs D.contents D.failures D.Called hart Op.Join self.old self.new told result core.old core.new }
     {
         match core.join(hart) {
             None => Did::Waits,
             Some(txn) => {
                 self.hold_txn(txn);
-                Did::Ran(Answer::Nothing, Kind::Join)
+                Did::Ran(Kind::Join)
             }
         }
     }
 
     // Leaves it.
-    pub(crate) fn leave<D: Device>(&mut self, hart: u8, core: &mut Core<D>) -> Did
+    pub(crate) fn leave<D: Device>(
+        &mut self,
+        hart: u8,
+        core: &mut Core<D>,
+        told: &mut Answer,
+    ) -> Did
         requires fits { HandFits hart (state_of D.contents D.failures core.old) self.old }
         requires can { CanDo Op.Leave self.old }
         requires may { May hart (op_in self.old Op.Leave) (state_of D.contents D.failures core.old) }
-        ensures { Performs D.contents D.failures D.Called hart Op.Leave self.old self.new result core.old core.new }
+        ensures { Performs D.contents D.failures D.Called hart Op.Leave self.old self.new told.new result core.old core.new }
     {
         match mem::replace(&mut self.txn, None) {
             None => unreachable!(),
             Some(txn) => {
                 let commits = commits(core.leave(hart, txn));
-                Did::Ran(Answer::Is(commits), Kind::Leave)
+                *told = Answer::Is(commits);
+                Did::Ran(Kind::Leave)
             }
         }
     }
 
     // One write of the commit.
-    pub(crate) fn commit<D: Device>(&mut self, hart: u8, core: &mut Core<D>) -> Did
+    pub(crate) fn commit<D: Device>(
+        &mut self,
+        hart: u8,
+        core: &mut Core<D>,
+        told: &mut Answer,
+    ) -> Did
         requires fits { HandFits hart (state_of D.contents D.failures core.old) self.old }
         requires may { May hart (op_in self.old Op.Commit) (state_of D.contents D.failures core.old) }
-        ensures { Performs D.contents D.failures D.Called hart Op.Commit self.old self.new result core.old core.new }
+        ensures { Performs D.contents D.failures D.Called hart Op.Commit self.old self.new told.new result core.old core.new }
     {
         match core.commit(hart) {
             Progress::Waits => Did::Waits,
-            Progress::Wrote => Did::Ran(Answer::Is(false), Kind::Commit),
-            Progress::Ended => Did::Ran(Answer::Is(true), Kind::Commit),
+            Progress::Wrote => {
+                *told = Answer::Is(false);
+                Did::Ran(Kind::Commit)
+            }
+            Progress::Ended => {
+                *told = Answer::Is(true);
+                Did::Ran(Kind::Commit)
+            }
             Progress::Failed => Did::Stopped,
         }
     }
@@ -74,13 +92,13 @@ impl Hand {
         requires fits { HandFits hart (state_of D.contents D.failures core.old) self.old }
         requires can { CanDo (Op.Get place b) self.old }
         requires may { May hart (op_in self.old (Op.Get place b)) (state_of D.contents D.failures core.old) }
-        ensures { Performs D.contents D.failures D.Called hart (Op.Get place b) self.old self.new result core.old core.new }
+        ensures { (told : AnswerState) → Performs D.contents D.failures D.Called hart (Op.Get place b) self.old self.new told result core.old core.new }
     {
         match core.get(hart, b) {
             Got::Waits => Did::Waits,
             Got::Held(guard) => {
                 self.hold_buffer(place, guard);
-                Did::Ran(Answer::Nothing, Kind::Get)
+                Did::Ran(Kind::Get)
             }
         }
     }
@@ -90,14 +108,14 @@ impl Hand {
         requires fits { HandFits hart (state_of D.contents D.failures core.old) self.old }
         requires can { CanDo (Op.Read place) self.old }
         requires may { May hart (op_in self.old (Op.Read place)) (state_of D.contents D.failures core.old) }
-        ensures { Performs D.contents D.failures D.Called hart (Op.Read place) self.old self.new result core.old core.new }
+        ensures { (told : AnswerState) → Performs D.contents D.failures D.Called hart (Op.Read place) self.old self.new told result core.old core.new }
     {
         match self.take_buffer(place) {
             None => unreachable!(),
             Some(mut guard) => match core.read(hart, &mut guard) {
                 Ok(()) => {
                     self.hold_buffer(place, guard);
-                    Did::Ran(Answer::Nothing, Kind::Read)
+                    Did::Ran(Kind::Read)
                 }
                 Err(Fault) => {
                     self.hold_buffer(place, guard);
@@ -112,13 +130,13 @@ impl Hand {
         requires fits { HandFits hart (state_of D.contents D.failures core.old) self.old }
         requires can { CanDo (Op.Give place) self.old }
         requires may { May hart (op_in self.old (Op.Give place)) (state_of D.contents D.failures core.old) }
-        ensures { Performs D.contents D.failures D.Called hart (Op.Give place) self.old self.new result core.old core.new }
+        ensures { (told : AnswerState) → Performs D.contents D.failures D.Called hart (Op.Give place) self.old self.new told result core.old core.new }
     {
         match self.take_buffer(place) {
             None => unreachable!(),
             Some(guard) => {
                 core.put_back(hart, guard);
-                Did::Ran(Answer::Nothing, Kind::Put)
+                Did::Ran(Kind::Put)
             }
         }
     }
@@ -128,7 +146,7 @@ impl Hand {
         requires fits { (before : HandState) × HandFits hart (state_of D.contents D.failures core.old) before × Prepared (Op.Record place) before self.old }
         requires can { CanDo (Op.Record place) self.old }
         requires may { May hart (op_in self.old (Op.Record place)) (state_of D.contents D.failures core.old) }
-        ensures { Performs D.contents D.failures D.Called hart (Op.Record place) self.old self.new result core.old core.new }
+        ensures { (told : AnswerState) → Performs D.contents D.failures D.Called hart (Op.Record place) self.old self.new told result core.old core.new }
     {
         match self.take_buffer(place) {
             None => unreachable!(),
@@ -136,7 +154,7 @@ impl Hand {
                 None => unreachable!(),
                 Some(txn) => {
                     core.put_changed(hart, txn, guard);
-                    Did::Ran(Answer::Nothing, Kind::Put)
+                    Did::Ran(Kind::Put)
                 }
             },
         }
@@ -147,19 +165,15 @@ impl Hand {
         requires fits { HandFits hart (state_of D.contents D.failures core.old) self.old }
         requires can { CanDo (Op.Lock seat) self.old }
         requires may { May hart (op_in self.old (Op.Lock seat)) (state_of D.contents D.failures core.old) }
-        ensures { Performs D.contents D.failures D.Called hart (Op.Lock seat) self.old self.new result core.old core.new }
+        ensures { (told : AnswerState) → Performs D.contents D.failures D.Called hart (Op.Lock seat) self.old self.new told result core.old core.new }
     {
-        match self.take_reference(seat) {
+        match self.reference(seat) {
             None => unreachable!(),
-            Some(reference) => match core.lock(hart, &reference) {
-                None => {
-                    self.hold_reference(seat, reference);
-                    Did::Waits
-                }
+            Some(reference) => match core.lock(hart, reference) {
+                None => Did::Waits,
                 Some(guard) => {
-                    self.hold_reference(seat, reference);
                     self.hold_inode(seat, guard);
-                    Did::Ran(Answer::Nothing, Kind::Lock)
+                    Did::Ran(Kind::Lock)
                 }
             },
         }
@@ -170,13 +184,13 @@ impl Hand {
         requires fits { HandFits hart (state_of D.contents D.failures core.old) self.old }
         requires can { CanDo (Op.Unlock seat) self.old }
         requires may { May hart (op_in self.old (Op.Unlock seat)) (state_of D.contents D.failures core.old) }
-        ensures { Performs D.contents D.failures D.Called hart (Op.Unlock seat) self.old self.new result core.old core.new }
+        ensures { (told : AnswerState) → Performs D.contents D.failures D.Called hart (Op.Unlock seat) self.old self.new told result core.old core.new }
     {
         match self.take_inode(seat) {
             None => unreachable!(),
             Some(guard) => {
                 core.unlock(hart, guard);
-                Did::Ran(Answer::Nothing, Kind::Unlock)
+                Did::Ran(Kind::Unlock)
             }
         }
     }
@@ -192,48 +206,68 @@ impl Hand {
         requires fits { HandFits hart (state_of D.contents D.failures core.old) self.old }
         requires can { CanDo (Op.Up seat number) self.old }
         requires may { May hart (op_in self.old (Op.Up seat number)) (state_of D.contents D.failures core.old) }
-        ensures { Performs D.contents D.failures D.Called hart (Op.Up seat number) self.old self.new result core.old core.new }
+        ensures { (told : AnswerState) → Performs D.contents D.failures D.Called hart (Op.Up seat number) self.old self.new told result core.old core.new }
     {
         match core.up(hart, number) {
             None => {}
             Some(reference) => self.hold_reference(seat, reference),
         }
-        Did::Ran(Answer::Nothing, Kind::Up)
+        Did::Ran(Kind::Up)
     }
 
     // Drops it.
-    pub(crate) fn down<D: Device>(&mut self, hart: u8, core: &mut Core<D>, seat: Seat) -> Did
+    pub(crate) fn down<D: Device>(
+        &mut self,
+        hart: u8,
+        core: &mut Core<D>,
+        seat: Seat,
+        told: &mut Answer,
+    ) -> Did
         requires fits { HandFits hart (state_of D.contents D.failures core.old) self.old }
         requires can { CanDo (Op.Down seat) self.old }
         requires may { May hart (op_in self.old (Op.Down seat)) (state_of D.contents D.failures core.old) }
-        ensures { Performs D.contents D.failures D.Called hart (Op.Down seat) self.old self.new result core.old core.new }
+        ensures { Performs D.contents D.failures D.Called hart (Op.Down seat) self.old self.new told.new result core.old core.new }
     {
         match self.take_reference(seat) {
             None => unreachable!(),
             Some(reference) => match core.drop_reference(hart, reference) {
-                Dropped::Counted => Did::Ran(Answer::Is(false), Kind::Down),
+                Dropped::Counted => {
+                    *told = Answer::Is(false);
+                    Did::Ran(Kind::Down)
+                }
                 Dropped::Dying(reference, guard) => {
                     self.hold_reference(seat, reference);
                     self.hold_inode(seat, guard);
-                    Did::Ran(Answer::Is(true), Kind::Lock)
+                    *told = Answer::Is(true);
+                    Did::Ran(Kind::Lock)
                 }
             },
         }
     }
 
     // Joins where a descriptor may be written.
-    pub(crate) fn join_to_write<D: Device>(&mut self, hart: u8, core: &mut Core<D>, fd: u32) -> Did
+    pub(crate) fn join_to_write<D: Device>(
+        &mut self,
+        hart: u8,
+        core: &mut Core<D>,
+        fd: u32,
+        told: &mut Answer,
+    ) -> Did
         requires fits { HandFits hart (state_of D.contents D.failures core.old) self.old }
         requires can { CanDo (Op.JoinToWrite fd) self.old }
         requires may { May hart (op_in self.old (Op.JoinToWrite fd)) (state_of D.contents D.failures core.old) }
-        ensures { Performs D.contents D.failures D.Called hart (Op.JoinToWrite fd) self.old self.new result core.old core.new }
+        ensures { Performs D.contents D.failures D.Called hart (Op.JoinToWrite fd) self.old self.new told.new result core.old core.new }
     {
         match core.join_to_write(hart, fd) {
             JoinedToWrite::Waits => Did::Waits,
-            JoinedToWrite::Refused(why) => Did::Ran(Answer::Refused(why), Kind::Reply),
+            JoinedToWrite::Refused(why) => {
+                *told = Answer::Refused(why);
+                Did::Ran(Kind::Reply)
+            }
             JoinedToWrite::Joined(txn, number) => {
                 self.hold_txn(txn);
-                Did::Ran(Answer::Number(number), Kind::Join)
+                *told = Answer::Number(number);
+                Did::Ran(Kind::Join)
             }
         }
     }
@@ -246,18 +280,23 @@ impl Hand {
         seat: Seat,
         want: Want,
         fd: u32,
+        told: &mut Answer,
     ) -> Did
         requires fits { HandFits hart (state_of D.contents D.failures core.old) self.old }
         requires can { CanDo (Op.LockFile seat want fd) self.old }
         requires may { May hart (op_in self.old (Op.LockFile seat want fd)) (state_of D.contents D.failures core.old) }
-        ensures { Performs D.contents D.failures D.Called hart (Op.LockFile seat want fd) self.old self.new result core.old core.new }
+        ensures { Performs D.contents D.failures D.Called hart (Op.LockFile seat want fd) self.old self.new told.new result core.old core.new }
     {
         match core.lock_file(hart, want, fd) {
             LockedFile::Waits => Did::Waits,
-            LockedFile::Refused(why) => Did::Ran(Answer::Refused(why), Kind::Reply),
+            LockedFile::Refused(why) => {
+                *told = Answer::Refused(why);
+                Did::Ran(Kind::Reply)
+            }
             LockedFile::Locked(file, guard) => {
                 self.hold_inode(seat, guard);
-                Did::Ran(Answer::File(file), Kind::Lock)
+                *told = Answer::File(file);
+                Did::Ran(Kind::Lock)
             }
         }
     }
@@ -269,17 +308,19 @@ impl Hand {
         core: &mut Core<D>,
         seat: Seat,
         fd: u32,
+        told: &mut Answer,
     ) -> Did
         requires fits { HandFits hart (state_of D.contents D.failures core.old) self.old }
         requires can { CanDo (Op.LockOpen seat fd) self.old }
         requires may { May hart (op_in self.old (Op.LockOpen seat fd)) (state_of D.contents D.failures core.old) }
-        ensures { Performs D.contents D.failures D.Called hart (Op.LockOpen seat fd) self.old self.new result core.old core.new }
+        ensures { Performs D.contents D.failures D.Called hart (Op.LockOpen seat fd) self.old self.new told.new result core.old core.new }
     {
         match core.lock_open(hart, fd) {
             None => Did::Waits,
             Some((file, guard)) => {
                 self.hold_inode(seat, guard);
-                Did::Ran(Answer::File(file), Kind::Lock)
+                *told = Answer::File(file);
+                Did::Ran(Kind::Lock)
             }
         }
     }
@@ -297,13 +338,13 @@ impl Hand {
         requires fits { HandFits hart (state_of D.contents D.failures core.old) self.old }
         requires can { CanDo (Op.UnlockMoving seat fd offset) self.old }
         requires may { May hart (op_in self.old (Op.UnlockMoving seat fd offset)) (state_of D.contents D.failures core.old) }
-        ensures { Performs D.contents D.failures D.Called hart (Op.UnlockMoving seat fd offset) self.old self.new result core.old core.new }
+        ensures { (told : AnswerState) → Performs D.contents D.failures D.Called hart (Op.UnlockMoving seat fd offset) self.old self.new told result core.old core.new }
     {
         match self.take_inode(seat) {
             None => unreachable!(),
             Some(guard) => {
                 core.unlock_moving(hart, guard, fd, offset);
-                Did::Ran(Answer::Nothing, Kind::Unlock)
+                Did::Ran(Kind::Unlock)
             }
         }
     }
@@ -313,7 +354,7 @@ impl Hand {
         requires fits { HandFits hart (state_of D.contents D.failures core.old) self.old }
         requires can { CanDo (Op.Settle seat) self.old }
         requires may { May hart (op_in self.old (Op.Settle seat)) (state_of D.contents D.failures core.old) }
-        ensures { Performs D.contents D.failures D.Called hart (Op.Settle seat) self.old self.new result core.old core.new }
+        ensures { (told : AnswerState) → Performs D.contents D.failures D.Called hart (Op.Settle seat) self.old self.new told result core.old core.new }
     {
         match self.take_inode(seat) {
             None => unreachable!(),
@@ -322,7 +363,7 @@ impl Hand {
                 Some(reference) => {
                     let old = core.settle(hart, guard, reference);
                     self.hold_reference(seat, old);
-                    Did::Ran(Answer::Nothing, Kind::Unlock)
+                    Did::Ran(Kind::Unlock)
                 }
             },
         }
@@ -338,29 +379,39 @@ impl Hand {
         requires fits { HandFits hart (state_of D.contents D.failures core.old) self.old }
         requires can { CanDo (Op.UpDirectory seat) self.old }
         requires may { May hart (op_in self.old (Op.UpDirectory seat)) (state_of D.contents D.failures core.old) }
-        ensures { Performs D.contents D.failures D.Called hart (Op.UpDirectory seat) self.old self.new result core.old core.new }
+        ensures { (told : AnswerState) → Performs D.contents D.failures D.Called hart (Op.UpDirectory seat) self.old self.new told result core.old core.new }
     {
         match core.up_directory(hart) {
             None => {}
             Some(reference) => self.hold_reference(seat, reference),
         }
-        Did::Ran(Answer::Nothing, Kind::Up)
+        Did::Ran(Kind::Up)
     }
 
     // Drops a reference within a walk.
-    pub(crate) fn down_walked<D: Device>(&mut self, hart: u8, core: &mut Core<D>, seat: Seat) -> Did
+    pub(crate) fn down_walked<D: Device>(
+        &mut self,
+        hart: u8,
+        core: &mut Core<D>,
+        seat: Seat,
+        told: &mut Answer,
+    ) -> Did
         requires fits { HandFits hart (state_of D.contents D.failures core.old) self.old }
         requires can { CanDo (Op.DownWalked seat) self.old }
         requires may { May hart (op_in self.old (Op.DownWalked seat)) (state_of D.contents D.failures core.old) }
-        ensures { Performs D.contents D.failures D.Called hart (Op.DownWalked seat) self.old self.new result core.old core.new }
+        ensures { Performs D.contents D.failures D.Called hart (Op.DownWalked seat) self.old self.new told.new result core.old core.new }
     {
         match self.take_reference(seat) {
             None => unreachable!(),
             Some(reference) => match core.drop_walked(hart, reference) {
-                None => Did::Ran(Answer::Is(false), Kind::Down),
+                None => {
+                    *told = Answer::Is(false);
+                    Did::Ran(Kind::Down)
+                }
                 Some(kept) => {
                     self.listed.push(kept);
-                    Did::Ran(Answer::Is(true), Kind::Down)
+                    *told = Answer::Is(true);
+                    Did::Ran(Kind::Down)
                 }
             },
         }
@@ -371,7 +422,7 @@ impl Hand {
         requires fits { HandFits hart (state_of D.contents D.failures core.old) self.old }
         requires can { CanDo (Op.LockListed seat) self.old }
         requires may { May hart (op_in self.old (Op.LockListed seat)) (state_of D.contents D.failures core.old) }
-        ensures { Performs D.contents D.failures D.Called hart (Op.LockListed seat) self.old self.new result core.old core.new }
+        ensures { (told : AnswerState) → Performs D.contents D.failures D.Called hart (Op.LockListed seat) self.old self.new told result core.old core.new }
     {
         match self.listed.first() {
             None => unreachable!(),
@@ -380,7 +431,7 @@ impl Hand {
                 Some(guard) => {
                     self.hold_first(seat);
                     self.hold_inode(seat, guard);
-                    Did::Ran(Answer::Nothing, Kind::Lock)
+                    Did::Ran(Kind::Lock)
                 }
             },
         }
@@ -391,13 +442,13 @@ impl Hand {
         requires fits { HandFits hart (state_of D.contents D.failures core.old) self.old }
         requires can { CanDo (Op.DownFreed seat) self.old }
         requires may { May hart (op_in self.old (Op.DownFreed seat)) (state_of D.contents D.failures core.old) }
-        ensures { Performs D.contents D.failures D.Called hart (Op.DownFreed seat) self.old self.new result core.old core.new }
+        ensures { (told : AnswerState) → Performs D.contents D.failures D.Called hart (Op.DownFreed seat) self.old self.new told result core.old core.new }
     {
         match self.take_reference(seat) {
             None => unreachable!(),
             Some(reference) => {
                 core.drop_freed(hart, reference);
-                Did::Ran(Answer::Nothing, Kind::Down)
+                Did::Ran(Kind::Down)
             }
         }
     }
@@ -409,27 +460,40 @@ impl Hand {
         core: &mut Core<D>,
         want: Want,
         fd: u32,
+        told: &mut Answer,
     ) -> Did
         requires fits { HandFits hart (state_of D.contents D.failures core.old) self.old }
         requires can { CanDo (Op.CheckFile want fd) self.old }
         requires may { May hart (op_in self.old (Op.CheckFile want fd)) (state_of D.contents D.failures core.old) }
-        ensures { Performs D.contents D.failures D.Called hart (Op.CheckFile want fd) self.old self.new result core.old core.new }
+        ensures { Performs D.contents D.failures D.Called hart (Op.CheckFile want fd) self.old self.new told.new result core.old core.new }
     {
         match core.check_file(hart, want, fd) {
-            None => Did::Ran(Answer::Nothing, Kind::Reply),
-            Some(why) => Did::Ran(Answer::Refused(why), Kind::Reply),
+            None => {
+                *told = Answer::Nothing;
+                Did::Ran(Kind::Reply)
+            }
+            Some(why) => {
+                *told = Answer::Refused(why);
+                Did::Ran(Kind::Reply)
+            }
         }
     }
 
     // Takes a place for an open file.
-    pub(crate) fn take_place<D: Device>(&mut self, hart: u8, core: &mut Core<D>) -> Did
+    pub(crate) fn take_place<D: Device>(
+        &mut self,
+        hart: u8,
+        core: &mut Core<D>,
+        told: &mut Answer,
+    ) -> Did
         requires fits { HandFits hart (state_of D.contents D.failures core.old) self.old }
         requires can { CanDo (Op.TakePlace) self.old }
         requires may { May hart (op_in self.old (Op.TakePlace)) (state_of D.contents D.failures core.old) }
-        ensures { Performs D.contents D.failures D.Called hart (Op.TakePlace) self.old self.new result core.old core.new }
+        ensures { Performs D.contents D.failures D.Called hart (Op.TakePlace) self.old self.new told.new result core.old core.new }
     {
         let taken = core.take_place(hart);
-        Did::Ran(Answer::Is(taken), Kind::Slot)
+        *told = Answer::Is(taken);
+        Did::Ran(Kind::Slot)
     }
 
     // Opens a file.
@@ -439,38 +503,55 @@ impl Hand {
         core: &mut Core<D>,
         seat: Seat,
         file: NewFile,
+        told: &mut Answer,
     ) -> Did
         requires fits { HandFits hart (state_of D.contents D.failures core.old) self.old }
         requires can { CanDo (Op.TakeDescriptor seat file) self.old }
         requires may { May hart (op_in self.old (Op.TakeDescriptor seat file)) (state_of D.contents D.failures core.old) }
-        ensures { Performs D.contents D.failures D.Called hart (Op.TakeDescriptor seat file) self.old self.new result core.old core.new }
+        ensures { Performs D.contents D.failures D.Called hart (Op.TakeDescriptor seat file) self.old self.new told.new result core.old core.new }
     {
         match self.take_reference(seat) {
             None => unreachable!(),
             Some(reference) => match core.take_descriptor(hart, reference, file) {
-                Ok(fd) => Did::Ran(Answer::Number(fd as u32), Kind::Slot),
+                Ok(fd) => {
+                    *told = Answer::Number(fd as u32);
+                    Did::Ran(Kind::Slot)
+                }
                 Err(back) => {
                     self.hold_reference(seat, back);
-                    Did::Ran(Answer::Nothing, Kind::Slot)
+                    *told = Answer::Nothing;
+                    Did::Ran(Kind::Slot)
                 }
             },
         }
     }
 
     // Doubles a descriptor.
-    pub(crate) fn double<D: Device>(&mut self, hart: u8, core: &mut Core<D>, fd: u32) -> Did
+    pub(crate) fn double<D: Device>(
+        &mut self,
+        hart: u8,
+        core: &mut Core<D>,
+        fd: u32,
+        told: &mut Answer,
+    ) -> Did
         requires fits { HandFits hart (state_of D.contents D.failures core.old) self.old }
         requires can { CanDo (Op.Double fd) self.old }
         requires may { May hart (op_in self.old (Op.Double fd)) (state_of D.contents D.failures core.old) }
-        ensures { Performs D.contents D.failures D.Called hart (Op.Double fd) self.old self.new result core.old core.new }
+        ensures { Performs D.contents D.failures D.Called hart (Op.Double fd) self.old self.new told.new result core.old core.new }
     {
         match core.double(hart, fd) {
-            Doubled::BadDescriptor => Did::Ran(
-                Answer::Doubled(Doubled::BadDescriptor),
-                Kind::Reply,
-            ),
-            Doubled::Full => Did::Ran(Answer::Doubled(Doubled::Full), Kind::Slot),
-            Doubled::Gave(copy) => Did::Ran(Answer::Doubled(Doubled::Gave(copy)), Kind::Slot),
+            Doubled::BadDescriptor => {
+                *told = Answer::Doubled(Doubled::BadDescriptor);
+                Did::Ran(Kind::Reply)
+            }
+            Doubled::Full => {
+                *told = Answer::Doubled(Doubled::Full);
+                Did::Ran(Kind::Slot)
+            }
+            Doubled::Gave(copy) => {
+                *told = Answer::Doubled(Doubled::Gave(copy));
+                Did::Ran(Kind::Slot)
+            }
         }
     }
 
@@ -481,18 +562,26 @@ impl Hand {
         core: &mut Core<D>,
         seat: Seat,
         fd: u32,
+        told: &mut Answer,
     ) -> Did
         requires fits { HandFits hart (state_of D.contents D.failures core.old) self.old }
         requires can { CanDo (Op.Close seat fd) self.old }
         requires may { May hart (op_in self.old (Op.Close seat fd)) (state_of D.contents D.failures core.old) }
-        ensures { Performs D.contents D.failures D.Called hart (Op.Close seat fd) self.old self.new result core.old core.new }
+        ensures { Performs D.contents D.failures D.Called hart (Op.Close seat fd) self.old self.new told.new result core.old core.new }
     {
         match core.close(hart, fd) {
-            Shut::BadDescriptor => Did::Ran(Answer::Refused(Refused::BadDescriptor), Kind::Reply),
-            Shut::Closed => Did::Ran(Answer::Is(false), Kind::Slot),
+            Shut::BadDescriptor => {
+                *told = Answer::Refused(Refused::BadDescriptor);
+                Did::Ran(Kind::Reply)
+            }
+            Shut::Closed => {
+                *told = Answer::Is(false);
+                Did::Ran(Kind::Slot)
+            }
             Shut::Last(reference) => {
                 self.hold_reference(seat, reference);
-                Did::Ran(Answer::Is(true), Kind::Slot)
+                *told = Answer::Is(true);
+                Did::Ran(Kind::Slot)
             }
         }
     }
@@ -505,17 +594,22 @@ impl Hand {
         seat: Seat,
         child: u8,
         from: u32,
+        told: &mut Answer,
     ) -> Did
         requires fits { HandFits hart (state_of D.contents D.failures core.old) self.old }
         requires can { CanDo (Op.GiveTo seat child from) self.old }
         requires may { May hart (op_in self.old (Op.GiveTo seat child from)) (state_of D.contents D.failures core.old) }
-        ensures { Performs D.contents D.failures D.Called hart (Op.GiveTo seat child from) self.old self.new result core.old core.new }
+        ensures { Performs D.contents D.failures D.Called hart (Op.GiveTo seat child from) self.old self.new told.new result core.old core.new }
     {
         match core.give(hart, child, from) {
-            Given::Descriptor(fd, more) => Did::Ran(Answer::Given(fd, more), Kind::Slot),
+            Given::Descriptor(fd, more) => {
+                *told = Answer::Given(fd, more);
+                Did::Ran(Kind::Slot)
+            }
             Given::Directory(reference) => {
                 self.hold_reference(seat, reference);
-                Did::Ran(Answer::Is(true), Kind::Up)
+                *told = Answer::Is(true);
+                Did::Ran(Kind::Up)
             }
         }
     }
@@ -527,11 +621,12 @@ impl Hand {
         core: &mut Core<D>,
         place: Place,
         seat: Seat,
+        told: &mut Answer,
     ) -> Did
         requires fits { HandFits hart (state_of D.contents D.failures core.old) self.old }
         requires can { CanDo (Op.Claim place seat) self.old }
         requires may { May hart (op_in self.old (Op.Claim place seat)) (state_of D.contents D.failures core.old) }
-        ensures { Performs D.contents D.failures D.Called hart (Op.Claim place seat) self.old self.new result core.old core.new }
+        ensures { Performs D.contents D.failures D.Called hart (Op.Claim place seat) self.old self.new told.new result core.old core.new }
     {
         let numbers = self.numbers;
         let count = self.count as usize;
@@ -542,13 +637,18 @@ impl Hand {
                     let number = reference.number();
                     self.hold_buffer(place, guard);
                     self.hold_reference(seat, reference);
-                    Did::Ran(Answer::Number(number), Kind::Up)
+                    *told = Answer::Number(number);
+                    Did::Ran(Kind::Up)
                 }
                 Claim::NoPlace(guard) => {
                     self.hold_buffer(place, guard);
-                    Did::Ran(Answer::Is(true), Kind::Up)
+                    *told = Answer::Is(true);
+                    Did::Ran(Kind::Up)
                 }
-                Claim::NoInode => Did::Ran(Answer::Nothing, Kind::Put),
+                Claim::NoInode => {
+                    *told = Answer::Nothing;
+                    Did::Ran(Kind::Put)
+                }
             },
         }
     }
@@ -557,24 +657,31 @@ impl Hand {
     pub(crate) fn reply<D: Device>(&mut self, hart: u8, core: &mut Core<D>) -> Did
         requires fits { HandFits hart (state_of D.contents D.failures core.old) self.old }
         requires may { May hart (op_in self.old Op.Reply) (state_of D.contents D.failures core.old) }
-        ensures { Performs D.contents D.failures D.Called hart Op.Reply self.old self.new result core.old core.new }
+        ensures { (told : AnswerState) → Performs D.contents D.failures D.Called hart Op.Reply self.old self.new told result core.old core.new }
     {
         core.reply(hart);
-        Did::Ran(Answer::Nothing, Kind::Reply)
+        Did::Ran(Kind::Reply)
     }
 
-    /// One operation. It is made of what is in hand, and leaves in hand what it gives.
-    pub fn perform<D: Device>(&mut self, hart: u8, core: &mut Core<D>, op: Op) -> Did
+    /// One operation. It is made of what is in hand, and leaves in hand what it gives; what the hand doesn't show of its answer is told. An
+    /// operation whose answer is all in hand leaves what was told before.
+    pub fn perform<D: Device>(
+        &mut self,
+        hart: u8,
+        core: &mut Core<D>,
+        op: Op,
+        told: &mut Answer,
+    ) -> Did
         requires eight { hart < HARTS }
         requires fits { (before : HandState) × HandFits hart (state_of D.contents D.failures core.old) before × Prepared op before self.old }
         requires can { CanDo op self.old }
         requires may { May hart (op_in self.old op) (state_of D.contents D.failures core.old) }
-        ensures { Performs D.contents D.failures D.Called hart op self.old self.new result core.old core.new }
+        ensures { Performs D.contents D.failures D.Called hart op self.old self.new told.new result core.old core.new }
     {
         match op {
             Op::Join => self.join(hart, core),
-            Op::Leave => self.leave(hart, core),
-            Op::Commit => self.commit(hart, core),
+            Op::Leave => self.leave(hart, core, told),
+            Op::Commit => self.commit(hart, core, told),
             Op::Get(place, b) => self.get(hart, core, place, b),
             Op::Read(place) => self.read(hart, core, place),
             Op::Give(place) => self.give(hart, core, place),
@@ -582,23 +689,23 @@ impl Hand {
             Op::Lock(seat) => self.lock(hart, core, seat),
             Op::Unlock(seat) => self.unlock(hart, core, seat),
             Op::Up(seat, number) => self.up(hart, core, seat, number),
-            Op::Down(seat) => self.down(hart, core, seat),
-            Op::JoinToWrite(fd) => self.join_to_write(hart, core, fd),
-            Op::LockFile(seat, want, fd) => self.lock_file(hart, core, seat, want, fd),
-            Op::LockOpen(seat, fd) => self.lock_open(hart, core, seat, fd),
+            Op::Down(seat) => self.down(hart, core, seat, told),
+            Op::JoinToWrite(fd) => self.join_to_write(hart, core, fd, told),
+            Op::LockFile(seat, want, fd) => self.lock_file(hart, core, seat, want, fd, told),
+            Op::LockOpen(seat, fd) => self.lock_open(hart, core, seat, fd, told),
             Op::UnlockMoving(seat, fd, offset) => self.unlock_moving(hart, core, seat, fd, offset),
             Op::Settle(seat) => self.settle(hart, core, seat),
             Op::UpDirectory(seat) => self.up_directory(hart, core, seat),
-            Op::DownWalked(seat) => self.down_walked(hart, core, seat),
+            Op::DownWalked(seat) => self.down_walked(hart, core, seat, told),
             Op::LockListed(seat) => self.lock_listed(hart, core, seat),
             Op::DownFreed(seat) => self.down_freed(hart, core, seat),
-            Op::CheckFile(want, fd) => self.check_file(hart, core, want, fd),
-            Op::TakePlace => self.take_place(hart, core),
-            Op::TakeDescriptor(seat, file) => self.take_descriptor(hart, core, seat, file),
-            Op::Double(fd) => self.double(hart, core, fd),
-            Op::Close(seat, fd) => self.close(hart, core, seat, fd),
-            Op::GiveTo(seat, child, from) => self.give_to(hart, core, seat, child, from),
-            Op::Claim(place, seat) => self.claim(hart, core, place, seat),
+            Op::CheckFile(want, fd) => self.check_file(hart, core, want, fd, told),
+            Op::TakePlace => self.take_place(hart, core, told),
+            Op::TakeDescriptor(seat, file) => self.take_descriptor(hart, core, seat, file, told),
+            Op::Double(fd) => self.double(hart, core, fd, told),
+            Op::Close(seat, fd) => self.close(hart, core, seat, fd, told),
+            Op::GiveTo(seat, child, from) => self.give_to(hart, core, seat, child, from, told),
+            Op::Claim(place, seat) => self.claim(hart, core, place, seat, told),
             Op::Reply => self.reply(hart, core),
         }
     }

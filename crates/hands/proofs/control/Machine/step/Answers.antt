@@ -58,7 +58,7 @@ returns-in-None-clause-steps g c =
     let p = g.C.Control.left control before in
     let q = g.C.Control.left c.next.new.self c.next.new.hand in
     let o = op_in c.op-op.new.hand c.op-op.result in
-    let a = c.in-Ran.answer in
+    let a = c.perform.new.told in
     let did = c.in-Ran.ensures in
     let is = c.op-op.ensures.asks in
     let asked = g.C.Control.asked control in
@@ -89,7 +89,7 @@ returns-in-Some-clause-steps g c =
     let p = g.C.Control.left control before in
     let q = Ret (g.C.Control.value c.in-Some.out c.next.new.hand) in
     let o = op_in c.op-op.new.hand c.op-op.result in
-    let a = c.in-Ran.answer in
+    let a = c.perform.new.told in
     let did = c.in-Ran.ensures in
     let is = c.op-op.ensures.asks in
     let asked = g.C.Control.asked control in
@@ -114,7 +114,7 @@ returns-in-Some-clause-fits g c =
 pub next-requires : goal.next-requires
 next-requires g c =
     let before = c.args.self.now.hand in
-    let a = c.in-Ran.answer in
+    let a = c.perform.new.told in
     record {
       came = (
         before,

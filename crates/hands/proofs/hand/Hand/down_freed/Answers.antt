@@ -12,7 +12,7 @@ use Rattle.hands.proofs.hand.Hand.down_freed.Goals as goal
 
 pub returns : goal.returns
 unfolding Honest answer_in
-returns g c =
+returns g c told =
     let old = state_of g.D.Device.contents g.D.Device.failures c.args.core.now in
     let new = state_of g.D.Device.contents g.D.Device.failures c.drop_freed.new.self in
     let hart = c.args.hart in

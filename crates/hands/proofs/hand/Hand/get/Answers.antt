@@ -10,7 +10,7 @@ use Rattle.hands.proofs.hand.Hand.get.Goals as goal
 
 pub returns-in-Waits : goal.returns-in-Waits
 unfolding Honest
-returns-in-Waits g c =
+returns-in-Waits g c told =
     record {
       ran = c.in-Waits.ensures.ran Passes;
       kind = tt;
@@ -24,7 +24,7 @@ returns-in-Waits g c =
 
 pub returns-in-Held : goal.returns-in-Held
 unfolding Honest answer_in
-returns-in-Held g c =
+returns-in-Held g c told =
     let did = c.in-Held.ensures in
     let old = state_of g.D.Device.contents g.D.Device.failures c.args.core.now in
     let new = state_of g.D.Device.contents g.D.Device.failures c.get.new.self in

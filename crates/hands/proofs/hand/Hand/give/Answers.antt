@@ -14,7 +14,7 @@ put_back-requires-clause-own g c = c.requires.fits.buffers.own c.args.place c.in
 
 pub returns : goal.returns
 unfolding Honest answer_in
-returns g c =
+returns g c told =
     let old = state_of g.D.Device.contents g.D.Device.failures c.args.core.now in
     let new = state_of g.D.Device.contents g.D.Device.failures c.put_back.new.self in
     let hart = c.args.hart in

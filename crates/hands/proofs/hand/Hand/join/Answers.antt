@@ -11,13 +11,13 @@ use Rattle.hands.proofs.hand.Hand.join.Goals as goal
 
 pub returns-in-None : goal.returns-in-None
 unfolding Honest
-returns-in-None g c =
-    waits g.D.Device.contents g.D.Device.failures g.D.Device.Called c.args.hart ops.Join c.args.self.now c.args.core.now c.join.new.self
+returns-in-None g c told =
+    waits g.D.Device.contents g.D.Device.failures g.D.Device.Called c.args.hart ops.Join c.args.self.now told c.args.core.now c.join.new.self
     c.in-None.ensures.still c.requires.fits (c.in-None.ensures.ran Passes) tt
 
 pub returns-in-Some : goal.returns-in-Some
 unfolding Honest answer_in
-returns-in-Some g c =
+returns-in-Some g c told =
     let old = state_of g.D.Device.contents g.D.Device.failures c.args.core.now in
     let new = state_of g.D.Device.contents g.D.Device.failures c.join.new.self in
     let hart = c.args.hart in

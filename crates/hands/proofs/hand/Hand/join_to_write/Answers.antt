@@ -12,7 +12,7 @@ use Rattle.hands.proofs.hand.Hand.join_to_write.Goals as goal
 pub returns-in-Waits : goal.returns-in-Waits
 unfolding Honest
 returns-in-Waits g c =
-    waits g.D.Device.contents g.D.Device.failures g.D.Device.Called c.args.hart (ops.JoinToWrite c.args.fd) c.args.self.now c.args.core.now c.join_to_write.new.self
+    waits g.D.Device.contents g.D.Device.failures g.D.Device.Called c.args.hart (ops.JoinToWrite c.args.fd) c.args.self.now c.args.told.now c.args.core.now c.join_to_write.new.self
     c.in-Waits.ensures.still c.requires.fits (c.in-Waits.ensures.ran Passes) tt
 
 pub returns-in-Refused : goal.returns-in-Refused

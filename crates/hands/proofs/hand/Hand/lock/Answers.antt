@@ -4,47 +4,37 @@ use Rattle.fs_machine.specs.LogPart.{Passes, part_of}
 use Rattle.fs_machine.specs.Steps as steps
 use Rattle.fs_machine.specs.Steps.{State, state_of, exec}
 use Rattle.fs_machine.specs.Premises.{Honest}
-use Rattle.hands.specs.declared.hand.Hand.{Hand}
 use Rattle.hands.specs.declared.op.Op.TheVariants as ops
-use Rattle.hands.specs.Hands.{HandFits, inode_at, inode_in, with_inode, with_reference}
+use Rattle.hands.specs.Hands.{HandFits, inode_at, inode_in, number_at, with_inode}
 use Rattle.hands.specs.Ops.{answer_in}
-use Rattle.hands.proofs.Fits.{inode-there, inode-taken, reference-back, inode-in, number-there}
+use Rattle.hands.proofs.Fits.{inode-there, inode-taken, inode-in, number-there}
 use Rattle.fs_tables.specs.declared.inodes.Inode.{Inode}
-use Rattle.hands.specs.declared.op.Did.TheVariants.{Waits}
-use Rattle.hands.specs.Performs.{Performs}
 use Rattle.hands.proofs.Performing.{waits}
 use Rattle.hands.proofs.hand.Hand.lock.Goals as goal
 
 pub returns-in-None-lock : goal.returns-in-None-lock
 unfolding Honest answer_in
-returns-in-None-lock g c =
+returns-in-None-lock g c told =
     let old = state_of g.D.Device.contents g.D.Device.failures c.args.core.now in
-    let new = state_of g.D.Device.contents g.D.Device.failures c.lock.new.self in
     let hart = c.args.hart in
     let hand = c.args.self.now in
     let k = c.args.seat in
-    let n = c.in-Some.reference in
-    let was = sym c.take_reference.ensures.is ∙ c.in-Some.is in
-    let same : c.hold_reference.new.self ≡ hand = c.hold_reference.ensures ∙ ap (with_reference k (Some n)) c.take_reference.ensures.left ∙ reference-back k n hand was in
-    subst (λ (h : Hand). Performs g.D.Device.contents g.D.Device.failures g.D.Device.Called hart (ops.Lock k) hand h Waits c.args.core.now c.lock.new.self) (sym same)
-    (waits g.D.Device.contents g.D.Device.failures g.D.Device.Called hart (ops.Lock k) hand c.args.core.now c.lock.new.self c.in-None-lock.ensures.still c.requires.fits
-    (subst (λ (m : ℕ). exec hart Passes (steps.Lock m) old ≡ ItWaits) (sym (number-there k n hand was)) (c.in-None-lock.ensures.ran Passes)) tt)
+    let number : number_at k hand ≡ c.in-Some.reference.now = number-there k c.in-Some.reference.now hand c.in-Some.ensures in
+    waits g.D.Device.contents g.D.Device.failures g.D.Device.Called hart (ops.Lock k) hand told c.args.core.now c.lock.new.self c.in-None-lock.ensures.still c.requires.fits
+    (subst (λ (m : ℕ). exec hart Passes (steps.Lock m) old ≡ ItWaits) (sym number) (c.in-None-lock.ensures.ran Passes)) tt
 
 pub returns-in-Some-lock : goal.returns-in-Some-lock
 unfolding Honest answer_in
-returns-in-Some-lock g c =
+returns-in-Some-lock g c told =
     let old = state_of g.D.Device.contents g.D.Device.failures c.args.core.now in
     let new = state_of g.D.Device.contents g.D.Device.failures c.lock.new.self in
     let hart = c.args.hart in
     let hand = c.args.self.now in
     let k = c.args.seat in
-    let n = c.in-Some.reference in
     let guard = c.in-Some-lock.guard in
     let did = c.in-Some-lock.ensures in
-    let was = sym c.take_reference.ensures.is ∙ c.in-Some.is in
-    let same : c.hold_reference-in-Some-lock.new.self ≡ hand = c.hold_reference-in-Some-lock.ensures ∙ ap (with_reference k (Some n)) c.take_reference.ensures.left ∙ reference-back k n hand was in
-    let there : c.hold_inode.new.self ≡ with_inode k (Some guard) hand = c.hold_inode.ensures ∙ ap (with_inode k (Some guard)) same in
-    let number = number-there k n hand was in
+    let number : number_at k hand ≡ c.in-Some.reference.now = number-there k c.in-Some.reference.now hand c.in-Some.ensures in
+    let there : c.hold_inode.new.self ≡ with_inode k (Some guard) hand = c.hold_inode.ensures in
     record {
       ran = subst (λ (m : ℕ). exec hart Passes (steps.Lock m) old ≡ Ran (inode_in k c.hold_inode.new.self).content new) (sym number)
           (did.ran Passes ∙ ap (λ (v : Inode). Ran v.content new) (sym (inode-in k guard c.hold_inode.new.self (ap (inode_at k) there ∙ inode-there k (Some guard) hand))));

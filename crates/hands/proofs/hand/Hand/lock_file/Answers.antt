@@ -15,7 +15,7 @@ use Rattle.hands.proofs.hand.Hand.lock_file.Goals as goal
 pub returns-in-Waits : goal.returns-in-Waits
 unfolding Honest
 returns-in-Waits g c =
-    waits g.D.Device.contents g.D.Device.failures g.D.Device.Called c.args.hart (ops.LockFile c.args.seat c.args.want c.args.fd) c.args.self.now c.args.core.now c.lock_file.new.self
+    waits g.D.Device.contents g.D.Device.failures g.D.Device.Called c.args.hart (ops.LockFile c.args.seat c.args.want c.args.fd) c.args.self.now c.args.told.now c.args.core.now c.lock_file.new.self
     c.in-Waits.ensures.still c.requires.fits (c.in-Waits.ensures.ran Passes) tt
 
 pub returns-in-Refused : goal.returns-in-Refused

@@ -14,18 +14,18 @@ use Rattle.hands.proofs.hand.Hand.lock_listed.Goals as goal
 
 pub returns-in-None-lock : goal.returns-in-None-lock
 unfolding Honest answer_in
-returns-in-None-lock g c =
+returns-in-None-lock g c told =
     let old = state_of g.D.Device.contents g.D.Device.failures c.args.core.now in
     let hart = c.args.hart in
     let hand = c.args.self.now in
     let k = c.args.seat in
     let number : first_listed hand ≡ c.in-Some.first.now = ap first_in c.in-Some.ensures.1 in
-    waits g.D.Device.contents g.D.Device.failures g.D.Device.Called hart (ops.LockListed k) hand c.args.core.now c.lock.new.self c.in-None-lock.ensures.still c.requires.fits
+    waits g.D.Device.contents g.D.Device.failures g.D.Device.Called hart (ops.LockListed k) hand told c.args.core.now c.lock.new.self c.in-None-lock.ensures.still c.requires.fits
     (subst (λ (m : ℕ). exec hart Passes (steps.Lock m) old ≡ ItWaits) (sym number) (c.in-None-lock.ensures.ran Passes)) tt
 
 pub returns-in-Some-lock : goal.returns-in-Some-lock
 unfolding Honest answer_in
-returns-in-Some-lock g c =
+returns-in-Some-lock g c told =
     let old = state_of g.D.Device.contents g.D.Device.failures c.args.core.now in
     let new = state_of g.D.Device.contents g.D.Device.failures c.lock.new.self in
     let hart = c.args.hart in

@@ -14,7 +14,7 @@ use Rattle.hands.proofs.hand.Hand.lock_open.Goals as goal
 pub returns-in-None : goal.returns-in-None
 unfolding Honest
 returns-in-None g c =
-    waits g.D.Device.contents g.D.Device.failures g.D.Device.Called c.args.hart (ops.LockOpen c.args.seat c.args.fd) c.args.self.now c.args.core.now c.lock_open.new.self
+    waits g.D.Device.contents g.D.Device.failures g.D.Device.Called c.args.hart (ops.LockOpen c.args.seat c.args.fd) c.args.self.now c.args.told.now c.args.core.now c.lock_open.new.self
     c.in-None.ensures.still c.requires.fits (c.in-None.ensures.ran Passes) tt
 
 pub returns-in-Some : goal.returns-in-Some

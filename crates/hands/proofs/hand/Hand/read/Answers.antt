@@ -16,7 +16,7 @@ read-requires-clause-own g c = c.requires.fits.buffers.own c.args.place c.in-Som
 
 pub returns-in-Ok : goal.returns-in-Ok
 unfolding Honest answer_in
-returns-in-Ok g c =
+returns-in-Ok g c told =
     let old = state_of g.D.Device.contents g.D.Device.failures c.args.core.now in
     let new = state_of g.D.Device.contents g.D.Device.failures c.read.new.self in
     let hart = c.args.hart in
@@ -42,7 +42,7 @@ returns-in-Ok g c =
 
 pub returns-in-Err : goal.returns-in-Err
 unfolding Honest answer_in
-returns-in-Err g c =
+returns-in-Err g c told =
     let old = state_of g.D.Device.contents g.D.Device.failures c.args.core.now in
     let new = state_of g.D.Device.contents g.D.Device.failures c.read.new.self in
     let hart = c.args.hart in

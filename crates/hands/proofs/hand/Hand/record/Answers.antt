@@ -28,7 +28,7 @@ put_changed-requires-clause-held g c =
 
 pub returns : goal.returns
 unfolding Honest answer_in
-returns g c =
+returns g c told =
     let old = state_of g.D.Device.contents g.D.Device.failures c.args.core.now in
     let new = state_of g.D.Device.contents g.D.Device.failures c.put_changed.new.self in
     let hart = c.args.hart in

@@ -6,7 +6,7 @@ use Rattle.hands.proofs.hand.Hand.reply.Goals as goal
 
 pub returns : goal.returns
 unfolding Honest answer_in
-returns g c =
+returns g c told =
     record {
       ran = c.reply.ensures Passes;
       kind = refl;

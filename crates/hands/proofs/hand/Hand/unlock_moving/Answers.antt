@@ -14,7 +14,7 @@ unlock_moving-requires-clause-own g c = c.requires.fits.inodes.own c.args.seat c
 
 pub returns : goal.returns
 unfolding Honest answer_in
-returns g c =
+returns g c told =
     let old = state_of g.D.Device.contents g.D.Device.failures c.args.core.now in
     let new = state_of g.D.Device.contents g.D.Device.failures c.unlock_moving.new.self in
     let hart = c.args.hart in

@@ -10,7 +10,7 @@ use Rattle.hands.proofs.hand.Hand.up_directory.Goals as goal
 
 pub returns-in-None : goal.returns-in-None
 unfolding Honest answer_in
-returns-in-None g c =
+returns-in-None g c told =
     let old = state_of g.D.Device.contents g.D.Device.failures c.args.core.now in
     let new = state_of g.D.Device.contents g.D.Device.failures c.up_directory.new.self in
     let hart = c.args.hart in
@@ -29,7 +29,7 @@ returns-in-None g c =
 
 pub returns-in-Some : goal.returns-in-Some
 unfolding Honest answer_in
-returns-in-Some g c =
+returns-in-Some g c told =
     let old = state_of g.D.Device.contents g.D.Device.failures c.args.core.now in
     let new = state_of g.D.Device.contents g.D.Device.failures c.up_directory.new.self in
     let hart = c.args.hart in
