@@ -85,7 +85,7 @@ impl Routine for Clear {
     }
 
     #[tactic(auto, using(hands::proofs::Going::goes_bind))]
-    fn next(&mut self, answer: Answer, hand: &mut Hand) -> Option<Dinode> {
+    fn next(&mut self, answer: &Answer, hand: &mut Hand) -> Option<Dinode> {
         match self {
             Clear::Fetching(slot, fetch) => match fetch.next(answer, hand) {
                 None => None,

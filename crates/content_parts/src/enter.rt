@@ -113,7 +113,7 @@ impl Routine for Enter {
     }
 
     #[tactic(auto, using(hands::proofs::Going::goes_bind))]
-    fn next(&mut self, answer: Answer, hand: &mut Hand) -> Option<Entered> {
+    fn next(&mut self, answer: &Answer, hand: &mut Hand) -> Option<Entered> {
         match self {
             Enter::Searching(entering, search) => {
                 match search.next(&entering.inode, Sought::Free, answer, hand) {

@@ -74,7 +74,7 @@ impl Routine for Fill {
     }
 
     #[tactic(auto, using(hands::proofs::Going::goes_bind))]
-    fn next(&mut self, answer: Answer, hand: &mut Hand) -> Option<Filled> {
+    fn next(&mut self, answer: &Answer, hand: &mut Hand) -> Option<Filled> {
         match self.part.next(&self.bytes, answer, hand) {
             None => None,
             Some(written) => Some(whole_in(&written)),

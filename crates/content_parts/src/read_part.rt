@@ -83,18 +83,18 @@ impl ReadPart {
         &mut self,
         inode: &Dinode,
         memory: &mut [u8],
-        answer: Answer,
+        answer: &Answer,
         hand: &Hand,
     ) -> Option<usize>
-        requires came { (before : HandState) × ReadReady memory.old self.old before × IsAfter (read_asked self.old) before answer hand.now }
-        ensures goes { (before : HandState) → ReadReady memory.old self.old before → IsAfter (read_asked self.old) before answer hand.now
-            → Goes (read_left inode.now memory.old self.old before) (answer_in (read_asked self.old) answer hand.now)
+        requires came { (before : HandState) × ReadReady memory.old self.old before × IsAfter (read_asked self.old) before answer.now hand.now }
+        ensures goes { (before : HandState) → ReadReady memory.old self.old before → IsAfter (read_asked self.old) before answer.now hand.now
+            → Goes (read_left inode.now memory.old self.old before) (answer_in (read_asked self.old) answer.now hand.now)
             (left_after (read_left inode.now memory.new) (λ n _. filled_to n memory.new) result self.new hand.now) }
         ensures ready { IfNone result (ReadReady memory.new self.new hand.now) }
         ensures over { IfSome result (λ _. NoBuffers hand.now) }
         ensures still { IfNone result (read_count self.new ≡ read_count self.old) }
         ensures count { IfSome result (λ n. (n ≡ read_count self.old) × (n ≤ length memory.new)) }
-        ensures beside { (before : HandState) → ReadReady memory.old self.old before → IsAfter (read_asked self.old) before answer hand.now
+        ensures beside { (before : HandState) → ReadReady memory.old self.old before → IsAfter (read_asked self.old) before answer.now hand.now
             → Leaves before hand.now }
     {
         match self {

@@ -97,18 +97,18 @@ impl Search {
         &mut self,
         inode: &Dinode,
         sought: Sought,
-        answer: Answer,
+        answer: &Answer,
         hand: &Hand,
     ) -> Option<Option<Found>>
         requires sought { IsSought sought }
-        requires came { (before : HandState) × SearchReady self.old before × IsAfter (search_asked self.old) before answer hand.now }
-        ensures goes { (before : HandState) → SearchReady self.old before → IsAfter (search_asked self.old) before answer hand.now
-            → Goes (search_left (aim_of sought.entry) inode.now self.old before) (answer_in (search_asked self.old) answer hand.now)
+        requires came { (before : HandState) × SearchReady self.old before × IsAfter (search_asked self.old) before answer.now hand.now }
+        ensures goes { (before : HandState) → SearchReady self.old before → IsAfter (search_asked self.old) before answer.now hand.now
+            → Goes (search_left (aim_of sought.entry) inode.now self.old before) (answer_in (search_asked self.old) answer.now hand.now)
             (left_after (search_left (aim_of sought.entry) inode.now) (λ found _. found) result self.new hand.now) }
         ensures ready { IfNone result (SearchReady self.new hand.now) }
         ensures slot { IfSome result IsSlot }
         ensures over { IfSome result (λ _. NoBuffers hand.now) }
-        ensures beside { (before : HandState) → SearchReady self.old before → IsAfter (search_asked self.old) before answer hand.now
+        ensures beside { (before : HandState) → SearchReady self.old before → IsAfter (search_asked self.old) before answer.now hand.now
             → Leaves before hand.now }
     {
         match self {

@@ -100,17 +100,17 @@ impl WritePart {
 
     /// How it goes on.
     #[tactic(auto, using(hands::proofs::Going::goes_bind, hand_controls::proofs::Goings::fetched_goes))]
-    pub fn next(&mut self, bytes: &[u8], answer: Answer, hand: &mut Hand) -> Option<Written>
-        requires came { (before : HandState) × WriteReady bytes.now self.old before × IsAfter (write_asked self.old) before answer hand.old }
-        ensures goes { (before : HandState) → WriteReady bytes.now self.old before → IsAfter (write_asked self.old) before answer hand.old
-            → Goes (write_left bytes.now self.old before) (answer_in (write_asked self.old) answer hand.old)
+    pub fn next(&mut self, bytes: &[u8], answer: &Answer, hand: &mut Hand) -> Option<Written>
+        requires came { (before : HandState) × WriteReady bytes.now self.old before × IsAfter (write_asked self.old) before answer.now hand.old }
+        ensures goes { (before : HandState) → WriteReady bytes.now self.old before → IsAfter (write_asked self.old) before answer.now hand.old
+            → Goes (write_left bytes.now self.old before) (answer_in (write_asked self.old) answer.now hand.old)
             (left_after (write_left bytes.now) (λ r _. written_as r) result self.new hand.new) }
         ensures ready { IfNone result (WriteReady bytes.now self.new hand.new) }
         ensures same { hand.new ≡ hand.old }
         ensures over { IfSome result (λ _. NoBuffers hand.new) }
         ensures within { IfSome result (λ r. IsWithin r) }
         ensures beside { (before : HandState) → WriteReady bytes.now self.old before
-            → IsAfter (write_asked self.old) before answer hand.old → Leaves before hand.old }
+            → IsAfter (write_asked self.old) before answer.now hand.old → Leaves before hand.old }
     {
         match self {
             WritePart::Locating(writing, locate) => match locate.next(answer, hand) {

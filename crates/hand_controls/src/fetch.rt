@@ -52,7 +52,7 @@ impl Part for Fetch {
     }
 
     #[tactic(auto, using(hands::proofs::Going::got_valid, hands::proofs::Going::got_unread, hands::proofs::Going::was_read))]
-    fn next(&mut self, answer: Answer, hand: &Hand) -> Option<Fetched> {
+    fn next(&mut self, answer: &Answer, hand: &Hand) -> Option<Fetched> {
         match *self {
             Fetch::Get(place, block) => {
                 if hand.is_valid(place) {

@@ -72,7 +72,7 @@ impl Part for FetchBlock {
         }
     }
 
-    fn next(&mut self, answer: Answer, hand: &Hand) -> Option<Fetched> {
+    fn next(&mut self, answer: &Answer, hand: &Hand) -> Option<Fetched> {
         match self {
             FetchBlock::Table(i, fetch) => {
                 let i = *i;

@@ -68,7 +68,7 @@ impl Part for FreeBlock {
     }
 
     #[tactic(auto, using(hands::proofs::Going::goes_bind, crate::proofs::Goings::fetched_goes))]
-    fn next(&mut self, answer: Answer, hand: &Hand) -> Option<()> {
+    fn next(&mut self, answer: &Answer, hand: &Hand) -> Option<()> {
         match self {
             FreeBlock::Bitmap(b, fetch) => {
                 let b = *b;

@@ -69,7 +69,7 @@ impl Routine for FreeInode {
     }
 
     #[tactic(auto, using(hands::proofs::Going::goes_bind))]
-    fn next(&mut self, answer: Answer, hand: &mut Hand) -> Option<()> {
+    fn next(&mut self, answer: &Answer, hand: &mut Hand) -> Option<()> {
         match self {
             FreeInode::Truncating(truncate) => match truncate.next(answer, hand) {
                 None => None,

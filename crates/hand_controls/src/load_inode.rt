@@ -63,7 +63,7 @@ impl Part for LoadInode {
     }
 
     #[tactic(auto, using(hands::proofs::Going::goes_bind, crate::proofs::Goings::fetched_goes))]
-    fn next(&mut self, answer: Answer, hand: &Hand) -> Option<Dinode> {
+    fn next(&mut self, answer: &Answer, hand: &Hand) -> Option<Dinode> {
         match self {
             LoadInode::Fetching(number, fetch) => {
                 let number = *number;

@@ -78,11 +78,11 @@ impl Routine for LockFile {
     }
 
     #[tactic(auto, using(hands::proofs::Going::goes_bind))]
-    fn next(&mut self, answer: Answer, hand: &mut Hand) -> Option<FileLocked> {
+    fn next(&mut self, answer: &Answer, hand: &mut Hand) -> Option<FileLocked> {
         match self {
             LockFile::Lock(seat, inodestart, _, _) => {
                 let seat = *seat;
-                match answer {
+                match *answer {
                     Answer::File(file) => match load_held(*inodestart, hand, seat) {
                         None => Some(FileLocked::Locked(HeldFile { seat, file })),
                         Some(load) => {

@@ -78,7 +78,7 @@ impl Routine for LockInode {
         }
     }
 
-    fn next(&mut self, answer: Answer, hand: &mut Hand) -> Option<Seat> {
+    fn next(&mut self, answer: &Answer, hand: &mut Hand) -> Option<Seat> {
         match self {
             LockInode::Lock(seat, inodestart) => {
                 let seat = *seat;

@@ -65,11 +65,11 @@ impl Routine for LockOpen {
     }
 
     #[tactic(auto, using(hands::proofs::Going::goes_bind))]
-    fn next(&mut self, answer: Answer, hand: &mut Hand) -> Option<HeldFile> {
+    fn next(&mut self, answer: &Answer, hand: &mut Hand) -> Option<HeldFile> {
         match self {
             LockOpen::Lock(seat, inodestart, _) => {
                 let seat = *seat;
-                match answer {
+                match *answer {
                     Answer::File(file) => match load_held(*inodestart, hand, seat) {
                         None => Some(HeldFile { seat, file }),
                         Some(load) => {

@@ -47,11 +47,16 @@ impl LookUp {
 
     /// How it goes on.
     #[tactic(auto, using(hands::proofs::Going::goes_bind))]
-    pub fn next(&mut self, sought: Sought, answer: Answer, hand: &mut Hand) -> Option<Option<Found>>
+    pub fn next(
+        &mut self,
+        sought: Sought,
+        answer: &Answer,
+        hand: &mut Hand,
+    ) -> Option<Option<Found>>
         requires sought { IsSought sought }
-        requires came { (before : HandState) × LookReady self.old before × IsAfter (look_asked self.old) before answer hand.old }
-        ensures goes { (before : HandState) → LookReady self.old before → IsAfter (look_asked self.old) before answer hand.old
-            → Goes (look_left (aim_of sought.entry) self.old before) (answer_in (look_asked self.old) answer hand.old) (left_after (look_left (aim_of sought.entry)) (λ found _. found) result self.new hand.new) }
+        requires came { (before : HandState) × LookReady self.old before × IsAfter (look_asked self.old) before answer.now hand.old }
+        ensures goes { (before : HandState) → LookReady self.old before → IsAfter (look_asked self.old) before answer.now hand.old
+            → Goes (look_left (aim_of sought.entry) self.old before) (answer_in (look_asked self.old) answer.now hand.old) (left_after (look_left (aim_of sought.entry)) (λ found _. found) result self.new hand.new) }
         ensures ready { IfNone result (LookReady self.new hand.new) }
         ensures hand { bare hand.new ≡ bare hand.old }
     {

@@ -102,7 +102,7 @@ impl Routine for NewInode {
     }
 
     #[tactic(auto, using(hands::proofs::Going::goes_bind, crate::proofs::Goings::fetched_goes))]
-    fn next(&mut self, answer: Answer, hand: &mut Hand) -> Option<Claimed> {
+    fn next(&mut self, answer: &Answer, hand: &mut Hand) -> Option<Claimed> {
         match self {
             NewInode::Fetching(seat, looking, fetch) => {
                 let seat = *seat;
@@ -119,7 +119,7 @@ impl Routine for NewInode {
             NewInode::Look(seat, looking) => {
                 let seat = *seat;
                 let looking = *looking;
-                match answer {
+                match *answer {
                     Answer::Number(number) => {
                         *self = NewInode::Record(seat, looking, number);
                         None

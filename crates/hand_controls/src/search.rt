@@ -76,15 +76,20 @@ impl Search {
 
     /// How it goes on.
     #[tactic(auto, using(hands::proofs::Going::goes_bind))]
-    pub fn next(&mut self, sought: Sought, answer: Answer, hand: &mut Hand) -> Option<Option<Found>>
+    pub fn next(
+        &mut self,
+        sought: Sought,
+        answer: &Answer,
+        hand: &mut Hand,
+    ) -> Option<Option<Found>>
         requires sought { IsSought sought }
-        requires came { (before : HandState) × SearchReady self.old before × IsAfter (search_asked self.old) before answer hand.old }
-        ensures goes { (before : HandState) → SearchReady self.old before → IsAfter (search_asked self.old) before answer hand.old
-            → Goes (search_left (aim_of sought.entry) self.old before) (answer_in (search_asked self.old) answer hand.old) (left_after (search_left (aim_of sought.entry)) (λ found _. found) result self.new hand.new) }
+        requires came { (before : HandState) × SearchReady self.old before × IsAfter (search_asked self.old) before answer.now hand.old }
+        ensures goes { (before : HandState) → SearchReady self.old before → IsAfter (search_asked self.old) before answer.now hand.old
+            → Goes (search_left (aim_of sought.entry) self.old before) (answer_in (search_asked self.old) answer.now hand.old) (left_after (search_left (aim_of sought.entry)) (λ found _. found) result self.new hand.new) }
         ensures ready { IfNone result (SearchReady self.new hand.new) }
         ensures ends { IfSome result IsSlot }
         ensures same { hand.new ≡ hand.old }
-        ensures one { (before : HandState) → IsAfter (search_asked self.old) before answer hand.old → hand.old.one ≡ before.one }
+        ensures one { (before : HandState) → IsAfter (search_asked self.old) before answer.now hand.old → hand.old.one ≡ before.one }
     {
         match self {
             Search::Fetching(at, fetch) => {

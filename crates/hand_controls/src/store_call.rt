@@ -55,7 +55,7 @@ impl Control for StoreCall {
     }
 
     #[tactic(auto, using(hands::proofs::Going::goes_bind))]
-    fn next(&mut self, answer: Answer, hand: &mut Hand) -> Option<()> {
+    fn next(&mut self, answer: &Answer, hand: &mut Hand) -> Option<()> {
         match self {
             StoreCall::Join(inodestart, number, inode) => {
                 let store = StoreInode::new(*inodestart, *number, *inode, Place::First);

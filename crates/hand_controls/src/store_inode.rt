@@ -66,7 +66,7 @@ impl Part for StoreInode {
     }
 
     #[tactic(auto, using(hands::proofs::Going::goes_bind, crate::proofs::Goings::fetched_goes))]
-    fn next(&mut self, answer: Answer, hand: &Hand) -> Option<()> {
+    fn next(&mut self, answer: &Answer, hand: &Hand) -> Option<()> {
         match self {
             StoreInode::Fetching(number, inode, fetch) => match fetch.next(answer, hand) {
                 None => None,

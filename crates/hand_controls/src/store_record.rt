@@ -116,7 +116,7 @@ impl Part for StoreRecord {
     }
 
     #[tactic(auto, using(hands::proofs::Going::goes_bind, crate::proofs::Goings::fetched_goes))]
-    fn next(&mut self, answer: Answer, hand: &Hand) -> Option<()> {
+    fn next(&mut self, answer: &Answer, hand: &Hand) -> Option<()> {
         match self {
             StoreRecord::Fetching(seat, fetch) => {
                 let seat = *seat;

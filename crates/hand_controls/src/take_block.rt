@@ -77,7 +77,7 @@ impl Part for TakeBlock {
     }
 
     #[tactic(auto, using(hands::proofs::Going::goes_bind, crate::proofs::Goings::fetched_goes))]
-    fn next(&mut self, answer: Answer, hand: &Hand) -> Option<Option<u32>> {
+    fn next(&mut self, answer: &Answer, hand: &Hand) -> Option<Option<u32>> {
         match self {
             TakeBlock::Bitmap(size, fetch) => {
                 let size = *size;

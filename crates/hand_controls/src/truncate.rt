@@ -104,7 +104,7 @@ impl Routine for Truncate {
     }
 
     #[tactic(auto, using(hands::proofs::Going::goes_bind, crate::proofs::Goings::fetched_goes))]
-    fn next(&mut self, answer: Answer, hand: &mut Hand) -> Option<Emptying> {
+    fn next(&mut self, answer: &Answer, hand: &mut Hand) -> Option<Emptying> {
         match self {
             Truncate::Own(emptying, at, free) => {
                 let emptying = *emptying;

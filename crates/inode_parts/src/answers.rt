@@ -22,30 +22,30 @@ pub(crate) fn cause(refused: Refused) -> Cause
 }
 
 /// The number that was answered.
-pub(crate) fn number_in(answer: Answer) -> Option<u32>
-    ensures { result ≡ number_by answer }
+pub(crate) fn number_in(answer: &Answer) -> Option<u32>
+    ensures { result ≡ number_by answer.now }
 {
-    match answer {
+    match *answer {
         Answer::Number(number) => Some(number),
         _ => None,
     }
 }
 
 /// Why a descriptor was refused.
-pub(crate) fn checked_in(answer: Answer) -> Option<Cause>
-    ensures { result ≡ cause_if (refused_by answer) }
+pub(crate) fn checked_in(answer: &Answer) -> Option<Cause>
+    ensures { result ≡ cause_if (refused_by answer.now) }
 {
-    match answer {
+    match *answer {
         Answer::Refused(why) => Some(cause(why)),
         _ => None,
     }
 }
 
 /// The inode for which a transaction was joined.
-pub(crate) fn joined_in(answer: Answer) -> Joined
-    ensures { heard.Joined result ≡ joining_heard (joined_by answer) }
+pub(crate) fn joined_in(answer: &Answer) -> Joined
+    ensures { heard.Joined result ≡ joining_heard (joined_by answer.now) }
 {
-    match answer {
+    match *answer {
         Answer::Refused(why) => Joined::Refused(cause(why)),
         Answer::Number(number) => Joined::For(number),
         _ => Joined::Refused(Cause::BadDescriptor),
@@ -53,10 +53,10 @@ pub(crate) fn joined_in(answer: Answer) -> Joined
 }
 
 /// One descriptor more.
-pub(crate) fn doubled_in(answer: Answer) -> Option<Option<u32>>
-    ensures { result ≡ doubled_to (doubled_by answer) }
+pub(crate) fn doubled_in(answer: &Answer) -> Option<Option<u32>>
+    ensures { result ≡ doubled_to (doubled_by answer.now) }
 {
-    match answer {
+    match *answer {
         Answer::Doubled(Doubled::BadDescriptor) => None,
         Answer::Doubled(Doubled::Gave(fd)) => Some(Some(u32::from(fd))),
         _ => Some(None),
@@ -64,10 +64,10 @@ pub(crate) fn doubled_in(answer: Answer) -> Option<Option<u32>>
 }
 
 /// One descriptor less, where that was the last one of the inode of this number.
-pub(crate) fn shut_in(answer: Answer, number: u32) -> Option<Option<u32>>
-    ensures { result ≡ shut_to (shut_by answer number) }
+pub(crate) fn shut_in(answer: &Answer, number: u32) -> Option<Option<u32>>
+    ensures { result ≡ shut_to (shut_by answer.now number) }
 {
-    match answer {
+    match *answer {
         Answer::Is(true) => Some(Some(number)),
         Answer::Refused(_) => None,
         _ => Some(None),
@@ -75,20 +75,20 @@ pub(crate) fn shut_in(answer: Answer, number: u32) -> Option<Option<u32>>
 }
 
 /// What was handed on, where the child's directory had this number before.
-pub(crate) fn loan_in(answer: Answer, number: u32) -> Loan
-    ensures { heard.Loan result ≡ loan_heard (given_by answer number) }
+pub(crate) fn loan_in(answer: &Answer, number: u32) -> Loan
+    ensures { heard.Loan result ≡ loan_heard (given_by answer.now number) }
 {
-    match answer {
+    match *answer {
         Answer::Given(fd, more) => Loan::Lent(fd, more),
         _ => Loan::Moved(number),
     }
 }
 
 /// The child's directory before, where that had this number.
-pub(crate) fn old_in(answer: Answer, number: u32) -> u32
-    ensures { result ≡ old_directory (given_by answer number) }
+pub(crate) fn old_in(answer: &Answer, number: u32) -> u32
+    ensures { result ≡ old_directory (given_by answer.now number) }
 {
-    match answer {
+    match *answer {
         Answer::Given(_, _) => ROOT,
         _ => number,
     }

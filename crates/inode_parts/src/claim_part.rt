@@ -54,15 +54,15 @@ impl ClaimPart {
     }
 
     /// How it goes on; or what is heard.
-    pub fn next(&mut self, notes: &Notes, answer: Answer, hand: &mut Hand) -> Option<Heard>
-        requires came { (before : HandState) × ClaimReady self.old before × IsAfter (claim_asked self.old) before answer hand.old }
+    pub fn next(&mut self, notes: &Notes, answer: &Answer, hand: &mut Hand) -> Option<Heard>
+        requires came { (before : HandState) × ClaimReady self.old before × IsAfter (claim_asked self.old) before answer.now hand.old }
         ensures goes { (path : List ℕ) (before : HandState) → ClaimReady self.old before
-            → IsAfter (claim_asked self.old) before answer hand.old
-            → Goes (claim_left path notes.now self.old before) (answer_in (claim_asked self.old) answer hand.old)
+            → IsAfter (claim_asked self.old) before answer.now hand.old
+            → Goes (claim_left path notes.now self.old before) (answer_in (claim_asked self.old) answer.now hand.old)
             (left_after (claim_left path notes.now) (handed path notes.now) result self.new hand.new) }
         ensures ready { IfNone result (ClaimReady self.new hand.new) }
         ensures leaves { (path : List ℕ) (sort : whole.Sort) (start before : HandState) → ClaimAmid start self.old before
-            → ClaimReady self.old before → IsAfter (claim_asked self.old) before answer hand.old
+            → ClaimReady self.old before → IsAfter (claim_asked self.old) before answer.now hand.old
             → StaysOrLeaves (ClaimAmid start self.new) path (Claim sort) result (having start notes.now) (having hand.new notes.now) }
         ensures hand { bare hand.new ≡ bare hand.old }
     {

@@ -60,15 +60,15 @@ impl ClearPart {
 
     /// How it goes on; or what is heard. At its end the directory has its new record.
     #[tactic(auto, using(crate::proofs::Clears::clear_on, crate::proofs::Clears::clear_ends))]
-    pub fn next(&mut self, notes: &mut Notes, answer: Answer, hand: &mut Hand) -> Option<Heard>
-        requires came { (before : HandState) × ClearPartReady self.old before × IsAfter (clear_part_asked self.old) before answer hand.old }
-        ensures goes { (path : List ℕ) (before : HandState) → ClearPartReady self.old before → IsAfter (clear_part_asked self.old) before answer hand.old
-            → Goes (clear_part_left path notes.old self.old before) (answer_in (clear_part_asked self.old) answer hand.old)
+    pub fn next(&mut self, notes: &mut Notes, answer: &Answer, hand: &mut Hand) -> Option<Heard>
+        requires came { (before : HandState) × ClearPartReady self.old before × IsAfter (clear_part_asked self.old) before answer.now hand.old }
+        ensures goes { (path : List ℕ) (before : HandState) → ClearPartReady self.old before → IsAfter (clear_part_asked self.old) before answer.now hand.old
+            → Goes (clear_part_left path notes.old self.old before) (answer_in (clear_part_asked self.old) answer.now hand.old)
             (left_after (clear_part_left path notes.new) (handed path notes.new) result self.new hand.new) }
         ensures ready { IfNone result (ClearPartReady self.new hand.new) }
         ensures leaves { (path : List ℕ) (n : ℕ) (name : Name) (start before : HandState)
             → ClearAmid n start self.old before → ClearPartReady self.old before
-            → IsAfter (clear_part_asked self.old) before answer hand.old
+            → IsAfter (clear_part_asked self.old) before answer.now hand.old
             → StaysOrLeaves (ClearAmid n start self.new) path (above.Clear n name) result
             (having start notes.old) (having hand.new notes.new) }
         ensures hand { bare hand.new ≡ bare hand.old }

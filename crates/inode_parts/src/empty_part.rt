@@ -54,15 +54,15 @@ impl EmptyPart {
 
     /// How it goes on; or what is heard.
     #[tactic(auto, using(crate::proofs::Empties::empty_on, crate::proofs::Empties::empty_ends))]
-    pub fn next(&mut self, notes: &mut Notes, answer: Answer, hand: &mut Hand) -> Option<Heard>
-        requires came { (before : HandState) × EmptyPartReady self.old before × IsAfter (empty_part_asked self.old) before answer hand.old }
-        ensures goes { (path : List ℕ) (before : HandState) → EmptyPartReady self.old before → IsAfter (empty_part_asked self.old) before answer hand.old
-            → Goes (empty_part_left path notes.old self.old before) (answer_in (empty_part_asked self.old) answer hand.old)
+    pub fn next(&mut self, notes: &mut Notes, answer: &Answer, hand: &mut Hand) -> Option<Heard>
+        requires came { (before : HandState) × EmptyPartReady self.old before × IsAfter (empty_part_asked self.old) before answer.now hand.old }
+        ensures goes { (path : List ℕ) (before : HandState) → EmptyPartReady self.old before → IsAfter (empty_part_asked self.old) before answer.now hand.old
+            → Goes (empty_part_left path notes.old self.old before) (answer_in (empty_part_asked self.old) answer.now hand.old)
             (left_after (empty_part_left path notes.new) (handed path notes.new) result self.new hand.new) }
         ensures ready { IfNone result (EmptyPartReady self.new hand.new) }
         ensures leaves { (path : List ℕ) (n : ℕ) (start before : HandState)
             → EmptyAmid n start self.old before → EmptyPartReady self.old before
-            → IsAfter (empty_part_asked self.old) before answer hand.old
+            → IsAfter (empty_part_asked self.old) before answer.now hand.old
             → StaysOrLeaves (EmptyAmid n start self.new) path (Empty n) result
             (having start notes.old) (having hand.new notes.new) }
         ensures hand { bare hand.new ≡ bare hand.old }

@@ -64,15 +64,15 @@ impl EnterPart {
 
     /// How it goes on; or what is heard. At its end the directory has its new record.
     #[tactic(auto, using(crate::proofs::Enters::enter_on, crate::proofs::Enters::enter_ends))]
-    pub fn next(&mut self, notes: &mut Notes, answer: Answer, hand: &mut Hand) -> Option<Heard>
-        requires came { (before : HandState) × EnterPartReady self.old before × IsAfter (enter_part_asked self.old) before answer hand.old }
-        ensures goes { (path : List ℕ) (before : HandState) → EnterPartReady self.old before → IsAfter (enter_part_asked self.old) before answer hand.old
-            → Goes (enter_part_left path notes.old self.old before) (answer_in (enter_part_asked self.old) answer hand.old)
+    pub fn next(&mut self, notes: &mut Notes, answer: &Answer, hand: &mut Hand) -> Option<Heard>
+        requires came { (before : HandState) × EnterPartReady self.old before × IsAfter (enter_part_asked self.old) before answer.now hand.old }
+        ensures goes { (path : List ℕ) (before : HandState) → EnterPartReady self.old before → IsAfter (enter_part_asked self.old) before answer.now hand.old
+            → Goes (enter_part_left path notes.old self.old before) (answer_in (enter_part_asked self.old) answer.now hand.old)
             (left_after (enter_part_left path notes.new) (handed path notes.new) result self.new hand.new) }
         ensures ready { IfNone result (EnterPartReady self.new hand.new) }
         ensures leaves { (path : List ℕ) (n child : ℕ) (name : Name) (start before : HandState)
             → EnterAmid n start self.old before → EnterPartReady self.old before
-            → IsAfter (enter_part_asked self.old) before answer hand.old
+            → IsAfter (enter_part_asked self.old) before answer.now hand.old
             → StaysOrLeaves (EnterAmid n start self.new) path (above.Enter n name child) result
             (having start notes.old) (having hand.new notes.new) }
         ensures hand { bare hand.new ≡ bare hand.old }

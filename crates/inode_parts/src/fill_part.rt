@@ -55,15 +55,15 @@ impl FillPart {
 
     /// How it goes on; or what is heard. At its end the directory has its new record.
     #[tactic(auto, using(crate::proofs::Fills::fill_on, crate::proofs::Fills::fill_ends))]
-    pub fn next(&mut self, notes: &mut Notes, answer: Answer, hand: &mut Hand) -> Option<Heard>
-        requires came { (before : HandState) × FillPartReady self.old before × IsAfter (fill_part_asked self.old) before answer hand.old }
-        ensures goes { (path : List ℕ) (before : HandState) → FillPartReady self.old before → IsAfter (fill_part_asked self.old) before answer hand.old
-            → Goes (fill_part_left path notes.old self.old before) (answer_in (fill_part_asked self.old) answer hand.old)
+    pub fn next(&mut self, notes: &mut Notes, answer: &Answer, hand: &mut Hand) -> Option<Heard>
+        requires came { (before : HandState) × FillPartReady self.old before × IsAfter (fill_part_asked self.old) before answer.now hand.old }
+        ensures goes { (path : List ℕ) (before : HandState) → FillPartReady self.old before → IsAfter (fill_part_asked self.old) before answer.now hand.old
+            → Goes (fill_part_left path notes.old self.old before) (answer_in (fill_part_asked self.old) answer.now hand.old)
             (left_after (fill_part_left path notes.new) (handed path notes.new) result self.new hand.new) }
         ensures ready { IfNone result (FillPartReady self.new hand.new) }
         ensures leaves { (path : List ℕ) (n parent : ℕ) (start before : HandState)
             → FillAmid n start self.old before → FillPartReady self.old before
-            → IsAfter (fill_part_asked self.old) before answer hand.old
+            → IsAfter (fill_part_asked self.old) before answer.now hand.old
             → StaysOrLeaves (FillAmid n start self.new) path (above.Fill n parent) result
             (having start notes.old) (having hand.new notes.new) }
         ensures hand { bare hand.new ≡ bare hand.old }

@@ -52,16 +52,16 @@ impl FreePart {
     }
 
     /// How it goes on.
-    pub fn next(&mut self, notes: &mut Notes, answer: Answer, hand: &mut Hand) -> Option<Heard>
-        requires came { (before : HandState) × FreeReady self.old before × IsAfter (free_asked self.old) before answer hand.old }
+    pub fn next(&mut self, notes: &mut Notes, answer: &Answer, hand: &mut Hand) -> Option<Heard>
+        requires came { (before : HandState) × FreeReady self.old before × IsAfter (free_asked self.old) before answer.now hand.old }
         ensures goes { (path : List ℕ) (before : HandState) → FreeReady self.old before
-            → IsAfter (free_asked self.old) before answer hand.old
-            → Goes (free_left path notes.old self.old before) (answer_in (free_asked self.old) answer hand.old)
+            → IsAfter (free_asked self.old) before answer.now hand.old
+            → Goes (free_left path notes.old self.old before) (answer_in (free_asked self.old) answer.now hand.old)
             (left_after (free_left path notes.new) (handed path notes.new) result self.new hand.new) }
         ensures ready { IfNone result (FreeReady self.new hand.new) }
         ensures leaves { (path : List ℕ) (n : ℕ) (start before : HandState)
             → FreeAmid n start self.old before → FreeReady self.old before
-            → IsAfter (free_asked self.old) before answer hand.old
+            → IsAfter (free_asked self.old) before answer.now hand.old
             → StaysOrLeaves (FreeAmid n start self.new) path (Free n) result
             (having start notes.old) (having hand.new notes.new) }
         ensures hand { bare hand.new ≡ bare hand.old }

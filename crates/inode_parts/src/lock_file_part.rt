@@ -52,15 +52,15 @@ impl LockFilePart {
     }
 
     /// How it goes on; or what is heard.
-    pub fn next(&mut self, notes: &mut Notes, answer: Answer, hand: &mut Hand) -> Option<Heard>
-        requires came { (before : HandState) × LockFileReady self.old before × IsAfter (lock_file_asked self.old) before answer hand.old }
+    pub fn next(&mut self, notes: &mut Notes, answer: &Answer, hand: &mut Hand) -> Option<Heard>
+        requires came { (before : HandState) × LockFileReady self.old before × IsAfter (lock_file_asked self.old) before answer.now hand.old }
         ensures goes { (path : List ℕ) (before : HandState) → LockFileReady self.old before
-            → IsAfter (lock_file_asked self.old) before answer hand.old
-            → Goes (lock_file_left path notes.old self.old before) (answer_in (lock_file_asked self.old) answer hand.old)
+            → IsAfter (lock_file_asked self.old) before answer.now hand.old
+            → Goes (lock_file_left path notes.old self.old before) (answer_in (lock_file_asked self.old) answer.now hand.old)
             (left_after (lock_file_left path notes.new) (handed path notes.new) result self.new hand.new) }
         ensures ready { IfNone result (LockFileReady self.new hand.new) }
         ensures leaves { (path : List ℕ) (fd : ℕ) (start before : HandState) → LockFileAmid fd start self.old before
-            → LockFileReady self.old before → IsAfter (lock_file_asked self.old) before answer hand.old
+            → LockFileReady self.old before → IsAfter (lock_file_asked self.old) before answer.now hand.old
             → StaysOrLeaves (LockFileAmid fd start self.new) path (Locks fd) result (having start notes.old) (having hand.new notes.new) }
         ensures hand { bare hand.new ≡ bare hand.old }
     {

@@ -50,15 +50,15 @@ impl LockOpenPart {
     }
 
     /// How it goes on; or what is heard.
-    pub fn next(&mut self, notes: &mut Notes, answer: Answer, hand: &mut Hand) -> Option<Heard>
-        requires came { (before : HandState) × LockOpenReady self.old before × IsAfter (lock_open_asked self.old) before answer hand.old }
+    pub fn next(&mut self, notes: &mut Notes, answer: &Answer, hand: &mut Hand) -> Option<Heard>
+        requires came { (before : HandState) × LockOpenReady self.old before × IsAfter (lock_open_asked self.old) before answer.now hand.old }
         ensures goes { (path : List ℕ) (before : HandState) → LockOpenReady self.old before
-            → IsAfter (lock_open_asked self.old) before answer hand.old
-            → Goes (lock_open_left path notes.old self.old before) (answer_in (lock_open_asked self.old) answer hand.old)
+            → IsAfter (lock_open_asked self.old) before answer.now hand.old
+            → Goes (lock_open_left path notes.old self.old before) (answer_in (lock_open_asked self.old) answer.now hand.old)
             (left_after (lock_open_left path notes.new) (handed path notes.new) result self.new hand.new) }
         ensures ready { IfNone result (LockOpenReady self.new hand.new) }
         ensures leaves { (path : List ℕ) (fd number : ℕ) (start before : HandState) → LockOpenAmid fd start self.old before
-            → LockOpenReady self.old before → IsAfter (lock_open_asked self.old) before answer hand.old
+            → LockOpenReady self.old before → IsAfter (lock_open_asked self.old) before answer.now hand.old
             → StaysOrLeaves (LockOpenAmid fd start self.new) path (Locks fd number) result
             (having start notes.old) (having hand.new notes.new) }
         ensures hand { bare hand.new ≡ bare hand.old }

@@ -84,7 +84,7 @@ impl Control for Lowered {
         self.part.op(hand)
     }
 
-    fn next(&mut self, answer: Answer, hand: &mut Hand) -> Option<Reply> {
+    fn next(&mut self, answer: &Answer, hand: &mut Hand) -> Option<Reply> {
         match self
             .part
             .next(self.call.text(), &mut self.notes, answer, hand)

@@ -114,11 +114,11 @@ impl OneStep {
     }
 
     /// What is heard after it. Of an inode whose lock came into hand nothing is learned yet.
-    pub fn next(&self, notes: &mut Notes, answer: Answer, hand: &Hand) -> Heard
-        requires came { (before : HandState) × StepReady self.now before × IsAfter (step_asked self.now) before answer hand.now }
-        ensures goes { (path : List ℕ) (before : HandState) → StepReady self.now before → IsAfter (step_asked self.now) before answer hand.now
-            → Goes (step_left path notes.old self.now before) (answer_in (step_asked self.now) answer hand.now) (Ret (handed path notes.new result hand.now)) }
-        ensures notes { notes.new ≡ step_notes self.now (yes_in answer) notes.old }
+    pub fn next(&self, notes: &mut Notes, answer: &Answer, hand: &Hand) -> Heard
+        requires came { (before : HandState) × StepReady self.now before × IsAfter (step_asked self.now) before answer.now hand.now }
+        ensures goes { (path : List ℕ) (before : HandState) → StepReady self.now before → IsAfter (step_asked self.now) before answer.now hand.now
+            → Goes (step_left path notes.old self.now before) (answer_in (step_asked self.now) answer.now hand.now) (Ret (handed path notes.new result hand.now)) }
+        ensures notes { notes.new ≡ step_notes self.now (yes_in answer.now) notes.old }
     {
         match *self {
             OneStep::Give(_) => Heard::Did,
@@ -145,9 +145,9 @@ impl OneStep {
 }
 
 // Whether the inode to which a reference was dropped is to be freed: then its lock came into hand.
-fn dies(notes: &mut Notes, seat: Seat, answer: Answer) -> bool
-    ensures is { result ≡ yes_in answer }
-    ensures notes { notes.new ≡ (if yes_in answer then with_note seat note.Nothing notes.old else notes.old) }
+fn dies(notes: &mut Notes, seat: Seat, answer: &Answer) -> bool
+    ensures is { result ≡ yes_in answer.now }
+    ensures notes { notes.new ≡ (if yes_in answer.now then with_note seat note.Nothing notes.old else notes.old) }
 {
     if answer.yes() {
         notes.set(seat, Note::Nothing);

@@ -144,15 +144,15 @@ impl InodePart {
         &mut self,
         path: &[u8],
         notes: &mut Notes,
-        answer: Answer,
+        answer: &Answer,
         hand: &mut Hand,
     ) -> Option<Heard>
         requires told { PartTold path.now self.old }
-        requires came { (before : HandState) × PartReady self.old before × IsAfter (part_asked self.old) before answer hand.old }
-        ensures goes { (before : HandState) → PartReady self.old before → IsAfter (part_asked self.old) before answer hand.old
-            → Goes (part_left path.now notes.old self.old before) (answer_in (part_asked self.old) answer hand.old) (part_left_after path.now notes.new result self.new hand.new) }
+        requires came { (before : HandState) × PartReady self.old before × IsAfter (part_asked self.old) before answer.now hand.old }
+        ensures goes { (before : HandState) → PartReady self.old before → IsAfter (part_asked self.old) before answer.now hand.old
+            → Goes (part_left path.now notes.old self.old before) (answer_in (part_asked self.old) answer.now hand.old) (part_left_after path.now notes.new result self.new hand.new) }
         ensures under { (op : OpAbove) (start : Having) (before : HandState) → UnderWay path.now op start self.old (having before notes.old)
-            → PartReady self.old before → IsAfter (part_asked self.old) before answer hand.old
+            → PartReady self.old before → IsAfter (part_asked self.old) before answer.now hand.old
             → GoesOrLeaves path.now op start result self.new (having hand.new notes.new) }
         ensures ready { IfNone result (PartReady self.new hand.new) }
         ensures told { IfNone result (PartTold path.now self.new) }

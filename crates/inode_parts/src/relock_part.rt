@@ -63,15 +63,15 @@ impl RelockPart {
     }
 
     /// How it goes on; or what is heard.
-    pub fn next(&mut self, notes: &mut Notes, answer: Answer, hand: &mut Hand) -> Option<Heard>
-        requires came { (before : HandState) × RelockReady self.old before × IsAfter (relock_asked self.old) before answer hand.old }
+    pub fn next(&mut self, notes: &mut Notes, answer: &Answer, hand: &mut Hand) -> Option<Heard>
+        requires came { (before : HandState) × RelockReady self.old before × IsAfter (relock_asked self.old) before answer.now hand.old }
         ensures goes { (path : List ℕ) (before : HandState) → RelockReady self.old before
-            → IsAfter (relock_asked self.old) before answer hand.old
-            → Goes (relock_left path notes.old self.old before) (answer_in (relock_asked self.old) answer hand.old)
+            → IsAfter (relock_asked self.old) before answer.now hand.old
+            → Goes (relock_left path notes.old self.old before) (answer_in (relock_asked self.old) answer.now hand.old)
             (left_after (relock_left path notes.new) (handed path notes.new) result self.new hand.new) }
         ensures ready { IfNone result (RelockReady self.new hand.new) }
         ensures leaves { (path : List ℕ) (number : ℕ) (start before : HandState) → RelockAmid number start self.old before
-            → RelockReady self.old before → IsAfter (relock_asked self.old) before answer hand.old
+            → RelockReady self.old before → IsAfter (relock_asked self.old) before answer.now hand.old
             → StaysOrLeaves (RelockAmid number start self.new) path (Take number AtNothing) result
             (having start notes.old) (having hand.new notes.new) }
         ensures hand { bare hand.new ≡ bare hand.old }

@@ -52,15 +52,15 @@ impl StatFilePart {
     }
 
     /// How it goes on; or what is heard.
-    pub fn next(&mut self, notes: &mut Notes, answer: Answer, hand: &mut Hand) -> Option<Heard>
-        requires came { (before : HandState) × StatReady self.old before × IsAfter (stat_asked self.old) before answer hand.old }
+    pub fn next(&mut self, notes: &mut Notes, answer: &Answer, hand: &mut Hand) -> Option<Heard>
+        requires came { (before : HandState) × StatReady self.old before × IsAfter (stat_asked self.old) before answer.now hand.old }
         ensures goes { (path : List ℕ) (before : HandState) → StatReady self.old before
-            → IsAfter (stat_asked self.old) before answer hand.old
-            → Goes (stat_left path notes.old self.old before) (answer_in (stat_asked self.old) answer hand.old)
+            → IsAfter (stat_asked self.old) before answer.now hand.old
+            → Goes (stat_left path notes.old self.old before) (answer_in (stat_asked self.old) answer.now hand.old)
             (left_after (stat_left path notes.new) (handed path notes.new) result self.new hand.new) }
         ensures ready { IfNone result (StatReady self.new hand.new) }
         ensures leaves { (path : List ℕ) (fd : ℕ) (start before : HandState) → StatAmid start self.old before
-            → StatReady self.old before → IsAfter (stat_asked self.old) before answer hand.old
+            → StatReady self.old before → IsAfter (stat_asked self.old) before answer.now hand.old
             → StaysOrLeaves (StatAmid start self.new) path (Stats fd) result (having start notes.old) (having hand.new notes.new) }
         ensures hand { bare hand.new ≡ bare hand.old }
     {

@@ -54,15 +54,15 @@ impl StorePart {
 
     /// How it goes on; or what is heard.
     #[tactic(auto, using(crate::proofs::Stores::store_on, crate::proofs::Stores::store_ends))]
-    pub fn next(&mut self, notes: &mut Notes, answer: Answer, hand: &Hand) -> Option<Heard>
-        requires came { (before : HandState) × StorePartReady self.old before × IsAfter (store_part_asked self.old) before answer hand.now }
-        ensures goes { (path : List ℕ) (before : HandState) → StorePartReady self.old before → IsAfter (store_part_asked self.old) before answer hand.now
-            → Goes (store_part_left path notes.old self.old before) (answer_in (store_part_asked self.old) answer hand.now)
+    pub fn next(&mut self, notes: &mut Notes, answer: &Answer, hand: &Hand) -> Option<Heard>
+        requires came { (before : HandState) × StorePartReady self.old before × IsAfter (store_part_asked self.old) before answer.now hand.now }
+        ensures goes { (path : List ℕ) (before : HandState) → StorePartReady self.old before → IsAfter (store_part_asked self.old) before answer.now hand.now
+            → Goes (store_part_left path notes.old self.old before) (answer_in (store_part_asked self.old) answer.now hand.now)
             (left_after (store_part_left path notes.new) (handed path notes.new) result self.new hand.now) }
         ensures ready { IfNone result (StorePartReady self.new hand.now) }
         ensures leaves { (path : List ℕ) (n count : ℕ) (start before : HandState)
             → StoreAmid n start self.old before → StorePartReady self.old before
-            → IsAfter (store_part_asked self.old) before answer hand.now
+            → IsAfter (store_part_asked self.old) before answer.now hand.now
             → StaysOrLeaves (StoreAmid n start self.new) path (Store n count) result
             (having start notes.old) (having hand.now notes.new) }
     {

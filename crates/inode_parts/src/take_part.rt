@@ -83,18 +83,18 @@ impl TakePart {
         &mut self,
         path: &[u8],
         notes: &mut Notes,
-        answer: Answer,
+        answer: &Answer,
         hand: &mut Hand,
     ) -> Option<Heard>
         requires told { TakeTold path.now self.old }
-        requires came { (before : HandState) × TakeReady self.old before × IsAfter (take_asked self.old) before answer hand.old }
-        ensures goes { (before : HandState) → TakeReady self.old before → IsAfter (take_asked self.old) before answer hand.old
-            → Goes (take_left path.now notes.old self.old before) (answer_in (take_asked self.old) answer hand.old)
+        requires came { (before : HandState) × TakeReady self.old before × IsAfter (take_asked self.old) before answer.now hand.old }
+        ensures goes { (before : HandState) → TakeReady self.old before → IsAfter (take_asked self.old) before answer.now hand.old
+            → Goes (take_left path.now notes.old self.old before) (answer_in (take_asked self.old) answer.now hand.old)
             (left_after (take_left path.now notes.new) (handed path.now notes.new) result self.new hand.new) }
         ensures ready { IfNone result (TakeReady self.new hand.new) }
         ensures told { IfNone result (TakeTold path.now self.new) }
         ensures leaves { (n : ℕ) (looking : whole.Query) (start before : HandState) → TakeAmid path.now n looking start self.old before
-            → TakeReady self.old before → IsAfter (take_asked self.old) before answer hand.old
+            → TakeReady self.old before → IsAfter (take_asked self.old) before answer.now hand.old
             → StaysOrLeaves (TakeAmid path.now n looking start self.new) path.now (Take n looking) result
             (having start notes.old) (having hand.new notes.new) }
         ensures hand { bare hand.new ≡ bare hand.old }

@@ -14,6 +14,6 @@ returns-in-Is-clause-goes c before =
     let e = c.in-Searching.entering in
     let m = c.in-Searching.search in
     let on = enter_at e.sizes e.number e.inode e.entry in
-    let answer = answer_in (search_asked m) c.args.answer c.args.hand.now in
+    let answer = answer_in (search_asked m) c.args.answer.now c.args.hand.now in
     rw c.in-Searching.is (λ ready after. subst (λ (p : P EnteredState). Goes (bind (search_left Unused e.inode m before) on) answer p) (sym (c.in-Is.ensures.program c.args.hand.now))
     (goes_bind (search_left Unused e.inode m before) (Ret c.in-Some.found) on answer (c.in-Some.ensures.goes before ready.1 after)))

@@ -15,7 +15,7 @@ returns-in-Some-clause-goes c before =
     let m = c.in-Locating.locate in
     let bytes = c.args.bytes.now in
     let on = after_location c.in-Locating.writing bytes in
-    let answer = answer_in (locate_asked m) c.args.answer c.args.hand.now in
+    let answer = answer_in (locate_asked m) c.args.answer.now c.args.hand.now in
     rw c.in-Locating.is (λ ready after. subst (λ (p : P WriteResult). Goes (bind (locate_left m before) on) answer p) (sym (c.found.ensures.program bytes c.next.new.hand))
     (goes_bind (locate_left m before) (Ret c.in-Some.located) on answer (c.in-Some.ensures.goes before ready.1 after)))
 

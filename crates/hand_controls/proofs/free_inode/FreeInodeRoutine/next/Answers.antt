@@ -17,7 +17,7 @@ returns-in-None-clause-goes c before =
     let e = emptying_of m in
     let did = c.in-None.ensures in
     rw c.in-Truncating.is (λ ready after.
-    goes_with (truncate_left m before) (truncate_left n k) (store_free e.sizes (number_in e.seat before)) (store_free (emptying_of n).sizes (number_in (emptying_of n).seat k)) (answer_in (truncate_asked m) c.args.answer h)
+    goes_with (truncate_left m before) (truncate_left n k) (store_free e.sizes (number_in e.seat before)) (store_free (emptying_of n).sizes (number_in (emptying_of n).seat k)) (answer_in (truncate_asked m) c.args.answer.now h)
     (ap (store_free e.sizes) (sym (number-kept e k before (did.beside before ready after))) ∙ ap (λ (e : Emptying). store_free e.sizes (number_in e.seat k)) (sym did.about))
     (did.goes before ready after))
 
@@ -29,7 +29,7 @@ returns-in-Some-clause-goes c before =
     let out = c.in-Some.emptying in
     let e = emptying_of m in
     let did = c.in-Some.ensures in
-    let answer = answer_in (truncate_asked m) c.args.answer h in
+    let answer = answer_in (truncate_asked m) c.args.answer.now h in
     rw c.in-Truncating.is (λ ready after.
     goes_to (bind (truncate_left m before) (store_free e.sizes (number_in e.seat before))) (store_free e.sizes (number_in e.seat k) (record_in out.seat k)) _ answer
     (goes_with (truncate_left m before) (Ret (record_in out.seat k)) (store_free e.sizes (number_in e.seat before)) (store_free e.sizes (number_in e.seat k)) answer

@@ -17,7 +17,7 @@ returns-in-Some-clause-goes c before =
     let out = c.in-Some.fetched in
     let n = c.in-Fetching.number in
     let did = c.in-Some.ensures in
-    let answer = answer_in (fetch_asked f) c.args.answer c.args.hand.now in
+    let answer = answer_in (fetch_asked f) c.args.answer.now c.args.hand.now in
     rw c.in-Fetching.is (λ ready after.
     subst (λ (d : Dinode). Goes (bind (fetch_left f before) (give_back (fetch_block f) n)) answer (Do (steps.Put (block_at out.place k) None) unmarked (λ _. Ret d))) (sym c.dinode_at-inode.ensures)
     (fetched_goes f before k answer out (λ (b : ℕ). give_back b n) (did.goes before ready after) did.ends))

@@ -19,14 +19,14 @@ use Rattle.hand_controls.proofs.locate.LocateControl.next.Goals as goal
 pub returns-in-None-clause-goes : goal.returns-in-None-clause-goes
 returns-in-None-clause-goes c before =
     let m = c.in-Direct.take in
-    rw c.in-Direct.is (λ ready after. goes_bind (take_left m before) (take_left c.next.new.self c.args.hand.now) (name_direct c.in-Direct.i c.args.self.now.inode) (answer_in (take_asked m) c.args.answer c.args.hand.now)
+    rw c.in-Direct.is (λ ready after. goes_bind (take_left m before) (take_left c.next.new.self c.args.hand.now) (name_direct c.in-Direct.i c.args.self.now.inode) (answer_in (take_asked m) c.args.answer.now c.args.hand.now)
     (c.in-None.ensures.goes before ready.0.0.0 after))
 
 pub returns-in-None-next-clause-goes : goal.returns-in-None-next-clause-goes
 returns-in-None-next-clause-goes c before =
     let m = c.in-NewTable.take in
     rw c.in-NewTable.is (λ ready after. goes_bind (take_left m before) (take_left c.next-in-NewTable.new.self c.args.hand.now) (with_table c.args.self.now.sizes c.in-NewTable.i c.args.self.now.inode)
-    (answer_in (take_asked m) c.args.answer c.args.hand.now) (c.in-None-next.ensures.goes before ready.0.0.0 after))
+    (answer_in (take_asked m) c.args.answer.now c.args.hand.now) (c.in-None-next.ensures.goes before ready.0.0.0 after))
 
 pub returns-in-None-next-3-clause-goes : goal.returns-in-None-next-3-clause-goes
 returns-in-None-next-3-clause-goes c before =
@@ -37,8 +37,8 @@ returns-in-None-next-3-clause-goes c before =
     let i = c.in-NewEntry.i in
     rw c.in-NewEntry.is (λ ready after.
     let same : before.second ≡ k.second = second-kept (take_place m) before k ready.0.0.1 (sym (did.beside before after)) in
-    subst (λ (o : Option (GuardState BufferState)). Goes (bind (take_left m before) (table_in i d before.second)) (answer_in (take_asked m) c.args.answer c.args.hand.now) (bind (take_left c.next-in-NewEntry.new.self k) (table_in i d o))) same
-    (goes_bind (take_left m before) (take_left c.next-in-NewEntry.new.self k) (table_in i d before.second) (answer_in (take_asked m) c.args.answer c.args.hand.now) (did.goes before ready.0.0.0 after)))
+    subst (λ (o : Option (GuardState BufferState)). Goes (bind (take_left m before) (table_in i d before.second)) (answer_in (take_asked m) c.args.answer.now c.args.hand.now) (bind (take_left c.next-in-NewEntry.new.self k) (table_in i d o))) same
+    (goes_bind (take_left m before) (take_left c.next-in-NewEntry.new.self k) (table_in i d before.second) (answer_in (take_asked m) c.args.answer.now c.args.hand.now) (did.goes before ready.0.0.0 after)))
 
 pub returns-then-number-eq0-clause-goes : goal.returns-then-number-eq0-clause-goes
 returns-then-number-eq0-clause-goes c before =
@@ -48,7 +48,7 @@ returns-then-number-eq0-clause-goes c before =
     let d = c.args.self.now.inode in
     let sizes = c.args.self.now.sizes in
     let i = c.in-Table.i in
-    let answer = answer_in (fetch_asked f) c.args.answer c.args.hand.now in
+    let answer = answer_in (fetch_asked f) c.args.answer.now c.args.hand.now in
     rw c.in-Table.is (λ ready after.
     let went : Goes (bind (fetch_left f before) (look_up sizes i d (fetch_block f))) answer (look_up sizes i d (block_at Second k) (bytes_at Second k)) =
     subst (λ (p : Place). Goes (bind (fetch_left f before) (look_up sizes i d (fetch_block f))) answer (look_up sizes i d (block_at p k) (bytes_at p k))) (did.ends.2 ∙ ready.0.1)

@@ -27,7 +27,7 @@ returns-in-None-clause-goes c before =
     let did = c.in-None.ensures in
     let rest : Inode → Unit {0} → P Dinode = λ v _. own_rest e (c.in-Own.at + 1) v in
     rw c.in-Own.is (λ ready after.
-    goes_with (free_left m before) (free_left c.next.new.self h) (rest (inode_in e.seat before)) (rest (inode_in e.seat h)) (answer_in (free_asked m) c.args.answer h)
+    goes_with (free_left m before) (free_left c.next.new.self h) (rest (inode_in e.seat before)) (rest (inode_in e.seat h)) (answer_in (free_asked m) c.args.answer.now h)
     (ap rest (sym (inode-kept (free_place m) e.seat h before (did.beside before after)))) (did.goes before ready.0.0.0 after))
 
 pub returns-in-Some-clause-goes : goal.returns-in-Some-clause-goes
@@ -36,7 +36,7 @@ returns-in-Some-clause-goes c before =
     let e = c.in-Own.emptying in
     let m = c.in-Own.free in
     let did = c.in-Some.ensures in
-    let answer = answer_in (free_asked m) c.args.answer h in
+    let answer = answer_in (free_asked m) c.args.answer.now h in
     let rest : Inode → Unit {0} → P Dinode = λ v _. own_rest e (c.in-Own.at + 1) v in
     rw c.in-Own.is (λ ready after.
     goes_to (bind (free_left m before) (rest (inode_in e.seat before))) (rest (inode_in e.seat h) tt) _ answer
@@ -53,7 +53,7 @@ returns-in-None-next-clause-goes c before =
     let rest : ℕ → Inode → List ℕ → P Dinode = λ b v. free_in_table e.sizes.bmapstart b (record_rest e v) in
     rw c.in-Indirect.is (λ ready after.
     goes_with (fetch_left f before) (fetch_left c.next-in-Indirect.new.self h) (rest (fetch_block f) (inode_in e.seat before)) (rest (fetch_block c.next-in-Indirect.new.self) (inode_in e.seat h))
-    (answer_in (fetch_asked f) c.args.answer h)
+    (answer_in (fetch_asked f) c.args.answer.now h)
     (ap (λ (b : ℕ). rest b (inode_in e.seat before)) (sym did.about) ∙ ap (rest (fetch_block c.next-in-Indirect.new.self)) (sym (inode-kept (fetch_place f) e.seat h before (did.beside before after))))
     (did.goes before ready.0.0 after))
 
@@ -64,7 +64,7 @@ returns-in-Some-next-clause-goes c before =
     let f = c.in-Indirect.fetch in
     let did = c.in-Some-next.ensures in
     let out = c.in-Some-next.field-0 in
-    let answer = answer_in (fetch_asked f) c.args.answer h in
+    let answer = answer_in (fetch_asked f) c.args.answer.now h in
     let rest : Inode → ℕ → List ℕ → P Dinode = λ v b. free_in_table e.sizes.bmapstart b (record_rest e v) in
     rw c.in-Indirect.is (λ ready after.
     let went : Goes (bind (fetch_left f before) (rest (inode_in e.seat before) (fetch_block f))) answer (rest (inode_in e.seat before) (block_at out.place h) (bytes_at out.place h)) =
@@ -83,7 +83,7 @@ returns-in-None-next-2-clause-goes c before =
     let rest : Inode → Option (GuardState BufferState) → Unit {0} → P Dinode = λ v table _. listed_rest e (c.in-Listed.at + 1) v table in
     rw c.in-Listed.is (λ ready after.
     let kept = did.beside before after in
-    goes_with (free_left m before) (free_left c.next-in-Listed.new.self h) (rest (inode_in e.seat before) before.second) (rest (inode_in e.seat h) h.second) (answer_in (free_asked m) c.args.answer h)
+    goes_with (free_left m before) (free_left c.next-in-Listed.new.self h) (rest (inode_in e.seat before) before.second) (rest (inode_in e.seat h) h.second) (answer_in (free_asked m) c.args.answer.now h)
     (ap (λ (v : Inode). rest v before.second) (sym (inode-kept (free_place m) e.seat h before kept)) ∙ ap (rest (inode_in e.seat h)) (second-kept (free_place m) before h ready.0.0.1 (sym kept)))
     (did.goes before ready.0.0.0 after))
 
@@ -93,7 +93,7 @@ returns-in-Some-next-2-clause-goes c before =
     let e = c.in-Listed.emptying in
     let m = c.in-Listed.free in
     let did = c.in-Some-next-2.ensures in
-    let answer = answer_in (free_asked m) c.args.answer h in
+    let answer = answer_in (free_asked m) c.args.answer.now h in
     let rest : Inode → Option (GuardState BufferState) → Unit {0} → P Dinode = λ v table _. listed_rest e (c.in-Listed.at + 1) v table in
     rw c.in-Listed.is (λ ready after.
     let kept = did.beside before after in
@@ -121,7 +121,7 @@ returns-in-None-next-3-clause-goes c before =
     let did = c.in-None-next-3.ensures in
     let rest : Inode → Unit {0} → P Dinode = λ v _. record_rest e v in
     rw c.in-Table.is (λ ready after.
-    goes_with (free_left m before) (free_left c.next-in-Table.new.self h) (rest (inode_in e.seat before)) (rest (inode_in e.seat h)) (answer_in (free_asked m) c.args.answer h)
+    goes_with (free_left m before) (free_left c.next-in-Table.new.self h) (rest (inode_in e.seat before)) (rest (inode_in e.seat h)) (answer_in (free_asked m) c.args.answer.now h)
     (ap rest (sym (inode-kept (free_place m) e.seat h before (did.beside before after)))) (did.goes before ready.0.0.0 after))
 
 pub returns-in-Some-next-3-clause-goes : goal.returns-in-Some-next-3-clause-goes
@@ -130,7 +130,7 @@ returns-in-Some-next-3-clause-goes c before =
     let e = c.in-Table.emptying in
     let m = c.in-Table.free in
     let did = c.in-Some-next-3.ensures in
-    let answer = answer_in (free_asked m) c.args.answer h in
+    let answer = answer_in (free_asked m) c.args.answer.now h in
     let rest : Inode → Unit {0} → P Dinode = λ v _. record_rest e v in
     rw c.in-Table.is (λ ready after.
     goes_to (bind (free_left m before) (rest (inode_in e.seat before))) (rest (inode_in e.seat h) tt) _ answer
@@ -146,5 +146,5 @@ returns-in-None-next-4-clause-goes c before =
     let did = c.in-None-next-4.ensures in
     let rest : Inode → Unit {0} → P Dinode = λ v _. Ret (record_of v) in
     rw c.in-Record.is (λ ready after.
-    goes_with (record_left m before) (record_left c.next-in-Record.new.self h) (rest (inode_in e.seat before)) (rest (inode_in e.seat h)) (answer_in (record_asked m) c.args.answer h)
+    goes_with (record_left m before) (record_left c.next-in-Record.new.self h) (rest (inode_in e.seat before)) (rest (inode_in e.seat h)) (answer_in (record_asked m) c.args.answer.now h)
     (ap rest (sym (inode-kept (record_place m) e.seat h before (did.beside before after)))) (did.goes before ready.0.0 after))

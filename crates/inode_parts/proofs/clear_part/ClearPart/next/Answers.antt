@@ -10,7 +10,7 @@ pub returns-in-None-clause-goes : goal.returns-in-None-clause-goes
 returns-in-None-clause-goes c path before ready after =
     let p = c.args.self.now in
     let did = c.in-None.ensures in
-    clear_on path c.args.notes.now p before c.next.new.hand (answer_in (clear_part_asked p) c.args.answer c.args.hand.now) (did.beside before ready.0 after) (record { seat = p.seat; clear = c.next.new.self }) refl (did.goes before ready.0 after)
+    clear_on path c.args.notes.now p before c.next.new.hand (answer_in (clear_part_asked p) c.args.answer.now c.args.hand.now) (did.beside before ready.0 after) (record { seat = p.seat; clear = c.next.new.self }) refl (did.goes before ready.0 after)
 
 pub returns-in-None-clause-leaves : goal.returns-in-None-clause-leaves
 returns-in-None-clause-leaves c path n name start before amid ready after =

@@ -13,7 +13,7 @@ pub returns-in-None-clause-goes : goal.returns-in-None-clause-goes
 returns-in-None-clause-goes c path before ready after =
     let p = c.args.self.now in
     let did = c.in-None.ensures in
-    empty_on path c.args.notes.now p before c.next.new.hand (answer_in (empty_part_asked p) c.args.answer c.args.hand.now) (did.beside before ready after) (record { truncate = c.next.new.self }) did.about (did.goes before ready after)
+    empty_on path c.args.notes.now p before c.next.new.hand (answer_in (empty_part_asked p) c.args.answer.now c.args.hand.now) (did.beside before ready after) (record { truncate = c.next.new.self }) did.about (did.goes before ready after)
 
 pub returns-in-None-clause-leaves : goal.returns-in-None-clause-leaves
 returns-in-None-clause-leaves c path n start before amid ready after =

@@ -13,13 +13,13 @@ pub returns-in-None-clause-goes : goal.returns-in-None-clause-goes
 returns-in-None-clause-goes c path before ready after =
     let p = c.args.self.now in
     let did = c.in-None.ensures in
-    enter_on path c.args.notes.now p before c.next.new.hand (answer_in (enter_part_asked p) c.args.answer c.args.hand.now) (did.beside before ready.0 after) (record { seat = p.seat; enter = c.next.new.self }) refl (did.goes before ready.0 after)
+    enter_on path c.args.notes.now p before c.next.new.hand (answer_in (enter_part_asked p) c.args.answer.now c.args.hand.now) (did.beside before ready.0 after) (record { seat = p.seat; enter = c.next.new.self }) refl (did.goes before ready.0 after)
 
 pub returns-in-Some-clause-goes : goal.returns-in-Some-clause-goes
 returns-in-Some-clause-goes c path before ready after =
     let p = c.args.self.now in
     let did = c.in-Some.ensures in
-    let answer = answer_in (enter_part_asked p) c.args.answer c.args.hand.now in
+    let answer = answer_in (enter_part_asked p) c.args.answer.now c.args.hand.now in
     let last : Part = Ret (handed path c.hear.new.notes c.hear.result c.hear.new.hand) in
     enter_ends path c.args.notes.now p before c.next.new.hand answer (did.beside before ready.0 after) (entered_as c.in-Some.entered) last (c.hear.ensures.is path) (did.goes before ready.0 after)
 

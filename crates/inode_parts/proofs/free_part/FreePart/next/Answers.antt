@@ -12,21 +12,21 @@ pub returns-in-None-clause-goes : goal.returns-in-None-clause-goes
 returns-in-None-clause-goes c path before ready after =
     let p = c.args.self.now in
     let did = c.in-None.ensures in
-    free_on path c.args.notes.now p.seat p.free before c.next.new.hand (answer_in (freeing_asked p.free) c.args.answer c.args.hand.now) ready.1 (did.beside before ready.0 after) c.next.new.self (did.goes before ready.0 after)
+    free_on path c.args.notes.now p.seat p.free before c.next.new.hand (answer_in (freeing_asked p.free) c.args.answer.now c.args.hand.now) ready.1 (did.beside before ready.0 after) c.next.new.self (did.goes before ready.0 after)
 
 pub returns-in-None-clause-ready : goal.returns-in-None-clause-ready
 returns-in-None-clause-ready c =
     let p = c.args.self.now in
     let did = c.in-None.ensures in
     let came = c.requires.came in
-    let stays = free_stays [] c.args.notes.now p.seat p.free came.0 c.next.new.hand (answer_in (freeing_asked p.free) c.args.answer c.args.hand.now) came.1.1 (did.beside came.0 came.1.0 came.2) c.next.new.self did.about came.1.2 came.1.3 in
+    let stays = free_stays [] c.args.notes.now p.seat p.free came.0 c.next.new.hand (answer_in (freeing_asked p.free) c.args.answer.now c.args.hand.now) came.1.1 (did.beside came.0 came.1.0 came.2) c.next.new.self did.about came.1.2 came.1.3 in
     (did.ready, stays.0, stays.1, stays.2)
 
 pub returns-in-Some-clause-goes : goal.returns-in-Some-clause-goes
 returns-in-Some-clause-goes c path before ready after =
     let p = c.args.self.now in
     let did = c.in-Some.ensures in
-    free_over path c.args.notes.now p.seat p.free before c.next.new.hand (answer_in (freeing_asked p.free) c.args.answer c.args.hand.now) ready.1 (did.beside before ready.0 after) c.set.new.self c.set.ensures ready.2 ready.3 did.ends.0 (did.goes before ready.0 after)
+    free_over path c.args.notes.now p.seat p.free before c.next.new.hand (answer_in (freeing_asked p.free) c.args.answer.now c.args.hand.now) ready.1 (did.beside before ready.0 after) c.set.new.self c.set.ensures ready.2 ready.3 did.ends.0 (did.goes before ready.0 after)
 
 pub returns-in-None-clause-leaves : goal.returns-in-None-clause-leaves
 returns-in-None-clause-leaves c path n start before amid ready after =

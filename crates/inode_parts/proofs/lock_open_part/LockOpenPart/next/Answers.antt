@@ -14,7 +14,7 @@ returns-in-None-clause-goes c path before ready after =
     let h = c.next.new.hand in
     let q = c.next.new.self in
     let did = c.in-None.ensures in
-    lock_on (open_ends path p.fd) path c.args.notes.now (open_seat p.lock) before h (open_left p.lock before) (answer_in (open_asked p.lock) c.args.answer c.args.hand.now) (did.beside before ready.0 after) (open_seat q) (open_left q h) did.about (did.goes before ready.0 after)
+    lock_on (open_ends path p.fd) path c.args.notes.now (open_seat p.lock) before h (open_left p.lock before) (answer_in (open_asked p.lock) c.args.answer.now c.args.hand.now) (did.beside before ready.0 after) (open_seat q) (open_left q h) did.about (did.goes before ready.0 after)
 
 pub returns-in-None-clause-ready : goal.returns-in-None-clause-ready
 returns-in-None-clause-ready c =
@@ -31,7 +31,7 @@ returns-in-Some-clause-goes c path before ready after =
     let did = c.in-Some.ensures in
     let same = did.beside before ready.0 after in
     let alone = other_free k k before h refl same ready.1 in
-    lock_over (open_ends path p.fd) path c.args.notes.now k before h (open_left p.lock before) (answer_in (open_asked p.lock) c.args.answer c.args.hand.now) same (c.in-Some.held.file, record_in c.in-Some.held.seat h) _
+    lock_over (open_ends path p.fd) path c.args.notes.now k before h (open_left p.lock before) (answer_in (open_asked p.lock) c.args.answer.now c.args.hand.now) same (c.in-Some.held.file, record_in c.in-Some.held.seat h) _
     (opened_at path c.args.notes.now c.set.new.self h c.in-Some.held k did.ends.0 did.ends.1 alone p.fd c.from.result c.from.ensures c.set.ensures)
     (did.goes before ready.0 after)
 

@@ -30,7 +30,7 @@ returns-in-None-clause-goes c before ready after =
     let q = c.next.new.self in
     let m = c.next.new.notes in
     let h = c.next.new.hand in
-    let answer = answer_in (part_asked l.part) c.args.answer c.args.hand.now in
+    let answer = answer_in (part_asked l.part) c.args.answer.now c.args.hand.now in
     let went = subst (λ (t : List ℕ). Goes (part_left t l.notes l.part before) answer (part_left t m q h)) c.text.ensures (c.in-None.ensures.goes before ready.ready after) in
     goes_within l.sizes (part_left path l.notes l.part before) (part_left path m q h) (whole_of l.list l.call) answer went
 
@@ -92,7 +92,7 @@ returns-else-next-clause-goes c before ready after =
     let q = c.begin-self.result in
     let g = c.begin-self.new.hand in
     let path = text_in l.call in
-    let answer = answer_in (part_asked l.part) c.args.answer c.args.hand.now in
+    let answer = answer_in (part_asked l.part) c.args.answer.now c.args.hand.now in
     let heard : hears path (whole_of l.list l.call) x ≡ whole_of ns v = (c.next-in-Some.ensures.goes ∙ ap (λ (ended : Bool). stepped (whole_of ns v) (call_in v) c.next-in-Some.new.says ended) c.if-next.false) in
     let stays = text_stays l.call v ready.one c.next-in-Some.ensures.call in
     let went = subst (λ (t : List ℕ). Goes (part_left t l.notes l.part before) answer (Ret (handed t m x h))) c.text.ensures (c.in-Some.ensures.goes before ready.ready after) in
@@ -132,7 +132,7 @@ returns-then-next-clause-goes c before ready after =
     let m = c.next.new.notes in
     let x = c.in-Some.heard in
     let path = text_in l.call in
-    let answer = answer_in (part_asked l.part) c.args.answer c.args.hand.now in
+    let answer = answer_in (part_asked l.part) c.args.answer.now c.args.hand.now in
     let r = reply_to (call_in v) c.next-in-Some.new.says in
     let heard : hears path (whole_of l.list l.call) x ≡ Ret r = (c.next-in-Some.ensures.goes ∙ ap (λ (ended : Bool). stepped (whole_of ns v) (call_in v) c.next-in-Some.new.says ended) c.if-next.true) in
     let went = subst (λ (t : List ℕ). Goes (part_left t l.notes l.part before) answer (Ret (handed t m x h))) c.text.ensures (c.in-Some.ensures.goes before ready.ready after) in

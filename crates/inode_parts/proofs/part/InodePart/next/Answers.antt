@@ -15,14 +15,14 @@ returns-in-LockFile-clause-goes c before =
     let p = c.in-LockFile.part in
     let did = c.next-in-LockFile in
     rw c.in-LockFile.is (λ ready after.
-    subst (λ (q : Part). Goes (lock_file_left path c.args.notes.now p before) (answer_in (lock_file_asked p) c.args.answer c.args.hand.now) q)
+    subst (λ (q : Part). Goes (lock_file_left path c.args.notes.now p before) (answer_in (lock_file_asked p) c.args.answer.now c.args.hand.now) q)
     (lock_file_after path did.new.notes did.result did.new.self did.new.hand) (did.ensures.goes path before ready after))
 
 pub returns-in-One-clause-under : goal.returns-in-One-clause-under
 returns-in-One-clause-under c op start before =
     let did = c.next in
     rw c.in-One.is (λ under ready after.
-    step_leaves c.args.path.now c.args.notes.now did.new.notes before c.args.hand.now c.args.answer did.result op c.in-One.step start under after (did.ensures.goes c.args.path.now before ready after) did.ensures.notes)
+    step_leaves c.args.path.now c.args.notes.now did.new.notes before c.args.hand.now c.args.answer.now did.result op c.in-One.step start under after (did.ensures.goes c.args.path.now before ready after) did.ensures.notes)
 
 pub returns-in-Store-clause-under : goal.returns-in-Store-clause-under
 returns-in-Store-clause-under c op start before =
@@ -114,5 +114,5 @@ returns-in-StatFile-clause-goes c before =
     let p = c.in-StatFile.part in
     let did = c.next-in-StatFile in
     rw c.in-StatFile.is (λ ready after.
-    subst (λ (q : Part). Goes (stat_left path c.args.notes.now p before) (answer_in (stat_asked p) c.args.answer c.args.hand.now) q)
+    subst (λ (q : Part). Goes (stat_left path c.args.notes.now p before) (answer_in (stat_asked p) c.args.answer.now c.args.hand.now) q)
     (stat_after path did.new.notes did.result did.new.self did.new.hand) (did.ensures.goes path before ready after))

@@ -24,7 +24,7 @@ held-requires c =
     let h = c.args.hand.now in
     let k = c.in-Locking.seat in
     let ready = subst (λ (p : RelockPart). RelockReady p before) c.in-Locking.is c.requires.came.1 in
-    let after = subst (λ (p : RelockPart). IsAfter (relock_asked p) before c.args.answer h) c.in-Locking.is c.requires.came.2 in
+    let after = subst (λ (p : RelockPart). IsAfter (relock_asked p) before c.args.answer.now h) c.in-Locking.is c.requires.came.2 in
     record {
       there = came_some k before h after.0 after.1 after.2;
       number = came_number k before h after.0 after.1 after.2;
@@ -38,7 +38,7 @@ seen-requires c =
     let h = c.args.hand.now in
     let k = c.in-Locking.seat in
     let ready = subst (λ (p : RelockPart). RelockReady p before) c.in-Locking.is c.requires.came.1 in
-    let after = subst (λ (p : RelockPart). IsAfter (relock_asked p) before c.args.answer h) c.in-Locking.is c.requires.came.2 in
+    let after = subst (λ (p : RelockPart). IsAfter (relock_asked p) before c.args.answer.now h) c.in-Locking.is c.requires.came.2 in
     (c.in-None.ensures.ready.0, c.in-None.ensures.ready.1, came_alone k before h after.0 after.1 after.2 ready.3)
 
 pub returns-in-None-clause-goes : goal.returns-in-None-clause-goes
@@ -67,7 +67,7 @@ returns-in-Some-clause-ready c =
     let h = c.args.hand.now in
     let k = c.in-Locking.seat in
     let ready = subst (λ (p : RelockPart). RelockReady p before) c.in-Locking.is c.requires.came.1 in
-    let after = subst (λ (p : RelockPart). IsAfter (relock_asked p) before c.args.answer h) c.in-Locking.is c.requires.came.2 in
+    let after = subst (λ (p : RelockPart). IsAfter (relock_asked p) before c.args.answer.now h) c.in-Locking.is c.requires.came.2 in
     let is = c.in-Some.ensures.ready in
     (is.0, subst (λ (k : Seat). IsAlone (number_at k h) k h) (sym is.1) (came_alone k before h after.0 after.1 after.2 ready.3))
 
@@ -78,14 +78,14 @@ returns-in-None-next-clause-goes c path before =
     let s = c.next.new.self in
     let did = c.in-None-next.ensures in
     rw c.in-Loading.is (λ ready after.
-    take_on path c.args.notes.now query.Nothing (lock_seat r) before h (lock_left r before) (answer_in (lock_asked r) c.args.answer c.args.hand.now) (did.beside before ready.0 after) (lock_seat s) (lock_left s h) did.about (did.goes before ready.0 after))
+    take_on path c.args.notes.now query.Nothing (lock_seat r) before h (lock_left r before) (answer_in (lock_asked r) c.args.answer.now c.args.hand.now) (did.beside before ready.0 after) (lock_seat s) (lock_left s h) did.about (did.goes before ready.0 after))
 
 pub returns-in-Some-next-clause-goes : goal.returns-in-Some-next-clause-goes
 returns-in-Some-next-clause-goes c path before =
     let r = c.in-Loading.lock in
     let did = c.in-Some-next.ensures in
     rw c.in-Loading.is (λ ready after.
-    take_over path c.args.notes.now query.Nothing (lock_seat r) before c.next.new.hand (lock_left r before) (answer_in (lock_asked r) c.args.answer c.args.hand.now) (did.beside before ready.0 after) c.in-Some-next.seat _ did.ends.0
+    take_over path c.args.notes.now query.Nothing (lock_seat r) before c.next.new.hand (lock_left r before) (answer_in (lock_asked r) c.args.answer.now c.args.hand.now) (did.beside before ready.0 after) c.in-Some-next.seat _ did.ends.0
     (sym (c.seen-in-Some-next.ensures.program path)) (did.goes before ready.0 after))
 
 pub returns-in-None-clause-leaves : goal.returns-in-None-clause-leaves

@@ -19,7 +19,7 @@ returns-in-None-clause-goes c path before ready after =
     let h = c.next.new.hand in
     let q = c.next.new.self in
     let did = c.in-None.ensures in
-    lock_on (stat_ends path) path c.args.notes.now (file_seat p.lock) before h (file_left p.lock before) (answer_in (file_asked p.lock) c.args.answer c.args.hand.now) (did.beside before ready.0 after) (file_seat q) (file_left q h) did.about (did.goes before ready.0 after)
+    lock_on (stat_ends path) path c.args.notes.now (file_seat p.lock) before h (file_left p.lock before) (answer_in (file_asked p.lock) c.args.answer.now c.args.hand.now) (did.beside before ready.0 after) (file_seat q) (file_left q h) did.about (did.goes before ready.0 after)
 
 pub returns-in-None-clause-ready : goal.returns-in-None-clause-ready
 returns-in-None-clause-ready c =
@@ -36,7 +36,7 @@ returns-in-Some-Refused-clause-goes c path before ready after =
     let why = c.in-Some-Refused.field-0-0 in
     let did = c.in-Some-Refused.ensures in
     let is = c.in-Some-Refused.field-0-is in
-    let answer = answer_in (file_asked p.lock) c.args.answer c.args.hand.now in
+    let answer = answer_in (file_asked p.lock) c.args.answer.now c.args.hand.now in
     let ends = subst (λ (x : FileLocked). FileEnds p.lock x h) is did.ends in
     let goes = subst (λ (x : FileLocked). Goes (file_left p.lock before) answer (Ret (file_value x h))) is (did.goes before ready.0 after) in
     lock_over (stat_ends path) path c.args.notes.now k before h (file_left p.lock before) answer (did.beside before ready.0 after) (Refuses why) _
@@ -50,7 +50,7 @@ returns-in-Some-Locked-clause-goes c path before ready after =
     let held = c.in-Some-Locked.held in
     let did = c.in-Some-Locked.ensures in
     let is = c.in-Some-Locked.field-0-is in
-    let answer = answer_in (file_asked p.lock) c.args.answer c.args.hand.now in
+    let answer = answer_in (file_asked p.lock) c.args.answer.now c.args.hand.now in
     let ends = subst (λ (x : FileLocked). FileEnds p.lock x h) is did.ends in
     let goes = subst (λ (x : FileLocked). Goes (file_left p.lock before) answer (Ret (file_value x h))) is (did.goes before ready.0 after) in
     let same = did.beside before ready.0 after in

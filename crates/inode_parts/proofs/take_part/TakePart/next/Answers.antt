@@ -28,7 +28,7 @@ returns-in-None-clause-goes c before =
     let s = c.next.new.self in
     let did = c.in-None.ensures in
     rw c.in-Locking.is (λ ready after.
-    take_on c.args.path.now c.args.notes.now q (lock_seat r) before h (lock_left r before) (answer_in (lock_asked r) c.args.answer c.args.hand.now) (did.beside before ready.0 after) (lock_seat s) (lock_left s h) did.about (did.goes before ready.0 after))
+    take_on c.args.path.now c.args.notes.now q (lock_seat r) before h (lock_left r before) (answer_in (lock_asked r) c.args.answer.now c.args.hand.now) (did.beside before ready.0 after) (lock_seat s) (lock_left s h) did.about (did.goes before ready.0 after))
 
 pub returns-in-Is-clause-goes : goal.returns-in-Is-clause-goes
 returns-in-Is-clause-goes c before =
@@ -36,7 +36,7 @@ returns-in-Is-clause-goes c before =
     let r = c.in-Locking.lock in
     let did = c.in-Some.ensures in
     rw c.in-Locking.is (λ ready after.
-    take_over path c.args.notes.now c.in-Locking.query (lock_seat r) before c.next.new.hand (lock_left r before) (answer_in (lock_asked r) c.args.answer c.args.hand.now) (did.beside before ready.0 after) c.in-Some.seat _ did.ends.0
+    take_over path c.args.notes.now c.in-Locking.query (lock_seat r) before c.next.new.hand (lock_left r before) (answer_in (lock_asked r) c.args.answer.now c.args.hand.now) (did.beside before ready.0 after) c.in-Some.seat _ did.ends.0
     (sym (c.in-Is.ensures.program path)) (did.goes before ready.0 after))
 
 pub returns-in-Runs-clause-goes : goal.returns-in-Runs-clause-goes
@@ -45,7 +45,7 @@ returns-in-Runs-clause-goes c before =
     let r = c.in-Locking.lock in
     let did = c.in-Some.ensures in
     rw c.in-Locking.is (λ ready after.
-    take_over path c.args.notes.now c.in-Locking.query (lock_seat r) before c.next.new.hand (lock_left r before) (answer_in (lock_asked r) c.args.answer c.args.hand.now) (did.beside before ready.0 after) c.in-Some.seat _ did.ends.0
+    take_over path c.args.notes.now c.in-Locking.query (lock_seat r) before c.next.new.hand (lock_left r before) (answer_in (lock_asked r) c.args.answer.now c.args.hand.now) (did.beside before ready.0 after) c.in-Some.seat _ did.ends.0
     (sym (c.in-Runs.ensures.program path)) (did.goes before ready.0 after))
 
 pub returns-in-Runs-clause-told : goal.returns-in-Runs-clause-told
@@ -62,7 +62,7 @@ returns-in-None-next-clause-goes c before =
     let t = c.next-in-Naming.new.self in
     let inode = c.record_at-inode.result in
     let did = c.in-None-next.ensures in
-    let answer = answer_in (search_asked s) c.args.answer h in
+    let answer = answer_in (search_asked s) c.args.answer.now h in
     rw c.in-Naming.is (λ ready after.
     search_on (λ c n d. named_ends path c n d e) path c.args.notes.now c.in-Naming.seat before h (Named (name_in path e)) s answer (did.beside before ready.0 after) inode c.record_at-inode.ensures t
     (subst (λ (name : List ℕ). Goes (search_left (Named name) inode s before) answer (search_left (Named name) inode t h)) c.name.ensures (did.goes before ready.0 after)))
@@ -79,7 +79,7 @@ returns-in-Some-next-clause-goes c before =
     let inode = c.record_at-inode.result in
     let is = c.record_at-inode.ensures in
     let did = c.in-Some-next.ensures in
-    let answer = answer_in (search_asked s) c.args.answer h in
+    let answer = answer_in (search_asked s) c.args.answer.now h in
     rw c.in-Naming.is (λ ready after.
     let same = did.beside before ready.0 after in
     search_over (λ c n d. named_ends path c n d e) path m k before h (Named (name_in path e)) s answer same inode is found _
@@ -93,7 +93,7 @@ returns-in-None-next-2-clause-goes c before =
     let s = c.in-Listing.search in
     let did = c.in-None-next-2.ensures in
     rw c.in-Listing.is (λ ready after.
-    search_on (listed_ends path) path c.args.notes.now c.in-Listing.seat before h Entry s (answer_in (search_asked s) c.args.answer h) (did.beside before ready.0 after) c.record_at-inode-in-Listing.result c.record_at-inode-in-Listing.ensures
+    search_on (listed_ends path) path c.args.notes.now c.in-Listing.seat before h Entry s (answer_in (search_asked s) c.args.answer.now h) (did.beside before ready.0 after) c.record_at-inode-in-Listing.result c.record_at-inode-in-Listing.ensures
     c.next-in-Listing.new.self (did.goes before ready.0 after))
 
 pub returns-in-Some-next-2-clause-goes : goal.returns-in-Some-next-2-clause-goes
@@ -109,7 +109,7 @@ returns-in-Some-next-2-clause-goes c before =
     let did = c.in-Some-next-2.ensures in
     rw c.in-Listing.is (λ ready after.
     let same = did.beside before ready.0 after in
-    search_over (listed_ends path) path m k before h Entry s (answer_in (search_asked s) c.args.answer h) same inode is found _
+    search_over (listed_ends path) path m k before h Entry s (answer_in (search_asked s) c.args.answer.now h) same inode is found _
     (seen_ends path m c.listed.new.notes k h note.Nothing inode None (not (is_some found)) c.listed.result is (taken_stays k before h same ready.1) c.listed.ensures.heard c.listed.ensures.notes)
     (did.goes before ready.0 after))
 
