@@ -24,7 +24,7 @@ impl Control for Finish {
 
     ghost Value = { Unit {0} };
 
-    ghost value = { λ _ _. tt };
+    ghost value = { λ _ _ _. tt };
 
     ghost left = { finish_left };
 

@@ -99,7 +99,7 @@ impl Control for Locate {
 
     ghost Value = { LocatedState };
 
-    ghost value = { λ l _. l };
+    ghost value = { λ _ l _. l };
 
     ghost left = { locate_left };
 

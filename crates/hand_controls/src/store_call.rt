@@ -35,7 +35,7 @@ impl Control for StoreCall {
 
     ghost Value = { Unit {0} };
 
-    ghost value = { λ _ _. tt };
+    ghost value = { λ _ _ _. tt };
 
     ghost left = { call_left };
 

@@ -25,8 +25,8 @@ pub trait Control: Drop {
     // What its program comes to ..
     ghost Value: { Type 0 };
 
-    // .. where it ends so, with this in hand.
-    ghost value: { Self.Out → HandState → Value };
+    // .. where it ends so, standing so, with this in hand.
+    ghost value: { Self → Self.Out → HandState → Value };
 
     // The program that is left.
     ghost left: { Self → HandState → P Value };
@@ -51,7 +51,7 @@ pub trait Control: Drop {
     fn next(&mut self, answer: &Answer, hand: &mut Hand) -> Option<Self::Out>
         requires came { (before : HandState) × Ready self.old before × IsAfter (asked self.old) before answer.now hand.old }
         ensures goes { (before : HandState) → Ready self.old before → IsAfter (asked self.old) before answer.now hand.old
-            → Goes (left self.old before) (answer_in (asked self.old) answer.now hand.old) (left_after left value result self.new hand.new) }
+            → Goes (left self.old before) (answer_in (asked self.old) answer.now hand.old) (left_after left (value self.new) result self.new hand.new) }
         ensures ready { IfNone result (Ready self.new hand.new) }
         ensures ends { IfSome result (λ out. Ends out hand.new) }
         ensures hand { bare hand.new ≡ bare hand.old };
@@ -163,7 +163,7 @@ impl<C: Control> Machine<C> {
         requires may { MayNext hart (C.left self.old.control self.old.hand) (state_of D.contents D.failures core.old) }
         requires fits { HandFits hart (state_of D.contents D.failures core.old) self.old.hand }
         requires ready { C.Ready self.old.control self.old.hand }
-        ensures steps { StepsAt D.contents D.failures D.Called (λ m. C.left m.control m.hand) (λ out. C.value out self.new.hand) (λ _ _ m. C.Ready m.control m.hand) (λ out. C.Ends out self.new.hand)
+        ensures steps { StepsAt D.contents D.failures D.Called (λ m. C.left m.control m.hand) (λ out. C.value self.new.control out self.new.hand) (λ _ _ m. C.Ready m.control m.hand) (λ out. C.Ends out self.new.hand)
             self.new hart self.old self.new result core.old core.new }
         ensures fits { HandFits hart (state_of D.contents D.failures core.new) self.new.hand }
     {
