@@ -1,5 +1,5 @@
 -- How an operation goes on: it is still under way, or over.
-use Rattle.std.specs.Prelude.{◌≡◌, ℕ, List, [], Option, Some, None}
+use Rattle.std.specs.Prelude.{◌≡◌, ℕ, List, [], Bool, true, false, Option, Some, None}
 use Rattle.hands.specs.declared.hand.Hand.{Hand}
 use Rattle.inode_machine.specs.World as above
 use Rattle.whole_calls.specs.Asks.{answer_to}
@@ -9,6 +9,11 @@ use Rattle.inode_parts.specs.declared.note.Notes.{Notes}
 
 abbrev pub having : Hand → Notes → Having
 having h m = record { hand = h; notes = m }
+
+-- what is heard, where the operation is over
+abbrev pub heard_if : Bool → Heard → Option Heard
+heard_if true x = Some x
+heard_if false x = None
 
 -- where nothing is heard it is still amid, and nothing was learned; else it leaves what its operation does
 abbrev pub StaysOrLeaves : (Hand → Type 0) → List ℕ → above.Op → Option Heard → Having → Having → Type 0

@@ -9,7 +9,7 @@ ghost use Rattle.inode_machine.specs.Inodes as whole;
 ghost use Rattle.inode_machine.specs.World.Op.{Claim};
 ghost use Rattle.inode_parts.specs.Carries.{carry_in, handed};
 ghost use Rattle.inode_parts.specs.Claims.{claim_left, claim_asked, claimed_by, ClaimAmid, ClaimBegins, ClaimReady};
-ghost use Rattle.inode_parts.specs.Leaving.{having, StaysOrLeaves};
+ghost use Rattle.inode_parts.specs.Leaving.{heard_if, having, StaysOrLeaves};
 ghost use Rattle.inode_parts.specs.Parts.{IsPart};
 ghost use Rattle.inode_parts.specs.declared.note.Notes.{Notes as NotesState};
 ghost use Rattle.whole_calls.specs.Asks.{sort_of};
@@ -53,22 +53,31 @@ impl ClaimPart {
         self.claim.op(hand)
     }
 
-    /// How it goes on; or what is heard.
-    pub fn next(&mut self, notes: &Notes, answer: &Answer, hand: &mut Hand) -> Option<Heard>
+    /// How it goes on: true where it is over, with what is heard left in `heard`.
+    pub fn next(
+        &mut self,
+        notes: &Notes,
+        answer: &Answer,
+        hand: &mut Hand,
+        heard: &mut Heard,
+    ) -> bool
         requires came { (before : HandState) × ClaimReady self.old before × IsAfter (claim_asked self.old) before answer.now hand.old }
         ensures goes { (path : List ℕ) (before : HandState) → ClaimReady self.old before
             → IsAfter (claim_asked self.old) before answer.now hand.old
             → Goes (claim_left path notes.now self.old before) (answer_in (claim_asked self.old) answer.now hand.old)
-            (left_after (claim_left path notes.now) (handed path notes.now) result self.new hand.new) }
-        ensures ready { IfNone result (ClaimReady self.new hand.new) }
+            (left_after (claim_left path notes.now) (handed path notes.now) (heard_if result heard.new) self.new hand.new) }
+        ensures ready { IfNone (heard_if result heard.new) (ClaimReady self.new hand.new) }
         ensures leaves { (path : List ℕ) (sort : whole.Sort) (start before : HandState) → ClaimAmid start self.old before
             → ClaimReady self.old before → IsAfter (claim_asked self.old) before answer.now hand.old
-            → StaysOrLeaves (ClaimAmid start self.new) path (Claim sort) result (having start notes.now) (having hand.new notes.now) }
+            → StaysOrLeaves (ClaimAmid start self.new) path (Claim sort) (heard_if result heard.new) (having start notes.now) (having hand.new notes.now) }
         ensures hand { bare hand.new ≡ bare hand.old }
     {
         match self.claim.next(answer, hand) {
-            None => None,
-            Some(made) => Some(Heard::Claimed(claimed(made))),
+            None => false,
+            Some(made) => {
+                *heard = Heard::Claimed(claimed(made));
+                true
+            }
         }
     }
 }

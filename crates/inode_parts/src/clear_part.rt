@@ -8,7 +8,7 @@ ghost use Rattle.hands.specs.declared.hand.Hand.{Hand as HandState};
 ghost use Rattle.inode_machine.specs.World as above;
 ghost use Rattle.inode_parts.specs.Carries.{carry_in, handed, note_at};
 ghost use Rattle.inode_parts.specs.Clears.{clear_part_left, clear_part_asked, slot_in, ClearAmid, ClearBegins, ClearPartReady, HasFound};
-ghost use Rattle.inode_parts.specs.Leaving.{having, StaysOrLeaves};
+ghost use Rattle.inode_parts.specs.Leaving.{heard_if, having, StaysOrLeaves};
 ghost use Rattle.inode_parts.specs.Parts.{IsPart};
 ghost use Rattle.inode_parts.specs.declared.note.Notes.{Notes as NotesState};
 
@@ -58,26 +58,33 @@ impl ClearPart {
         self.clear.op(hand)
     }
 
-    /// How it goes on; or what is heard. At its end the directory has its new record.
+    /// How it goes on: true where it is over, with what is heard left in `heard`. At its end the directory has its new record.
     #[tactic(auto, using(crate::proofs::Clears::clear_on, crate::proofs::Clears::clear_ends))]
-    pub fn next(&mut self, notes: &mut Notes, answer: &Answer, hand: &mut Hand) -> Option<Heard>
+    pub fn next(
+        &mut self,
+        notes: &mut Notes,
+        answer: &Answer,
+        hand: &mut Hand,
+        heard: &mut Heard,
+    ) -> bool
         requires came { (before : HandState) × ClearPartReady self.old before × IsAfter (clear_part_asked self.old) before answer.now hand.old }
         ensures goes { (path : List ℕ) (before : HandState) → ClearPartReady self.old before → IsAfter (clear_part_asked self.old) before answer.now hand.old
             → Goes (clear_part_left path notes.old self.old before) (answer_in (clear_part_asked self.old) answer.now hand.old)
-            (left_after (clear_part_left path notes.new) (handed path notes.new) result self.new hand.new) }
-        ensures ready { IfNone result (ClearPartReady self.new hand.new) }
+            (left_after (clear_part_left path notes.new) (handed path notes.new) (heard_if result heard.new) self.new hand.new) }
+        ensures ready { IfNone (heard_if result heard.new) (ClearPartReady self.new hand.new) }
         ensures leaves { (path : List ℕ) (n : ℕ) (name : Name) (start before : HandState)
             → ClearAmid n start self.old before → ClearPartReady self.old before
             → IsAfter (clear_part_asked self.old) before answer.now hand.old
-            → StaysOrLeaves (ClearAmid n start self.new) path (above.Clear n name) result
+            → StaysOrLeaves (ClearAmid n start self.new) path (above.Clear n name) (heard_if result heard.new)
             (having start notes.old) (having hand.new notes.new) }
         ensures hand { bare hand.new ≡ bare hand.old }
     {
         match self.clear.next(answer, hand) {
-            None => None,
+            None => false,
             Some(inode) => {
                 change(self.seat, inode, notes, hand);
-                Some(Heard::Did)
+                *heard = Heard::Did;
+                true
             }
         }
     }

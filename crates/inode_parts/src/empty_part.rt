@@ -7,7 +7,7 @@ ghost use Rattle.hands.specs.declared.hand.Hand.{Hand as HandState};
 ghost use Rattle.inode_machine.specs.World.Op.{Empty};
 ghost use Rattle.inode_parts.specs.Carries.{carry_in, handed};
 ghost use Rattle.inode_parts.specs.Empties.{empty_part_left, empty_part_asked, EmptyAmid, EmptyBegins, EmptyPartReady};
-ghost use Rattle.inode_parts.specs.Leaving.{having, StaysOrLeaves};
+ghost use Rattle.inode_parts.specs.Leaving.{heard_if, having, StaysOrLeaves};
 ghost use Rattle.inode_parts.specs.Parts.{IsPart};
 ghost use Rattle.inode_parts.specs.declared.note.Notes.{Notes as NotesState};
 
@@ -52,26 +52,33 @@ impl EmptyPart {
         self.truncate.op(hand)
     }
 
-    /// How it goes on; or what is heard.
+    /// How it goes on: true where it is over, with what is heard left in `heard`.
     #[tactic(auto, using(crate::proofs::Empties::empty_on, crate::proofs::Empties::empty_ends))]
-    pub fn next(&mut self, notes: &mut Notes, answer: &Answer, hand: &mut Hand) -> Option<Heard>
+    pub fn next(
+        &mut self,
+        notes: &mut Notes,
+        answer: &Answer,
+        hand: &mut Hand,
+        heard: &mut Heard,
+    ) -> bool
         requires came { (before : HandState) × EmptyPartReady self.old before × IsAfter (empty_part_asked self.old) before answer.now hand.old }
         ensures goes { (path : List ℕ) (before : HandState) → EmptyPartReady self.old before → IsAfter (empty_part_asked self.old) before answer.now hand.old
             → Goes (empty_part_left path notes.old self.old before) (answer_in (empty_part_asked self.old) answer.now hand.old)
-            (left_after (empty_part_left path notes.new) (handed path notes.new) result self.new hand.new) }
-        ensures ready { IfNone result (EmptyPartReady self.new hand.new) }
+            (left_after (empty_part_left path notes.new) (handed path notes.new) (heard_if result heard.new) self.new hand.new) }
+        ensures ready { IfNone (heard_if result heard.new) (EmptyPartReady self.new hand.new) }
         ensures leaves { (path : List ℕ) (n : ℕ) (start before : HandState)
             → EmptyAmid n start self.old before → EmptyPartReady self.old before
             → IsAfter (empty_part_asked self.old) before answer.now hand.old
-            → StaysOrLeaves (EmptyAmid n start self.new) path (Empty n) result
+            → StaysOrLeaves (EmptyAmid n start self.new) path (Empty n) (heard_if result heard.new)
             (having start notes.old) (having hand.new notes.new) }
         ensures hand { bare hand.new ≡ bare hand.old }
     {
         match self.truncate.next(answer, hand) {
-            None => None,
+            None => false,
             Some(emptying) => {
                 notes.set(emptying.seat, Note::Nothing);
-                Some(Heard::Did)
+                *heard = Heard::Did;
+                true
             }
         }
     }

@@ -13,7 +13,7 @@ ghost use Rattle.inode_parts.specs.Carries.{carry_in, handed};
 ghost use Rattle.inode_parts.specs.Changes.{IsAmid};
 ghost use Rattle.inode_parts.specs.Enters.{enter_part_left, enter_part_asked, entered, EnterAmid, EnterBegins, EnterPartReady};
 ghost use Rattle.inode_parts.specs.Holding.{Changed, StandBeside};
-ghost use Rattle.inode_parts.specs.Leaving.{having, StaysOrLeaves};
+ghost use Rattle.inode_parts.specs.Leaving.{heard_if, having, StaysOrLeaves};
 ghost use Rattle.inode_parts.specs.Parts.{IsPart};
 ghost use Rattle.inode_parts.specs.declared.note.Notes.{Notes as NotesState};
 
@@ -62,24 +62,33 @@ impl EnterPart {
         self.enter.op(hand)
     }
 
-    /// How it goes on; or what is heard. At its end the directory has its new record.
+    /// How it goes on: true where it is over, with what is heard left in `heard`. At its end the directory has its new record.
     #[tactic(auto, using(crate::proofs::Enters::enter_on, crate::proofs::Enters::enter_ends))]
-    pub fn next(&mut self, notes: &mut Notes, answer: &Answer, hand: &mut Hand) -> Option<Heard>
+    pub fn next(
+        &mut self,
+        notes: &mut Notes,
+        answer: &Answer,
+        hand: &mut Hand,
+        heard: &mut Heard,
+    ) -> bool
         requires came { (before : HandState) × EnterPartReady self.old before × IsAfter (enter_part_asked self.old) before answer.now hand.old }
         ensures goes { (path : List ℕ) (before : HandState) → EnterPartReady self.old before → IsAfter (enter_part_asked self.old) before answer.now hand.old
             → Goes (enter_part_left path notes.old self.old before) (answer_in (enter_part_asked self.old) answer.now hand.old)
-            (left_after (enter_part_left path notes.new) (handed path notes.new) result self.new hand.new) }
-        ensures ready { IfNone result (EnterPartReady self.new hand.new) }
+            (left_after (enter_part_left path notes.new) (handed path notes.new) (heard_if result heard.new) self.new hand.new) }
+        ensures ready { IfNone (heard_if result heard.new) (EnterPartReady self.new hand.new) }
         ensures leaves { (path : List ℕ) (n child : ℕ) (name : Name) (start before : HandState)
             → EnterAmid n start self.old before → EnterPartReady self.old before
             → IsAfter (enter_part_asked self.old) before answer.now hand.old
-            → StaysOrLeaves (EnterAmid n start self.new) path (above.Enter n name child) result
+            → StaysOrLeaves (EnterAmid n start self.new) path (above.Enter n name child) (heard_if result heard.new)
             (having start notes.old) (having hand.new notes.new) }
         ensures hand { bare hand.new ≡ bare hand.old }
     {
         match self.enter.next(answer, hand) {
-            None => None,
-            Some(entered) => Some(hear(self.seat, &entered, notes, hand)),
+            None => false,
+            Some(entered) => {
+                *heard = hear(self.seat, &entered, notes, hand);
+                true
+            }
         }
     }
 }

@@ -7,7 +7,7 @@ ghost use Rattle.hands.specs.declared.hand.Hand.{Hand as HandState};
 ghost use Rattle.inode_machine.specs.World as above;
 ghost use Rattle.inode_parts.specs.Carries.{carry_in, handed};
 ghost use Rattle.inode_parts.specs.Fills.{fill_part_left, fill_part_asked, FillAmid, FillBegins, FillPartReady};
-ghost use Rattle.inode_parts.specs.Leaving.{having, StaysOrLeaves};
+ghost use Rattle.inode_parts.specs.Leaving.{heard_if, having, StaysOrLeaves};
 ghost use Rattle.inode_parts.specs.Parts.{IsPart};
 ghost use Rattle.inode_parts.specs.declared.note.Notes.{Notes as NotesState};
 
@@ -53,26 +53,33 @@ impl FillPart {
         self.fill.op(hand)
     }
 
-    /// How it goes on; or what is heard. At its end the directory has its new record.
+    /// How it goes on: true where it is over, with what is heard left in `heard`. At its end the directory has its new record.
     #[tactic(auto, using(crate::proofs::Fills::fill_on, crate::proofs::Fills::fill_ends))]
-    pub fn next(&mut self, notes: &mut Notes, answer: &Answer, hand: &mut Hand) -> Option<Heard>
+    pub fn next(
+        &mut self,
+        notes: &mut Notes,
+        answer: &Answer,
+        hand: &mut Hand,
+        heard: &mut Heard,
+    ) -> bool
         requires came { (before : HandState) × FillPartReady self.old before × IsAfter (fill_part_asked self.old) before answer.now hand.old }
         ensures goes { (path : List ℕ) (before : HandState) → FillPartReady self.old before → IsAfter (fill_part_asked self.old) before answer.now hand.old
             → Goes (fill_part_left path notes.old self.old before) (answer_in (fill_part_asked self.old) answer.now hand.old)
-            (left_after (fill_part_left path notes.new) (handed path notes.new) result self.new hand.new) }
-        ensures ready { IfNone result (FillPartReady self.new hand.new) }
+            (left_after (fill_part_left path notes.new) (handed path notes.new) (heard_if result heard.new) self.new hand.new) }
+        ensures ready { IfNone (heard_if result heard.new) (FillPartReady self.new hand.new) }
         ensures leaves { (path : List ℕ) (n parent : ℕ) (start before : HandState)
             → FillAmid n start self.old before → FillPartReady self.old before
             → IsAfter (fill_part_asked self.old) before answer.now hand.old
-            → StaysOrLeaves (FillAmid n start self.new) path (above.Fill n parent) result
+            → StaysOrLeaves (FillAmid n start self.new) path (above.Fill n parent) (heard_if result heard.new)
             (having start notes.old) (having hand.new notes.new) }
         ensures hand { bare hand.new ≡ bare hand.old }
     {
         match self.fill.next(answer, hand) {
-            None => None,
+            None => false,
             Some(filled) => {
                 change(self.seat, filled.inode, notes, hand);
-                Some(Heard::Is(filled.whole))
+                *heard = Heard::Is(filled.whole);
+                true
             }
         }
     }

@@ -7,7 +7,7 @@ ghost use Rattle.hands.specs.declared.hand.Hand.{Hand as HandState};
 ghost use Rattle.inode_machine.specs.World.{Free};
 ghost use Rattle.inode_parts.specs.Carries.{carry_in, handed};
 ghost use Rattle.inode_parts.specs.Frees.{free_left, free_asked, FreeAmid, FreeBegins, FreeReady};
-ghost use Rattle.inode_parts.specs.Leaving.{having, StaysOrLeaves};
+ghost use Rattle.inode_parts.specs.Leaving.{heard_if, having, StaysOrLeaves};
 ghost use Rattle.inode_parts.specs.Parts.{IsPart};
 ghost use Rattle.inode_parts.specs.declared.note.Notes.{Notes as NotesState};
 
@@ -52,25 +52,32 @@ impl FreePart {
     }
 
     /// How it goes on.
-    pub fn next(&mut self, notes: &mut Notes, answer: &Answer, hand: &mut Hand) -> Option<Heard>
+    pub fn next(
+        &mut self,
+        notes: &mut Notes,
+        answer: &Answer,
+        hand: &mut Hand,
+        heard: &mut Heard,
+    ) -> bool
         requires came { (before : HandState) × FreeReady self.old before × IsAfter (free_asked self.old) before answer.now hand.old }
         ensures goes { (path : List ℕ) (before : HandState) → FreeReady self.old before
             → IsAfter (free_asked self.old) before answer.now hand.old
             → Goes (free_left path notes.old self.old before) (answer_in (free_asked self.old) answer.now hand.old)
-            (left_after (free_left path notes.new) (handed path notes.new) result self.new hand.new) }
-        ensures ready { IfNone result (FreeReady self.new hand.new) }
+            (left_after (free_left path notes.new) (handed path notes.new) (heard_if result heard.new) self.new hand.new) }
+        ensures ready { IfNone (heard_if result heard.new) (FreeReady self.new hand.new) }
         ensures leaves { (path : List ℕ) (n : ℕ) (start before : HandState)
             → FreeAmid n start self.old before → FreeReady self.old before
             → IsAfter (free_asked self.old) before answer.now hand.old
-            → StaysOrLeaves (FreeAmid n start self.new) path (Free n) result
+            → StaysOrLeaves (FreeAmid n start self.new) path (Free n) (heard_if result heard.new)
             (having start notes.old) (having hand.new notes.new) }
         ensures hand { bare hand.new ≡ bare hand.old }
     {
         match self.free.next(answer, hand) {
-            None => None,
+            None => false,
             Some(()) => {
                 notes.set(self.seat, Note::Freed);
-                Some(Heard::Did)
+                *heard = Heard::Did;
+                true
             }
         }
     }

@@ -7,7 +7,7 @@ ghost use Rattle.hands.specs.declared.hand.Hand.{Hand as HandState};
 ghost use Rattle.inode_machine.specs.World.Op.{LockFile as Locks};
 ghost use Rattle.inode_parts.specs.Carries.{carry_in, handed};
 ghost use Rattle.inode_parts.specs.FileLocks.{lock_file_left, lock_file_asked, LockBegins, LockFileAmid, LockFileReady};
-ghost use Rattle.inode_parts.specs.Leaving.{having, StaysOrLeaves};
+ghost use Rattle.inode_parts.specs.Leaving.{heard_if, having, StaysOrLeaves};
 ghost use Rattle.inode_parts.specs.Parts.{IsPart};
 ghost use Rattle.inode_parts.specs.declared.note.Notes.{Notes as NotesState};
 
@@ -51,26 +51,36 @@ impl LockFilePart {
         self.lock.op(hand)
     }
 
-    /// How it goes on; or what is heard.
-    pub fn next(&mut self, notes: &mut Notes, answer: &Answer, hand: &mut Hand) -> Option<Heard>
+    /// How it goes on: true where it is over, with what is heard left in `heard`.
+    pub fn next(
+        &mut self,
+        notes: &mut Notes,
+        answer: &Answer,
+        hand: &mut Hand,
+        heard: &mut Heard,
+    ) -> bool
         requires came { (before : HandState) × LockFileReady self.old before × IsAfter (lock_file_asked self.old) before answer.now hand.old }
         ensures goes { (path : List ℕ) (before : HandState) → LockFileReady self.old before
             → IsAfter (lock_file_asked self.old) before answer.now hand.old
             → Goes (lock_file_left path notes.old self.old before) (answer_in (lock_file_asked self.old) answer.now hand.old)
-            (left_after (lock_file_left path notes.new) (handed path notes.new) result self.new hand.new) }
-        ensures ready { IfNone result (LockFileReady self.new hand.new) }
+            (left_after (lock_file_left path notes.new) (handed path notes.new) (heard_if result heard.new) self.new hand.new) }
+        ensures ready { IfNone (heard_if result heard.new) (LockFileReady self.new hand.new) }
         ensures leaves { (path : List ℕ) (fd : ℕ) (start before : HandState) → LockFileAmid fd start self.old before
             → LockFileReady self.old before → IsAfter (lock_file_asked self.old) before answer.now hand.old
-            → StaysOrLeaves (LockFileAmid fd start self.new) path (Locks fd) result (having start notes.old) (having hand.new notes.new) }
+            → StaysOrLeaves (LockFileAmid fd start self.new) path (Locks fd) (heard_if result heard.new) (having start notes.old) (having hand.new notes.new) }
         ensures hand { bare hand.new ≡ bare hand.old }
     {
         match self.lock.next(answer, hand) {
-            None => None,
-            Some(FileLocked::Refused(why)) => Some(Heard::Locked(Locked::Refused(cause(why)))),
+            None => false,
+            Some(FileLocked::Refused(why)) => {
+                *heard = Heard::Locked(Locked::Refused(cause(why)));
+                true
+            }
             Some(FileLocked::Locked(held)) => {
                 let offset = held.file.offset;
                 notes.set(held.seat, Note::Opened(self.fd, offset));
-                Some(Heard::Locked(Locked::Locks(held.file.number, u64::from(offset))))
+                *heard = Heard::Locked(Locked::Locks(held.file.number, u64::from(offset)));
+                true
             }
         }
     }

@@ -7,7 +7,7 @@ ghost use Rattle.hands.specs.declared.hand.Hand.{Hand as HandState};
 ghost use Rattle.inode_machine.specs.World.Op.{LockOpen as Locks};
 ghost use Rattle.inode_parts.specs.Carries.{carry_in, handed};
 ghost use Rattle.inode_parts.specs.FileLocks.{lock_open_left, lock_open_asked, LockBegins, LockOpenAmid, LockOpenReady};
-ghost use Rattle.inode_parts.specs.Leaving.{having, StaysOrLeaves};
+ghost use Rattle.inode_parts.specs.Leaving.{heard_if, having, StaysOrLeaves};
 ghost use Rattle.inode_parts.specs.Parts.{IsPart};
 ghost use Rattle.inode_parts.specs.declared.note.Notes.{Notes as NotesState};
 
@@ -49,26 +49,33 @@ impl LockOpenPart {
         self.lock.op(hand)
     }
 
-    /// How it goes on; or what is heard.
-    pub fn next(&mut self, notes: &mut Notes, answer: &Answer, hand: &mut Hand) -> Option<Heard>
+    /// How it goes on: true where it is over, with what is heard left in `heard`.
+    pub fn next(
+        &mut self,
+        notes: &mut Notes,
+        answer: &Answer,
+        hand: &mut Hand,
+        heard: &mut Heard,
+    ) -> bool
         requires came { (before : HandState) × LockOpenReady self.old before × IsAfter (lock_open_asked self.old) before answer.now hand.old }
         ensures goes { (path : List ℕ) (before : HandState) → LockOpenReady self.old before
             → IsAfter (lock_open_asked self.old) before answer.now hand.old
             → Goes (lock_open_left path notes.old self.old before) (answer_in (lock_open_asked self.old) answer.now hand.old)
-            (left_after (lock_open_left path notes.new) (handed path notes.new) result self.new hand.new) }
-        ensures ready { IfNone result (LockOpenReady self.new hand.new) }
+            (left_after (lock_open_left path notes.new) (handed path notes.new) (heard_if result heard.new) self.new hand.new) }
+        ensures ready { IfNone (heard_if result heard.new) (LockOpenReady self.new hand.new) }
         ensures leaves { (path : List ℕ) (fd number : ℕ) (start before : HandState) → LockOpenAmid fd start self.old before
             → LockOpenReady self.old before → IsAfter (lock_open_asked self.old) before answer.now hand.old
-            → StaysOrLeaves (LockOpenAmid fd start self.new) path (Locks fd number) result
+            → StaysOrLeaves (LockOpenAmid fd start self.new) path (Locks fd number) (heard_if result heard.new)
             (having start notes.old) (having hand.new notes.new) }
         ensures hand { bare hand.new ≡ bare hand.old }
     {
         match self.lock.next(answer, hand) {
-            None => None,
+            None => false,
             Some(held) => {
                 let offset = held.file.offset;
                 notes.set(held.seat, Note::Opened(self.fd, offset));
-                Some(Heard::At(held.file.number, u64::from(offset)))
+                *heard = Heard::At(held.file.number, u64::from(offset));
+                true
             }
         }
     }

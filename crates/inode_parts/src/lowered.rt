@@ -2,7 +2,8 @@
 ghost use Rattle.std.specs.Prelude.{◌≡◌, Some, None, IfSome, IfNone};
 ghost use Rattle.plain_tree.specs.declared.answer.Reply.{Reply as ReplyState};
 ghost use Rattle.inode_machine.specs.Programs.{program};
-ghost use Rattle.whole_calls.specs.Wholes.{IsCall};
+ghost use Rattle.whole_calls.specs.Asks.{reply_to};
+ghost use Rattle.whole_calls.specs.Wholes.{call_in, IsCall};
 ghost use Rattle.inodes_on_blocks.specs.Lowering.{nothing};
 ghost use Rattle.hand_controls.specs.Calling.{IsEmpty};
 ghost use Rattle.hands.specs.Controls.{bare};
@@ -17,7 +18,7 @@ use fs_layout::Super;
 use hands::{Answer, Control, Hand, Op};
 use plain_tree::{Answer as CallAnswer, Call, Reply};
 use std::mem;
-use whole_calls::{Dup, Numbers, Whole};
+use whole_calls::{Dup, Heard, Numbers, Whole};
 
 /// A call with the part of its present operation.
 #[derive(Drop)]
@@ -27,6 +28,8 @@ pub struct Lowered {
     list: Numbers,
     notes: Notes,
     part: InodePart,
+    // What the call answers, once it has ended.
+    says: CallAnswer,
 }
 
 impl Lowered {
@@ -50,11 +53,19 @@ impl Lowered {
             list: Numbers::new(),
             notes,
             part,
+            says: CallAnswer::Done,
         }
+    }
+
+    /// The reply of the call, once it has ended.
+    pub fn reply(&mut self) -> Reply
+        ensures { result ≡ reply_to (call_in self.old.call) self.old.says }
+    {
+        take_call(&mut self.call).reply(self.says)
     }
 }
 
-// The call, with which the control ends.
+// The call, in whose place another stands then.
 fn take_call(call: &mut Whole) -> Whole
     ensures { result ≡ call.old }
 {
@@ -66,11 +77,11 @@ fn take_call(call: &mut Whole) -> Whole
 }
 
 impl Control for Lowered {
-    type Out = Reply;
+    type Out = ();
 
     ghost Value = { ReplyState };
 
-    ghost value = { λ reply _. reply };
+    ghost value = { λ l _ _. reply_to (call_in l.call) l.says };
 
     ghost left = { lowered_left };
 
@@ -84,23 +95,23 @@ impl Control for Lowered {
         self.part.op(hand)
     }
 
-    fn next(&mut self, answer: &Answer, hand: &mut Hand) -> Option<Reply> {
-        match self
+    fn next(&mut self, answer: &Answer, hand: &mut Hand) -> Option<()> {
+        let mut heard = Heard::Did;
+        let text = self.call.text();
+        if self
             .part
-            .next(self.call.text(), &mut self.notes, answer, hand)
+            .next(text, &mut self.notes, answer, hand, &mut heard)
         {
-            None => None,
-            Some(heard) => {
-                let mut says = CallAnswer::Done;
-                if self.call.next(&heard, &mut self.list, &mut says) {
-                    Some(take_call(&mut self.call).reply(says))
-                } else {
-                    let ask = self.call.ask();
-                    let path = self.call.text();
-                    self.part = InodePart::begin(ask, &self.sizes, path, &self.notes, hand);
-                    None
-                }
+            if self.call.next(&heard, &mut self.list, &mut self.says) {
+                Some(())
+            } else {
+                let ask = self.call.ask();
+                let path = self.call.text();
+                self.part = InodePart::begin(ask, &self.sizes, path, &self.notes, hand);
+                None
             }
+        } else {
+            None
         }
     }
 }

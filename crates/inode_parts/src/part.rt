@@ -9,7 +9,7 @@ ghost use Rattle.inode_machine.specs.World.Op.{Take};
 ghost use Rattle.whole_calls.specs.Asks.{op_in as above_op, query_in};
 ghost use Rattle.inode_parts.specs.Carries.{carry_in, handed};
 ghost use Rattle.inode_parts.specs.Holding.{Having};
-ghost use Rattle.inode_parts.specs.Leaving.{having};
+ghost use Rattle.inode_parts.specs.Leaving.{having, heard_if};
 ghost use Rattle.inode_parts.specs.OneSteps.{Begins};
 ghost use Rattle.inode_parts.specs.Parts.{IsPart};
 ghost use Rattle.inode_parts.specs.Sizes.{IsSized};
@@ -138,7 +138,8 @@ impl InodePart {
         }
     }
 
-    /// How it goes on in a call with this path; or what is heard. The record of a locked inode may change in hand.
+    /// How it goes on in a call with this path: true where it is over, with what is heard left in `heard`. The record of a locked inode may
+    /// change in hand.
     #[tactic(auto, using(crate::proofs::Goings::leave_on))]
     pub fn next(
         &mut self,
@@ -146,38 +147,45 @@ impl InodePart {
         notes: &mut Notes,
         answer: &Answer,
         hand: &mut Hand,
-    ) -> Option<Heard>
+        heard: &mut Heard,
+    ) -> bool
         requires told { PartTold path.now self.old }
         requires came { (before : HandState) × PartReady self.old before × IsAfter (part_asked self.old) before answer.now hand.old }
         ensures goes { (before : HandState) → PartReady self.old before → IsAfter (part_asked self.old) before answer.now hand.old
-            → Goes (part_left path.now notes.old self.old before) (answer_in (part_asked self.old) answer.now hand.old) (part_left_after path.now notes.new result self.new hand.new) }
+            → Goes (part_left path.now notes.old self.old before) (answer_in (part_asked self.old) answer.now hand.old) (part_left_after path.now notes.new (heard_if result heard.new) self.new hand.new) }
         ensures under { (op : OpAbove) (start : Having) (before : HandState) → UnderWay path.now op start self.old (having before notes.old)
             → PartReady self.old before → IsAfter (part_asked self.old) before answer.now hand.old
-            → GoesOrLeaves path.now op start result self.new (having hand.new notes.new) }
-        ensures ready { IfNone result (PartReady self.new hand.new) }
-        ensures told { IfNone result (PartTold path.now self.new) }
-        ensures on { IfNone result (MayGoOn self.old) }
+            → GoesOrLeaves path.now op start (heard_if result heard.new) self.new (having hand.new notes.new) }
+        ensures ready { IfNone (heard_if result heard.new) (PartReady self.new hand.new) }
+        ensures told { IfNone (heard_if result heard.new) (PartTold path.now self.new) }
+        ensures on { IfNone (heard_if result heard.new) (MayGoOn self.old) }
         ensures same { ChangesNone self.old → hand.new ≡ hand.old }
         ensures hand { bare hand.new ≡ bare hand.old }
     {
         match self {
-            InodePart::One(step) => Some(step.next(notes, answer, hand)),
-            InodePart::Leave(finish) => match finish.next(answer, hand) {
-                None => None,
-                Some(()) => Some(Heard::Did),
+            InodePart::One(step) => {
+                *heard = step.next(notes, answer, hand);
+                true
             }
-            InodePart::Store(part) => part.next(notes, answer, hand),
-            InodePart::Empty(part) => part.next(notes, answer, hand),
-            InodePart::Enter(part) => part.next(notes, answer, hand),
-            InodePart::Clear(part) => part.next(notes, answer, hand),
-            InodePart::Fill(part) => part.next(notes, answer, hand),
-            InodePart::Free(part) => part.next(notes, answer, hand),
-            InodePart::Claim(part) => part.next(notes, answer, hand),
-            InodePart::LockOpen(part) => part.next(notes, answer, hand),
-            InodePart::LockFile(part) => part.next(notes, answer, hand),
-            InodePart::StatFile(part) => part.next(notes, answer, hand),
-            InodePart::Take(part) => part.next(path, notes, answer, hand),
-            InodePart::Relock(part) => part.next(notes, answer, hand),
+            InodePart::Leave(finish) => match finish.next(answer, hand) {
+                None => false,
+                Some(()) => {
+                    *heard = Heard::Did;
+                    true
+                }
+            }
+            InodePart::Store(part) => part.next(notes, answer, hand, heard),
+            InodePart::Empty(part) => part.next(notes, answer, hand, heard),
+            InodePart::Enter(part) => part.next(notes, answer, hand, heard),
+            InodePart::Clear(part) => part.next(notes, answer, hand, heard),
+            InodePart::Fill(part) => part.next(notes, answer, hand, heard),
+            InodePart::Free(part) => part.next(notes, answer, hand, heard),
+            InodePart::Claim(part) => part.next(notes, answer, hand, heard),
+            InodePart::LockOpen(part) => part.next(notes, answer, hand, heard),
+            InodePart::LockFile(part) => part.next(notes, answer, hand, heard),
+            InodePart::StatFile(part) => part.next(notes, answer, hand, heard),
+            InodePart::Take(part) => part.next(path, notes, answer, hand, heard),
+            InodePart::Relock(part) => part.next(notes, answer, hand, heard),
         }
     }
 }

@@ -9,7 +9,7 @@ ghost use Rattle.hand_controls.specs.HeldInodes.{record_in};
 ghost use Rattle.inode_machine.specs.Inodes.{AtNothing};
 ghost use Rattle.inode_machine.specs.World.Op.{Take};
 ghost use Rattle.inode_parts.specs.Carries.{carry_in, handed};
-ghost use Rattle.inode_parts.specs.Leaving.{having, StaysOrLeaves};
+ghost use Rattle.inode_parts.specs.Leaving.{heard_if, having, StaysOrLeaves};
 ghost use Rattle.inode_parts.specs.Parts.{IsPart};
 ghost use Rattle.inode_parts.specs.Relocks.{relock_left, relock_asked, RelockAmid, RelockBegins, RelockReady};
 ghost use Rattle.inode_parts.specs.Sides.{beside_in};
@@ -62,17 +62,23 @@ impl RelockPart {
         }
     }
 
-    /// How it goes on; or what is heard.
-    pub fn next(&mut self, notes: &mut Notes, answer: &Answer, hand: &mut Hand) -> Option<Heard>
+    /// How it goes on: true where it is over, with what is heard left in `heard`.
+    pub fn next(
+        &mut self,
+        notes: &mut Notes,
+        answer: &Answer,
+        hand: &mut Hand,
+        heard: &mut Heard,
+    ) -> bool
         requires came { (before : HandState) × RelockReady self.old before × IsAfter (relock_asked self.old) before answer.now hand.old }
         ensures goes { (path : List ℕ) (before : HandState) → RelockReady self.old before
             → IsAfter (relock_asked self.old) before answer.now hand.old
             → Goes (relock_left path notes.old self.old before) (answer_in (relock_asked self.old) answer.now hand.old)
-            (left_after (relock_left path notes.new) (handed path notes.new) result self.new hand.new) }
-        ensures ready { IfNone result (RelockReady self.new hand.new) }
+            (left_after (relock_left path notes.new) (handed path notes.new) (heard_if result heard.new) self.new hand.new) }
+        ensures ready { IfNone (heard_if result heard.new) (RelockReady self.new hand.new) }
         ensures leaves { (path : List ℕ) (number : ℕ) (start before : HandState) → RelockAmid number start self.old before
             → RelockReady self.old before → IsAfter (relock_asked self.old) before answer.now hand.old
-            → StaysOrLeaves (RelockAmid number start self.new) path (Take number AtNothing) result
+            → StaysOrLeaves (RelockAmid number start self.new) path (Take number AtNothing) (heard_if result heard.new)
             (having start notes.old) (having hand.new notes.new) }
         ensures hand { bare hand.new ≡ bare hand.old }
     {
@@ -80,16 +86,22 @@ impl RelockPart {
             RelockPart::Locking(seat, inodestart) => {
                 let seat = *seat;
                 match LockInode::held(*inodestart, hand, seat) {
-                    None => Some(seen(seat, notes, hand)),
+                    None => {
+                        *heard = seen(seat, notes, hand);
+                        true
+                    }
                     Some(lock) => {
                         *self = RelockPart::Loading(lock);
-                        None
+                        false
                     }
                 }
             }
             RelockPart::Loading(lock) => match lock.next(answer, hand) {
-                None => None,
-                Some(seat) => Some(seen(seat, notes, hand)),
+                None => false,
+                Some(seat) => {
+                    *heard = seen(seat, notes, hand);
+                    true
+                }
             },
         }
     }

@@ -8,7 +8,7 @@ ghost use Rattle.inode_machine.specs.World.Op.{StatFile as Stats};
 ghost use Rattle.inode_parts.specs.Carries.{carry_in, handed};
 ghost use Rattle.inode_parts.specs.FileLocks.{LockBegins};
 ghost use Rattle.inode_parts.specs.FileStats.{stat_left, stat_asked, StatAmid, StatReady};
-ghost use Rattle.inode_parts.specs.Leaving.{having, StaysOrLeaves};
+ghost use Rattle.inode_parts.specs.Leaving.{heard_if, having, StaysOrLeaves};
 ghost use Rattle.inode_parts.specs.Parts.{IsPart};
 ghost use Rattle.inode_parts.specs.declared.note.Notes.{Notes as NotesState};
 
@@ -51,26 +51,36 @@ impl StatFilePart {
         self.lock.op(hand)
     }
 
-    /// How it goes on; or what is heard.
-    pub fn next(&mut self, notes: &mut Notes, answer: &Answer, hand: &mut Hand) -> Option<Heard>
+    /// How it goes on: true where it is over, with what is heard left in `heard`.
+    pub fn next(
+        &mut self,
+        notes: &mut Notes,
+        answer: &Answer,
+        hand: &mut Hand,
+        heard: &mut Heard,
+    ) -> bool
         requires came { (before : HandState) × StatReady self.old before × IsAfter (stat_asked self.old) before answer.now hand.old }
         ensures goes { (path : List ℕ) (before : HandState) → StatReady self.old before
             → IsAfter (stat_asked self.old) before answer.now hand.old
             → Goes (stat_left path notes.old self.old before) (answer_in (stat_asked self.old) answer.now hand.old)
-            (left_after (stat_left path notes.new) (handed path notes.new) result self.new hand.new) }
-        ensures ready { IfNone result (StatReady self.new hand.new) }
+            (left_after (stat_left path notes.new) (handed path notes.new) (heard_if result heard.new) self.new hand.new) }
+        ensures ready { IfNone (heard_if result heard.new) (StatReady self.new hand.new) }
         ensures leaves { (path : List ℕ) (fd : ℕ) (start before : HandState) → StatAmid start self.old before
             → StatReady self.old before → IsAfter (stat_asked self.old) before answer.now hand.old
-            → StaysOrLeaves (StatAmid start self.new) path (Stats fd) result (having start notes.old) (having hand.new notes.new) }
+            → StaysOrLeaves (StatAmid start self.new) path (Stats fd) (heard_if result heard.new) (having start notes.old) (having hand.new notes.new) }
         ensures hand { bare hand.new ≡ bare hand.old }
     {
         match self.lock.next(answer, hand) {
-            None => None,
-            Some(FileLocked::Refused(_)) => Some(Heard::Stat(None)),
+            None => false,
+            Some(FileLocked::Refused(_)) => {
+                *heard = Heard::Stat(None);
+                true
+            }
             Some(FileLocked::Locked(held)) => {
                 let inode = record_at(hand, held.seat);
                 notes.set(held.seat, Note::Nothing);
-                Some(Heard::Stat(Some((held.file.number as u16, face(&inode)))))
+                *heard = Heard::Stat(Some((held.file.number as u16, face(&inode))));
+                true
             }
         }
     }

@@ -6,7 +6,7 @@ ghost use Rattle.hands.specs.Controls.{Goes, bare, left_after};
 ghost use Rattle.hands.specs.declared.hand.Hand.{Hand as HandState};
 ghost use Rattle.inode_machine.specs.World.Op.{Store};
 ghost use Rattle.inode_parts.specs.Carries.{carry_in, handed};
-ghost use Rattle.inode_parts.specs.Leaving.{having, StaysOrLeaves};
+ghost use Rattle.inode_parts.specs.Leaving.{heard_if, having, StaysOrLeaves};
 ghost use Rattle.inode_parts.specs.Parts.{IsPart};
 ghost use Rattle.inode_parts.specs.Stores.{store_part_left, store_part_asked, StoreAmid, StoreBegins, StorePartReady};
 ghost use Rattle.inode_parts.specs.declared.note.Notes.{Notes as NotesState};
@@ -52,25 +52,32 @@ impl StorePart {
         self.store.op(hand)
     }
 
-    /// How it goes on; or what is heard.
+    /// How it goes on: true where it is over, with what is heard left in `heard`.
     #[tactic(auto, using(crate::proofs::Stores::store_on, crate::proofs::Stores::store_ends))]
-    pub fn next(&mut self, notes: &mut Notes, answer: &Answer, hand: &Hand) -> Option<Heard>
+    pub fn next(
+        &mut self,
+        notes: &mut Notes,
+        answer: &Answer,
+        hand: &Hand,
+        heard: &mut Heard,
+    ) -> bool
         requires came { (before : HandState) × StorePartReady self.old before × IsAfter (store_part_asked self.old) before answer.now hand.now }
         ensures goes { (path : List ℕ) (before : HandState) → StorePartReady self.old before → IsAfter (store_part_asked self.old) before answer.now hand.now
             → Goes (store_part_left path notes.old self.old before) (answer_in (store_part_asked self.old) answer.now hand.now)
-            (left_after (store_part_left path notes.new) (handed path notes.new) result self.new hand.now) }
-        ensures ready { IfNone result (StorePartReady self.new hand.now) }
+            (left_after (store_part_left path notes.new) (handed path notes.new) (heard_if result heard.new) self.new hand.now) }
+        ensures ready { IfNone (heard_if result heard.new) (StorePartReady self.new hand.now) }
         ensures leaves { (path : List ℕ) (n count : ℕ) (start before : HandState)
             → StoreAmid n start self.old before → StorePartReady self.old before
             → IsAfter (store_part_asked self.old) before answer.now hand.now
-            → StaysOrLeaves (StoreAmid n start self.new) path (Store n count) result
+            → StaysOrLeaves (StoreAmid n start self.new) path (Store n count) (heard_if result heard.new)
             (having start notes.old) (having hand.now notes.new) }
     {
         match self.store.next(answer, hand) {
-            None => None,
+            None => false,
             Some(()) => {
                 notes.set(self.seat, Note::Nothing);
-                Some(Heard::Did)
+                *heard = Heard::Did;
+                true
             }
         }
     }

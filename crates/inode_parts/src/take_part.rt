@@ -13,7 +13,7 @@ ghost use Rattle.inode_machine.specs.World.Op.{Take};
 ghost use Rattle.inode_parts.specs.Carries.{carry_in, handed, with_note};
 ghost use Rattle.inode_parts.specs.Faces.{face_unless_free};
 ghost use Rattle.inode_parts.specs.Holding.{IsCounted};
-ghost use Rattle.inode_parts.specs.Leaving.{having, StaysOrLeaves};
+ghost use Rattle.inode_parts.specs.Leaving.{heard_if, having, StaysOrLeaves};
 ghost use Rattle.inode_parts.specs.Sides.{beside_in};
 ghost use Rattle.inode_parts.specs.Parts.{IsPart};
 ghost use Rattle.inode_parts.specs.Takes.{looked, note_of, taken_left, take_left, take_asked, take_query, take_seat};
@@ -78,35 +78,39 @@ impl TakePart {
         }
     }
 
-    /// How it goes on, in a call with this path; or what is heard.
+    /// How it goes on, in a call with this path: true where it is over, with what is heard left in `heard`.
     pub fn next(
         &mut self,
         path: &[u8],
         notes: &mut Notes,
         answer: &Answer,
         hand: &mut Hand,
-    ) -> Option<Heard>
+        heard: &mut Heard,
+    ) -> bool
         requires told { TakeTold path.now self.old }
         requires came { (before : HandState) × TakeReady self.old before × IsAfter (take_asked self.old) before answer.now hand.old }
         ensures goes { (before : HandState) → TakeReady self.old before → IsAfter (take_asked self.old) before answer.now hand.old
             → Goes (take_left path.now notes.old self.old before) (answer_in (take_asked self.old) answer.now hand.old)
-            (left_after (take_left path.now notes.new) (handed path.now notes.new) result self.new hand.new) }
-        ensures ready { IfNone result (TakeReady self.new hand.new) }
-        ensures told { IfNone result (TakeTold path.now self.new) }
+            (left_after (take_left path.now notes.new) (handed path.now notes.new) (heard_if result heard.new) self.new hand.new) }
+        ensures ready { IfNone (heard_if result heard.new) (TakeReady self.new hand.new) }
+        ensures told { IfNone (heard_if result heard.new) (TakeTold path.now self.new) }
         ensures leaves { (n : ℕ) (looking : whole.Query) (start before : HandState) → TakeAmid path.now n looking start self.old before
             → TakeReady self.old before → IsAfter (take_asked self.old) before answer.now hand.old
-            → StaysOrLeaves (TakeAmid path.now n looking start self.new) path.now (Take n looking) result
+            → StaysOrLeaves (TakeAmid path.now n looking start self.new) path.now (Take n looking) (heard_if result heard.new)
             (having start notes.old) (having hand.new notes.new) }
         ensures hand { bare hand.new ≡ bare hand.old }
     {
         match self {
             TakePart::Locking(query, lock) => match lock.next(answer, hand) {
-                None => None,
+                None => false,
                 Some(seat) => match look(*query, seat, notes, hand) {
-                    Begun::Is(heard) => Some(heard),
+                    Begun::Is(is) => {
+                        *heard = is;
+                        true
+                    }
                     Begun::Runs(part) => {
                         *self = part;
-                        None
+                        false
                     }
                 },
             },
@@ -114,15 +118,21 @@ impl TakePart {
                 let inode = record_at(hand, *seat);
                 let sought = Sought::Name(name(path, element));
                 match search.next(&inode, sought, answer, hand) {
-                    None => None,
-                    Some(found) => Some(named(&inode, *seat, *element, found, notes)),
+                    None => false,
+                    Some(found) => {
+                        *heard = named(&inode, *seat, *element, found, notes);
+                        true
+                    }
                 }
             }
             TakePart::Listing(seat, search) => {
                 let inode = record_at(hand, *seat);
                 match search.next(&inode, Sought::Entry, answer, hand) {
-                    None => None,
-                    Some(found) => Some(listed(&inode, *seat, found, notes)),
+                    None => false,
+                    Some(found) => {
+                        *heard = listed(&inode, *seat, found, notes);
+                        true
+                    }
                 }
             }
         }

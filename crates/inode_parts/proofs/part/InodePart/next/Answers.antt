@@ -3,6 +3,7 @@ use Rattle.hands.specs.Controls.{Goes}
 use Rattle.hands.specs.Ops.{answer_in}
 use Rattle.inode_parts.specs.FileLocks.{lock_file_left, lock_file_asked}
 use Rattle.inode_parts.specs.FileStats.{stat_left, stat_asked}
+use Rattle.inode_parts.specs.Leaving.{heard_if}
 use Rattle.inode_parts.specs.Parts.{Part}
 use Rattle.inode_parts.proofs.Lefts.{lock_file_after, stat_after}
 use Rattle.inode_parts.proofs.StepLeaves.{step_leaves}
@@ -16,7 +17,7 @@ returns-in-LockFile-clause-goes c before =
     let did = c.next-in-LockFile in
     rw c.in-LockFile.is (λ ready after.
     subst (λ (q : Part). Goes (lock_file_left path c.args.notes.now p before) (answer_in (lock_file_asked p) c.args.answer.now c.args.hand.now) q)
-    (lock_file_after path did.new.notes did.result did.new.self did.new.hand) (did.ensures.goes path before ready after))
+    (lock_file_after path did.new.notes (heard_if did.result did.new.heard) did.new.self did.new.hand) (did.ensures.goes path before ready after))
 
 pub returns-in-One-clause-under : goal.returns-in-One-clause-under
 returns-in-One-clause-under c op start before =
@@ -29,84 +30,84 @@ returns-in-Store-clause-under c op start before =
     let path = c.args.path.now in
     let did = c.next-in-Store in
     rw c.in-Store.is (λ under ready after.
-    stores path start before c.args.hand.now c.args.notes.now did.new.notes did.result c.in-Store.part did.new.self (λ n count amid. did.ensures.leaves path n count start.hand before amid ready after) op under)
+    stores path start before c.args.hand.now c.args.notes.now did.new.notes (heard_if did.result did.new.heard) c.in-Store.part did.new.self (λ n count amid. did.ensures.leaves path n count start.hand before amid ready after) op under)
 
 pub returns-in-Empty-clause-under : goal.returns-in-Empty-clause-under
 returns-in-Empty-clause-under c op start before =
     let path = c.args.path.now in
     let did = c.next-in-Empty in
     rw c.in-Empty.is (λ under ready after.
-    empties path start before did.new.hand c.args.notes.now did.new.notes did.result c.in-Empty.part did.new.self (λ n amid. did.ensures.leaves path n start.hand before amid ready after) op under)
+    empties path start before did.new.hand c.args.notes.now did.new.notes (heard_if did.result did.new.heard) c.in-Empty.part did.new.self (λ n amid. did.ensures.leaves path n start.hand before amid ready after) op under)
 
 pub returns-in-Enter-clause-under : goal.returns-in-Enter-clause-under
 returns-in-Enter-clause-under c op start before =
     let path = c.args.path.now in
     let did = c.next-in-Enter in
     rw c.in-Enter.is (λ under ready after.
-    enters path start before did.new.hand c.args.notes.now did.new.notes did.result c.in-Enter.part did.new.self (λ n child e amid. did.ensures.leaves path n child e start.hand before amid ready after) op under)
+    enters path start before did.new.hand c.args.notes.now did.new.notes (heard_if did.result did.new.heard) c.in-Enter.part did.new.self (λ n child e amid. did.ensures.leaves path n child e start.hand before amid ready after) op under)
 
 pub returns-in-Clear-clause-under : goal.returns-in-Clear-clause-under
 returns-in-Clear-clause-under c op start before =
     let path = c.args.path.now in
     let did = c.next-in-Clear in
     rw c.in-Clear.is (λ under ready after.
-    clears path start before did.new.hand c.args.notes.now did.new.notes did.result c.in-Clear.part did.new.self (λ n e amid. did.ensures.leaves path n e start.hand before amid ready after) op under)
+    clears path start before did.new.hand c.args.notes.now did.new.notes (heard_if did.result did.new.heard) c.in-Clear.part did.new.self (λ n e amid. did.ensures.leaves path n e start.hand before amid ready after) op under)
 
 pub returns-in-Fill-clause-under : goal.returns-in-Fill-clause-under
 returns-in-Fill-clause-under c op start before =
     let path = c.args.path.now in
     let did = c.next-in-Fill in
     rw c.in-Fill.is (λ under ready after.
-    fills path start before did.new.hand c.args.notes.now did.new.notes did.result c.in-Fill.part did.new.self (λ n d amid. did.ensures.leaves path n d start.hand before amid ready after) op under)
+    fills path start before did.new.hand c.args.notes.now did.new.notes (heard_if did.result did.new.heard) c.in-Fill.part did.new.self (λ n d amid. did.ensures.leaves path n d start.hand before amid ready after) op under)
 
 pub returns-in-Free-clause-under : goal.returns-in-Free-clause-under
 returns-in-Free-clause-under c op start before =
     let path = c.args.path.now in
     let did = c.next-in-Free in
     rw c.in-Free.is (λ under ready after.
-    frees path start before did.new.hand c.args.notes.now did.new.notes did.result c.in-Free.part did.new.self (λ n amid. did.ensures.leaves path n start.hand before amid ready after) op under)
+    frees path start before did.new.hand c.args.notes.now did.new.notes (heard_if did.result did.new.heard) c.in-Free.part did.new.self (λ n amid. did.ensures.leaves path n start.hand before amid ready after) op under)
 
 pub returns-in-Claim-clause-under : goal.returns-in-Claim-clause-under
 returns-in-Claim-clause-under c op start before =
     let path = c.args.path.now in
     let did = c.next-in-Claim in
     rw c.in-Claim.is (λ under ready after.
-    claims path start before did.new.hand c.args.notes.now c.args.notes.now did.result c.in-Claim.part did.new.self (λ sort amid. did.ensures.leaves path sort start.hand before amid ready after) op under)
+    claims path start before did.new.hand c.args.notes.now c.args.notes.now (heard_if did.result did.new.heard) c.in-Claim.part did.new.self (λ sort amid. did.ensures.leaves path sort start.hand before amid ready after) op under)
 
 pub returns-in-LockOpen-clause-under : goal.returns-in-LockOpen-clause-under
 returns-in-LockOpen-clause-under c op start before =
     let path = c.args.path.now in
     let did = c.next-in-LockOpen in
     rw c.in-LockOpen.is (λ under ready after.
-    lock_opens path start before did.new.hand c.args.notes.now did.new.notes did.result c.in-LockOpen.part did.new.self (λ fd n amid. did.ensures.leaves path fd n start.hand before amid ready after) op under)
+    lock_opens path start before did.new.hand c.args.notes.now did.new.notes (heard_if did.result did.new.heard) c.in-LockOpen.part did.new.self (λ fd n amid. did.ensures.leaves path fd n start.hand before amid ready after) op under)
 
 pub returns-in-LockFile-clause-under : goal.returns-in-LockFile-clause-under
 returns-in-LockFile-clause-under c op start before =
     let path = c.args.path.now in
     let did = c.next-in-LockFile in
     rw c.in-LockFile.is (λ under ready after.
-    lock_files path start before did.new.hand c.args.notes.now did.new.notes did.result c.in-LockFile.part did.new.self (λ fd amid. did.ensures.leaves path fd start.hand before amid ready after) op under)
+    lock_files path start before did.new.hand c.args.notes.now did.new.notes (heard_if did.result did.new.heard) c.in-LockFile.part did.new.self (λ fd amid. did.ensures.leaves path fd start.hand before amid ready after) op under)
 
 pub returns-in-Take-clause-under : goal.returns-in-Take-clause-under
 returns-in-Take-clause-under c op start before =
     let path = c.args.path.now in
     let did = c.next-in-Take in
     rw c.in-Take.is (λ under ready after.
-    takes path start before did.new.hand c.args.notes.now did.new.notes did.result c.in-Take.part did.new.self (λ n looking amid. did.ensures.leaves n looking start.hand before amid ready after) op under)
+    takes path start before did.new.hand c.args.notes.now did.new.notes (heard_if did.result did.new.heard) c.in-Take.part did.new.self (λ n looking amid. did.ensures.leaves n looking start.hand before amid ready after) op under)
 
 pub returns-in-Relock-clause-under : goal.returns-in-Relock-clause-under
 returns-in-Relock-clause-under c op start before =
     let path = c.args.path.now in
     let did = c.next-in-Relock in
     rw c.in-Relock.is (λ under ready after.
-    relocks path start before did.new.hand c.args.notes.now did.new.notes did.result c.in-Relock.part did.new.self (λ n amid. did.ensures.leaves path n start.hand before amid ready after) op under)
+    relocks path start before did.new.hand c.args.notes.now did.new.notes (heard_if did.result did.new.heard) c.in-Relock.part did.new.self (λ n amid. did.ensures.leaves path n start.hand before amid ready after) op under)
 
 pub returns-in-StatFile-clause-under : goal.returns-in-StatFile-clause-under
 returns-in-StatFile-clause-under c op start before =
     let path = c.args.path.now in
     let did = c.next-in-StatFile in
     rw c.in-StatFile.is (λ under ready after.
-    stats path start before did.new.hand c.args.notes.now did.new.notes did.result c.in-StatFile.part did.new.self (λ fd amid. did.ensures.leaves path fd start.hand before amid ready after) op under)
+    stats path start before did.new.hand c.args.notes.now did.new.notes (heard_if did.result did.new.heard) c.in-StatFile.part did.new.self (λ fd amid. did.ensures.leaves path fd start.hand before amid ready after) op under)
 
 pub returns-in-StatFile-clause-goes : goal.returns-in-StatFile-clause-goes
 returns-in-StatFile-clause-goes c before =
@@ -115,4 +116,4 @@ returns-in-StatFile-clause-goes c before =
     let did = c.next-in-StatFile in
     rw c.in-StatFile.is (λ ready after.
     subst (λ (q : Part). Goes (stat_left path c.args.notes.now p before) (answer_in (stat_asked p) c.args.answer.now c.args.hand.now) q)
-    (stat_after path did.new.notes did.result did.new.self did.new.hand) (did.ensures.goes path before ready after))
+    (stat_after path did.new.notes (heard_if did.result did.new.heard) did.new.self did.new.hand) (did.ensures.goes path before ready after))
