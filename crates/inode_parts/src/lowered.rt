@@ -17,10 +17,22 @@ use crate::part::InodePart;
 use fs_layout::Super;
 use hands::{Answer, Control, Hand, Op};
 use plain_tree::{Answer as CallAnswer, Call, Reply};
+use std::alloc::{AllocError, Global};
 use std::mem;
 use whole_calls::{Dup, Heard, Numbers, Whole};
 
-/// A call with the part of its present operation.
+// The sizes of no disk.
+const NO_SIZES: Super = Super {
+    size: 0,
+    nblocks: 0,
+    ninodes: 0,
+    nlog: 0,
+    logstart: 0,
+    inodestart: 0,
+    bmapstart: 0,
+};
+
+/// A call with the part of its present operation; between two calls of its hart it stands idle.
 #[derive(Drop)]
 pub struct Lowered {
     sizes: Super,
@@ -33,28 +45,37 @@ pub struct Lowered {
 }
 
 impl Lowered {
-    /// On a disk of these sizes, of a hart with nothing in hand.
-    pub fn new(sizes: Super, call: Call, hand: &mut Hand) -> Lowered
+    /// No call yet, and the memory for what one lists.
+    pub fn idle(alloc: Global) -> Result<Lowered, AllocError> {
+        let list = Numbers::new(alloc)?;
+        Ok(Lowered {
+            sizes: NO_SIZES,
+            call: no_call(),
+            list,
+            notes: Notes::new(),
+            part: InodePart::idle(),
+            says: CallAnswer::Done,
+        })
+    }
+
+    /// A call begins in this place, on a disk of these sizes, of a hart with nothing in hand.
+    pub fn start(&mut self, sizes: &Super, call: Call, hand: &mut Hand)
         requires call { IsCall call }
         requires path { HasOnePath call }
         requires runs { RunsByParts (path_of call) call }
-        requires sizes { IsSized sizes }
+        requires sizes { IsSized sizes.now }
         requires empty { IsEmpty hand.old }
-        ensures program { lowered_left result hand.new ≡ lowered sizes nothing (program call) }
-        ensures ready { LoweredReady result hand.new }
+        ensures program { lowered_left self.new hand.new ≡ lowered sizes.now nothing (program call) }
+        ensures ready { LoweredReady self.new hand.new }
         ensures hand { bare hand.new ≡ bare hand.old }
     {
-        let call = Whole::new(call);
-        let notes = Notes::new();
-        let part = InodePart::begin(call.ask(), &sizes, call.text(), &notes, hand);
-        Lowered {
-            sizes,
-            call,
-            list: Numbers::new(),
-            notes,
-            part,
-            says: CallAnswer::Done,
-        }
+        self.sizes = *sizes;
+        self.call = Whole::new(call);
+        self.list.clear();
+        self.notes = Notes::new();
+        let ask = self.call.ask();
+        self.part
+            .begin(ask, sizes, self.call.text(), &self.notes, hand);
     }
 
     /// The reply of the call, once it has ended.
@@ -65,15 +86,19 @@ impl Lowered {
     }
 }
 
-// The call, in whose place another stands then.
+// What stands where no call is under way.
+fn no_call() -> Whole {
+    Whole::Dup {
+        fd: 0,
+        at: Dup::Double,
+    }
+}
+
+// The call, which leaves its place.
 fn take_call(call: &mut Whole) -> Whole
     ensures { result ≡ call.old }
 {
-    let ended = Whole::Dup {
-        fd: 0,
-        at: Dup::Double,
-    };
-    mem::replace(call, ended)
+    mem::replace(call, no_call())
 }
 
 impl Control for Lowered {
@@ -107,7 +132,7 @@ impl Control for Lowered {
             } else {
                 let ask = self.call.ask();
                 let path = self.call.text();
-                self.part = InodePart::begin(ask, &self.sizes, path, &self.notes, hand);
+                self.part.begin(ask, &self.sizes, path, &self.notes, hand);
                 None
             }
         } else {

@@ -72,43 +72,50 @@ pub enum InodePart {
 }
 
 impl InodePart {
-    /// The part of this ask of a call with this path, on a disk with this superblock; what was learned of locked inodes is noted. The record of
-    /// one of them may change in hand.
+    /// One of no call.
+    pub fn idle() -> InodePart {
+        InodePart::One(OneStep::Say)
+    }
+
+    /// The part of this ask of a call with this path begins in this place, on a disk with this superblock; what was learned of locked inodes is
+    /// noted. The record of one of them may change in hand.
     #[tactic(auto, using(crate::proofs::Begins::is_part, crate::proofs::Begins::is_ready))]
-    pub fn begin(ask: Ask, sizes: &Super, path: &[u8], notes: &Notes, hand: &mut Hand) -> InodePart
+    pub fn begin(&mut self, ask: Ask, sizes: &Super, path: &[u8], notes: &Notes, hand: &mut Hand)
         requires sizes { IsSized sizes.now }
         requires begins { PartBegins path.now (above_op path.now ask) (having hand.old notes.now) }
         requires stands { AskStands path.now ask }
         requires told { AskTold path.now ask }
-        ensures part { IsPart sizes.now (carry_in path.now notes.now hand.old) (above_op path.now ask) (part_left path.now notes.now result hand.new) }
-        ensures ready { PartReady result hand.new }
-        ensures told { PartTold path.now result }
-        ensures known { Begins (above_op path.now ask) hand.old → (result ≡ part_for (above_op path.now ask) hand.old) × (hand.new ≡ hand.old) }
-        ensures under { UnderWay path.now (above_op path.now ask) (having hand.old notes.now) result (having hand.new notes.now) }
+        ensures part { IsPart sizes.now (carry_in path.now notes.now hand.old) (above_op path.now ask) (part_left path.now notes.now self.new hand.new) }
+        ensures ready { PartReady self.new hand.new }
+        ensures told { PartTold path.now self.new }
+        ensures known { Begins (above_op path.now ask) hand.old → (self.new ≡ part_for (above_op path.now ask) hand.old) × (hand.new ≡ hand.old) }
+        ensures under { UnderWay path.now (above_op path.now ask) (having hand.old notes.now) self.new (having hand.new notes.now) }
         ensures hand { bare hand.new ≡ bare hand.old }
     {
         match ask {
             Ask::Store(number, count) => {
-                InodePart::Store(StorePart::begin(number, count, sizes, hand))
+                *self = InodePart::Store(StorePart::begin(number, count, sizes, hand));
             }
-            Ask::Empty(number) => InodePart::Empty(EmptyPart::begin(number, sizes, hand)),
+            Ask::Empty(number) => *self = InodePart::Empty(EmptyPart::begin(number, sizes, hand)),
             Ask::Enter(number, element, child) => {
                 let name = &path[element.start..element.end];
-                InodePart::Enter(EnterPart::begin(number, child, name, sizes, hand))
+                *self = InodePart::Enter(EnterPart::begin(number, child, name, sizes, hand));
             }
             Ask::Clear(number, _) => {
-                InodePart::Clear(ClearPart::begin(number, sizes, notes, hand))
+                *self = InodePart::Clear(ClearPart::begin(number, sizes, notes, hand));
             }
             Ask::Fill(number, parent) => {
-                InodePart::Fill(FillPart::begin(number, parent, sizes, hand))
+                *self = InodePart::Fill(FillPart::begin(number, parent, sizes, hand));
             }
-            Ask::Free(number) => InodePart::Free(FreePart::begin(number, sizes, hand)),
-            Ask::Claim(sort) => InodePart::Claim(ClaimPart::begin(sort, sizes, hand)),
-            Ask::LockOpen(fd, _) => InodePart::LockOpen(LockOpenPart::begin(fd, sizes, hand)),
-            Ask::LockFile(fd) => InodePart::LockFile(LockFilePart::begin(fd, sizes, hand)),
-            Ask::StatFile(fd) => InodePart::StatFile(StatFilePart::begin(fd, sizes, hand)),
-            Ask::Take(number, query) => take(number, query, sizes, hand),
-            _ => one_or_leave(ask, hand),
+            Ask::Free(number) => *self = InodePart::Free(FreePart::begin(number, sizes, hand)),
+            Ask::Claim(sort) => *self = InodePart::Claim(ClaimPart::begin(sort, sizes, hand)),
+            Ask::LockOpen(fd, _) => *self = InodePart::LockOpen(LockOpenPart::begin(
+                fd, sizes, hand,
+            )),
+            Ask::LockFile(fd) => *self = InodePart::LockFile(LockFilePart::begin(fd, sizes, hand)),
+            Ask::StatFile(fd) => *self = InodePart::StatFile(StatFilePart::begin(fd, sizes, hand)),
+            Ask::Take(number, query) => *self = take(number, query, sizes, hand),
+            _ => *self = one_or_leave(ask, hand),
         }
     }
 

@@ -1,16 +1,17 @@
 //! The inodes that a call frees at its end.
-ghost use Rattle.std.specs.Prelude.{◌≡◌, ◌<◌, List, [], ◌∷◌, ◌++◌, length, MatchOption};
+ghost use Rattle.std.specs.Prelude.{◌≡◌, ◌<◌, List, [], ◌∷◌, ◌++◌, length, IfOk, MatchOption};
 
 use arrayvec::ArrayVec;
+use std::alloc::{AllocError, Global};
 use std::marker::Model;
 
 /// One for each element of two paths.
 pub const MOST_LISTED: usize = 128;
 
-/// Numbers of dead inodes, each of whose last reference is the call's.
+/// Numbers of dead inodes, each of whose last reference is the call's, in memory of their own.
 #[derive(Drop)]
 pub struct Numbers {
-    numbers: ArrayVec<u32, MOST_LISTED>,
+    numbers: Box<ArrayVec<u32, MOST_LISTED>>,
 }
 
 impl Model for Numbers {
@@ -18,16 +19,23 @@ impl Model for Numbers {
 
     ghost Value = { List ℕ };
 
-    ghost view = { λ l. l.numbers.items };
+    ghost view = { λ l. l.numbers.value.items };
 }
 
 impl Numbers {
-    pub fn new() -> Numbers
-        ensures { result ≡ [] }
+    /// None yet, and the memory for all of them.
+    pub fn new(alloc: Global) -> Result<Numbers, AllocError>
+        ensures { IfOk result (λ list. list ≡ []) }
     {
-        Numbers {
-            numbers: ArrayVec::new(),
-        }
+        let numbers = Box::new(alloc, ArrayVec::new())?;
+        Ok(Numbers { numbers })
+    }
+
+    /// None any more.
+    pub fn clear(&mut self)
+        ensures { self.new ≡ [] }
+    {
+        self.numbers.clear();
     }
 
     /// One more, behind the others.
