@@ -17,6 +17,17 @@ use Rattle.hands.specs.declared.hand.Seat.TheVariants.{One, Two}
 abbrev pub empty_hand : Hand
 empty_hand = record { txn = None; first = None; second = None; one = None; two = None; to_one = None; to_two = None; listed = []; numbers = replicate 16 0; count = 0 }
 
+-- its numbers to be claimed don't count
+pub record HasNothing (h : Hand) : Type 0 where
+  pub txn : h.txn ≡ None
+  pub first : h.first ≡ None
+  pub second : h.second ≡ None
+  pub one : h.one ≡ None
+  pub two : h.two ≡ None
+  pub to_one : h.to_one ≡ None
+  pub to_two : h.to_two ≡ None
+  pub listed : h.listed ≡ []
+
 abbrev pub buffer_at : Place → Hand → Option (GuardState BufferState)
 buffer_at First h = h.first
 buffer_at Second h = h.second

@@ -2,7 +2,7 @@
 ghost use Rattle.std.specs.Prelude.{◌≡◌, ◌≢◌, [], Some, None, IfOk, IsSome, is_some};
 ghost use Rattle.std.specs.Option.{MatchOption, option_map, option_map_or};
 ghost use Rattle.hands.specs.Ops.{content_at};
-ghost use Rattle.hands.specs.Hands.{empty_hand, buffer_at, with_buffer, inode_at, with_inode, reference_at, with_first, with_reference, with_txn, inode_in, no_inode, recorded, with_record};
+ghost use Rattle.hands.specs.Hands.{empty_hand, HasNothing, buffer_at, with_buffer, inode_at, with_inode, reference_at, with_first, with_reference, with_txn, inode_in, no_inode, recorded, with_record};
 
 use crate::queue::Queue;
 use atomic_programs::machines::put;
@@ -204,6 +204,32 @@ impl Hand {
         }
     }
 
+    /// Ends it with nothing in it.
+    pub fn end(self)
+        requires { HasNothing self }
+    {
+        let Hand {
+            txn,
+            first,
+            second,
+            one,
+            two,
+            to_one,
+            to_two,
+            listed,
+            numbers: _,
+            count: _,
+        } = self;
+        end_none(txn);
+        end_none(first);
+        end_none(second);
+        end_none(one);
+        end_none(two);
+        end_none(to_one);
+        end_none(to_two);
+        listed.end();
+    }
+
     /// Ends it in mid-call, after all that harts share has ended.
     pub fn retire(self, retired: &RetiredCore) {
         let Hand {
@@ -267,6 +293,16 @@ fn set_record(place: &mut Option<Guard<Inode>>, inode: Dinode)
     match place {
         Some(guard) => guard.value_mut().content = Some(inode),
         None => unreachable!(),
+    }
+}
+
+// Nothing stands in a place.
+fn end_none<T>(place: Option<T>)
+    requires { place ≡ None }
+{
+    match place {
+        None => {}
+        Some(_) => unreachable!(),
     }
 }
 

@@ -67,6 +67,17 @@ impl Queue {
         mem::replace(&mut self.first, next)
     }
 
+    /// Ends an empty one.
+    pub(crate) fn end(self)
+        requires { self ≡ [] }
+    {
+        let Queue { first, others } = self;
+        match first {
+            None => others.end(),
+            Some(_) => unreachable!(),
+        }
+    }
+
     /// Ends a queue in mid-call, after all that harts share has ended.
     pub(crate) fn retire(self, retired: &RetiredCore) {
         let Queue { first, others } = self;
