@@ -104,8 +104,8 @@ impl TakePart {
             TakePart::Locking(query, lock) => match lock.next(answer, hand) {
                 None => false,
                 Some(seat) => match look(*query, seat, notes, hand) {
-                    Begun::Is(is) => {
-                        *heard = is;
+                    Begun::Is(seen) => {
+                        *heard = seen;
                         true
                     }
                     Begun::Runs(part) => {

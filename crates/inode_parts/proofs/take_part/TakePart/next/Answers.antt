@@ -128,7 +128,7 @@ returns-in-Is-clause-leaves c n looking start before =
     let h = c.next.new.hand in
     let m = c.args.notes.now in
     let m2 = c.look.new.notes in
-    let x = c.in-Is.heard in
+    let x = c.in-Is.seen in
     let ends = c.in-Some.ensures.ends in
     rw c.in-Locking.is (λ amid ready after.
     let same = c.in-Some.ensures.beside before ready.0 after in

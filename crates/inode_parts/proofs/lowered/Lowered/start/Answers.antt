@@ -1,0 +1,60 @@
+use Rattle.std.proofs.Common.{ℕ, List, [], sym, subst, ap, ◌∙◌}
+use Rattle.inode_machine.specs.Programs.{program}
+use Rattle.whole_calls.specs.Asks.{op_in}
+use Rattle.whole_calls.specs.Wholes.{WholeFits, text_in, whole_of}
+use Rattle.inode_parts.specs.Calls.{HasOnePath, IsOnWay}
+use Rattle.inode_parts.specs.Carries.{carry_in}
+use Rattle.inode_parts.specs.InodeParts.{part_left, PartTold}
+use Rattle.inode_parts.specs.Leaving.{having}
+use Rattle.inode_parts.specs.Parts.{IsPart, with_part}
+use Rattle.inode_parts.proofs.Lowering.{new_is}
+use Rattle.inode_parts.proofs.OnWay.{begins_now, first_runs, stands_now, told_now, way_now}
+use Rattle.inode_parts.proofs.lowered.Lowered.start.Goals as goal
+
+pub begin-requires : goal.begin-requires
+begin-requires c =
+    let w = c.new.result in
+    let s = having c.args.hand.now c.new-self.result in
+    let runs = first_runs c.args.call w s c.requires.path c.new.ensures.call c.new.ensures.program c.requires.runs c.requires.empty in
+    let named = c.ask-ask.ensures.named [] c.new.ensures.fits in
+    let asked = c.ask-ask.ensures.asks [] in
+    let read = c.text.ensures in
+    record {
+      sizes = c.requires.sizes;
+      begins = begins_now w [] s c.ask-ask.result c.text.result.now read named asked runs;
+      stands = stands_now w [] s c.ask-ask.result c.text.result.now read named asked runs;
+      told = told_now w [] s c.ask-ask.result c.text.result.now read named asked runs;
+    }
+
+pub returns-clause-program : goal.returns-clause-program
+returns-clause-program c =
+    let w = c.new.result in
+    let sizes = c.args.sizes.now in
+    let m = c.new-self.result in
+    let h = c.args.hand.now in
+    let a = c.ask-ask.result in
+    let q = c.begin.new.self in
+    let g = c.begin.new.hand in
+    let path = text_in w in
+    let is = subst (λ (t : List ℕ). IsPart sizes (carry_in t m h) (op_in t a) (part_left t m q g)) c.text.ensures c.begin.ensures.part in
+    let whole = new_is sizes path m h (whole_of [] w) (program c.args.call) (op_in path a) (part_left path m q g) c.requires.empty c.new.ensures.program (c.ask-ask.ensures.asks []) is in
+    ap (λ (ns : List ℕ). with_part sizes (part_left path m q g) (whole_of ns w)) c.clear.ensures ∙ whole
+
+pub returns-clause-ready : goal.returns-clause-ready
+returns-clause-ready c =
+    let w = c.new.result in
+    let m = c.new-self.result in
+    let s = having c.args.hand.now m in
+    let q = c.begin.new.self in
+    let t = having c.begin.new.hand m in
+    let runs = first_runs c.args.call w s c.requires.path c.new.ensures.call c.new.ensures.program c.requires.runs c.requires.empty in
+    let named = c.ask-ask.ensures.named [] c.new.ensures.fits in
+    let way = way_now w [] s c.ask-ask.result c.text.result.now c.text.ensures named (c.ask-ask.ensures.asks []) runs q t c.begin.ensures.under in
+    record {
+      sized = c.requires.sizes;
+      one = subst HasOnePath (sym c.new.ensures.call) c.requires.path;
+      fits = subst (λ (ns : List ℕ). WholeFits ns w) (sym c.clear.ensures) c.new.ensures.fits;
+      ready = c.begin.ensures.ready;
+      told = subst (λ (t : List ℕ). PartTold t q) c.text.ensures c.begin.ensures.told;
+      way = subst (λ (ns : List ℕ). IsOnWay (text_in w) (whole_of ns w) q t) (sym c.clear.ensures) way;
+    }
