@@ -1,3 +1,4 @@
 pub mod Asking
 pub mod PartReadings
 pub mod PartWritings
+pub mod HasOnes

@@ -1,3 +1,4 @@
 pub mod Ends
 pub mod Goings
 pub mod Lookings
+pub mod HasOnes

@@ -3,3 +3,4 @@ pub mod Performing
 pub mod Stepping
 pub mod Going
 pub mod Dying
+pub mod HasOnes

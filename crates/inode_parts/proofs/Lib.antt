@@ -33,3 +33,4 @@ pub mod Amid
 pub mod UnderWay
 pub mod OnWay
 pub mod Dups
+pub mod HasOnes
