@@ -1,11 +1,12 @@
 -- What a call in code asks and hears, in the words of the machine of whole inodes.
-use Rattle.std.specs.Prelude.{ℕ, Bool, true, false, List, [], take, Option, Some, None}
+use Rattle.std.specs.Prelude.{◌≤◌, ℕ, ◌*◌, Bool, true, false, List, [], length, take, Option, Some, None}
 use Rattle.std.specs.Option.{option_map}
 use Rattle.plain_tree.specs.declared.step.Action.{Action}
 use Rattle.plain_tree.specs.declared.step.Action.TheVariants as steps
 use Rattle.plain_tree.specs.declared.answer.Cause.{Cause}
 use Rattle.plain_tree.specs.declared.answer.Cause.TheVariants.{BadDescriptor}
 use Rattle.plain_tree.specs.Calls.{piece}
+use Rattle.plain_tree.specs.Widths.{piece_len}
 use Rattle.plain_tree.specs.declared.answer.Reply.{Reply}
 use Rattle.plain_tree.specs.declared.answer.Answer.{Answer as CallAnswer}
 use Rattle.plain_tree.specs.declared.call.Call.{Call}
@@ -96,9 +97,12 @@ IsSought path query.Nothing = Unit {0}
 IsSought path (query.Name e) = IsElement path e
 IsSought path query.Entries = Unit {0}
 
+-- .. a piece begins within the bytes, and nothing is read into them
 abbrev pub IsNamed : List ℕ → Ask → Type 0
 IsNamed path (ask.Take n q) = IsSought path q
 IsNamed path (ask.Enter d e n) = IsElement path e
+IsNamed path (ask.ReadFile fd n offset count) = ⊥
+IsNamed path (ask.WriteFile fd n offset i) = piece_len * i ≤ length path
 IsNamed path a = Unit {0}
 
 -- ---- what is heard

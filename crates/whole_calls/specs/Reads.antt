@@ -7,7 +7,9 @@ use Rattle.plain_tree.specs.declared.call.Call.TheVariants as calls
 use Rattle.inode_machine.specs.World.{LocksIt}
 use Rattle.inode_machine.specs.Parts.{P, say}
 use Rattle.inode_machine.specs.Descriptors.{read_on, read_program}
-use Rattle.whole_calls.specs.Asks.{count_in, reply_to}
+use Rattle.whole_calls.specs.Asks.{count_in, reply_to, IsNamed}
+use Rattle.whole_calls.specs.declared.asks.Ask.{Ask}
+use Rattle.whole_calls.specs.declared.asks.Ask.TheVariants as ask
 use Rattle.whole_calls.specs.declared.asks.Heard.{Heard}
 use Rattle.whole_calls.specs.declared.asks.Turn.{Turn}
 use Rattle.whole_calls.specs.declared.asks.Turn.TheVariants as turn
@@ -24,6 +26,16 @@ abbrev pub FilledFrom : List ℕ → List ℕ → Read → Heard → Type 0
 FilledFrom old new reading.Lock x = new ≡ old
 FilledFrom old new (reading.Part n offset) x = new ≡ take (count_in x) new ++ drop (count_in x) old
 FilledFrom old new (reading.Says count) x = new ≡ old
+
+-- where a part is to be read, as much of it is asked as the buffer has room for
+abbrev pub ReadAsks : List ℕ → Read → Ask → Type 0
+ReadAsks buffer (reading.Part n offset) (ask.ReadFile fd m at count) = count ≡ length buffer
+ReadAsks buffer c a = IsNamed buffer a
+
+-- no more is read then than that
+abbrev pub HasRoomIn : List ℕ → Read → Heard → Type 0
+HasRoomIn buffer (reading.Part n offset) x = count_in x ≤ length buffer
+HasRoomIn buffer c x = Unit {0}
 
 abbrev pub ReadFits : List ℕ → Read → Type 0
 ReadFits buffer reading.Lock = Unit {0}

@@ -8,14 +8,15 @@ use Rattle.plain_tree.specs.declared.call.Call.TheVariants as calls
 use Rattle.plain_tree.specs.declared.step.Action.{Action}
 use Rattle.plain_tree.specs.declared.step.Action.TheVariants as steps
 use Rattle.inode_machine.specs.Parts.{P}
-use Rattle.whole_calls.specs.Asks.{count_in, stepped}
+use Rattle.whole_calls.specs.Asks.{stepped, IsNamed}
 use Rattle.whole_calls.specs.Calls.{Fits, chdir_of, chdir_stage, dup_of, most_listed, stat_of, unlink_of, unlink_stage}
 use Rattle.whole_calls.specs.Closes.{close_of, inherit_of}
 use Rattle.whole_calls.specs.Links.{LinkFits, link_action, link_of, link_stage, link_text}
 use Rattle.whole_calls.specs.Makes.{mkdir_of, mkdir_stage}
 use Rattle.whole_calls.specs.Opens.{open_of, open_stage}
-use Rattle.whole_calls.specs.Reads.{ReadFits, read_of}
+use Rattle.whole_calls.specs.Reads.{HasRoomIn, ReadAsks, ReadFits, read_of}
 use Rattle.whole_calls.specs.Writes.{WriteFits, write_of}
+use Rattle.whole_calls.specs.declared.asks.Ask.{Ask}
 use Rattle.whole_calls.specs.declared.asks.Heard.{Heard}
 use Rattle.whole_calls.specs.declared.whole.Whole.{Whole}
 use Rattle.whole_calls.specs.declared.whole.Whole.TheVariants as whole
@@ -23,7 +24,7 @@ use Rattle.whole_calls.specs.declared.whole.Whole.TheVariants as whole
 -- what is left of it, where its list is this
 abbrev pub whole_of : List ℕ → Whole → P Reply
 whole_of ns (whole.Open path flags c) = open_of path flags ns c
-whole_of ns (whole.Read fd buf c) = read_of fd buf c
+whole_of ns (whole.Read fd buf c) = read_of fd buf.items c
 whole_of ns (whole.Write fd bytes c) = write_of fd bytes c
 whole_of ns (whole.Link old new c) = link_of old new ns c
 whole_of ns (whole.Unlink path c) = unlink_of path ns c
@@ -36,7 +37,7 @@ whole_of ns (whole.Inherit child c) = inherit_of child c
 
 abbrev pub call_in : Whole → Call
 call_in (whole.Open path flags c) = calls.Open path flags
-call_in (whole.Read fd buf c) = calls.Read fd buf
+call_in (whole.Read fd buf c) = calls.Read fd buf.items
 call_in (whole.Write fd bytes c) = calls.Write fd bytes
 call_in (whole.Link old new c) = calls.Link old new
 call_in (whole.Unlink path c) = calls.Unlink path
@@ -50,7 +51,7 @@ call_in (whole.Inherit child c) = calls.Inherit child
 -- the path in which its names stand, or its bytes
 abbrev pub text_in : Whole → List ℕ
 text_in (whole.Open path flags c) = path
-text_in (whole.Read fd buf c) = buf
+text_in (whole.Read fd buf c) = buf.items
 text_in (whole.Write fd bytes c) = bytes
 text_in (whole.Link old new c) = link_text old new c
 text_in (whole.Unlink path c) = path
@@ -64,7 +65,7 @@ text_in (whole.Inherit child c) = []
 -- the tree step of which its next mark is
 abbrev pub action_in : Whole → Action
 action_in (whole.Open path flags c) = steps.Open path flags
-action_in (whole.Read fd buf c) = steps.Read fd (length buf)
+action_in (whole.Read fd buf c) = steps.Read fd (length buf.items)
 action_in (whole.Write fd bytes c) = steps.WritePart fd bytes
 action_in (whole.Link old new c) = link_action old new c
 action_in (whole.Unlink path c) = steps.Unlink path
@@ -85,7 +86,7 @@ IsPath path = All (λ b. b ≢ 0) path
 
 abbrev pub WholeFits : List ℕ → Whole → Type 0
 WholeFits ns (whole.Open path flags c) = IsPath path × Fits path ns (open_stage c)
-WholeFits ns (whole.Read fd buf c) = (length buf < 2 ^ 31) × ReadFits buf c
+WholeFits ns (whole.Read fd buf c) = (length buf.items < 2 ^ 31) × ReadFits buf.items c
 WholeFits ns (whole.Write fd bytes c) = (length bytes < 2 ^ 31) × WriteFits bytes c
 WholeFits ns (whole.Link old new c) = IsPath old × IsPath new × LinkFits old new ns (link_stage c)
 WholeFits ns (whole.Unlink path c) = IsPath path × Fits path ns (unlink_stage c)
@@ -96,10 +97,24 @@ WholeFits ns (whole.Fstat fd c) = Unit {0}
 WholeFits ns (whole.Close fd c) = Unit {0}
 WholeFits ns (whole.Inherit child c) = Unit {0}
 
+-- what it asks stands in its text: a read alone asks to read
+abbrev pub WholeAsks : Whole → Ask → Type 0
+WholeAsks (whole.Read fd buf c) a = ReadAsks buf.items c a
+WholeAsks (whole.Open path flags c) a = IsNamed path a
+WholeAsks (whole.Write fd bytes c) a = IsNamed bytes a
+WholeAsks (whole.Link old new c) a = IsNamed (link_text old new c) a
+WholeAsks (whole.Unlink path c) a = IsNamed path a
+WholeAsks (whole.Mkdir path c) a = IsNamed path a
+WholeAsks (whole.Chdir path c) a = IsNamed path a
+WholeAsks (whole.Dup fd c) a = IsNamed [] a
+WholeAsks (whole.Fstat fd c) a = IsNamed [] a
+WholeAsks (whole.Close fd c) a = IsNamed [] a
+WholeAsks (whole.Inherit child c) a = IsNamed [] a
+
 -- no more is read than the buffer has
 abbrev pub HasRoomFor : Heard → Whole → Type 0
 HasRoomFor x (whole.Open path flags c) = Unit {0}
-HasRoomFor x (whole.Read fd buf c) = count_in x ≤ length buf
+HasRoomFor x (whole.Read fd buf c) = HasRoomIn buf.items c x
 HasRoomFor x (whole.Write fd bytes c) = Unit {0}
 HasRoomFor x (whole.Link old new c) = Unit {0}
 HasRoomFor x (whole.Unlink path c) = Unit {0}

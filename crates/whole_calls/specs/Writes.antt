@@ -1,6 +1,6 @@
 -- What is left of a write.
-use Rattle.std.specs.Prelude.{◌≡◌, ◌<◌, ◌^◌, ℕ, zero, suc, ◌+◌, List, []}
-use Rattle.plain_tree.specs.Calls.{piece}
+use Rattle.std.specs.Prelude.{◌≡◌, ℕ, zero, suc, ◌+◌, List, []}
+use Rattle.plain_tree.specs.Calls.{piece, piece_count}
 use Rattle.plain_tree.specs.declared.answer.Answer.{Answer as CallAnswer}
 use Rattle.plain_tree.specs.declared.answer.Reply.{Reply}
 use Rattle.plain_tree.specs.declared.call.Call.TheVariants as calls
@@ -33,17 +33,17 @@ module _ (fd : ℕ) (bytes : List ℕ) where
   write_of (writing.JoinNext p) = Do Join unmarked (λ _. write_from fd p.number bytes p.more p.index)
   write_of (writing.Says a) = say (reply_to (calls.Write fd bytes) a)
 
--- its pieces are numbered
-abbrev pub few : Piece → Type 0
-few p = p.index + p.more < 2 ^ 32
+-- it is one of theirs, with so many behind it
+abbrev pub IsPieceOf : List ℕ → Piece → Type 0
+IsPieceOf bytes p = p.index + p.more + 1 ≡ piece_count bytes
 
 abbrev pub WriteFits : List ℕ → Write → Type 0
 WriteFits bytes writing.Check = bytes ≡ []
 WriteFits bytes writing.Join = Unit {0}
-WriteFits bytes (writing.Lock p) = few p
-WriteFits bytes (writing.Part p n offset) = few p
-WriteFits bytes (writing.Leave p w) = few p
-WriteFits bytes (writing.JoinNext p) = few p
+WriteFits bytes (writing.Lock p) = IsPieceOf bytes p
+WriteFits bytes (writing.Part p n offset) = IsPieceOf bytes p
+WriteFits bytes (writing.Leave p w) = IsPieceOf bytes p
+WriteFits bytes (writing.JoinNext p) = IsPieceOf bytes p
 WriteFits bytes (writing.Says a) = Unit {0}
 
 abbrev pub WriteFitsOn : List ℕ → Turn Write CallAnswer → Type 0

@@ -1,10 +1,10 @@
 //! read: the inode is locked, then a part read, and the offset moves; or the descriptor isn't for that.
-ghost use Rattle.std.specs.Prelude.{◌≡◌, ◌≤◌, ◌<◌, ◌^◌, ℕ, [], List, Option, Some, length, false};
+ghost use Rattle.std.specs.Prelude.{◌≡◌, ◌<◌, ◌^◌, ℕ, [], List, Option, Some, length, false};
 ghost use Rattle.plain_tree.specs.declared.call.Call.TheVariants as calls;
 ghost use Rattle.plain_tree.specs.declared.step.Action.TheVariants as steps;
-ghost use Rattle.whole_calls.specs.Asks.{asks, hears, mark_at, marked_as, op_in, stepped, turned, count_in, IsNamed};
+ghost use Rattle.whole_calls.specs.Asks.{asks, hears, mark_at, marked_as, op_in, stepped, turned};
 ghost use Rattle.inode_machine.specs.Descriptors.{read_program};
-ghost use Rattle.whole_calls.specs.Reads.{FilledFrom, ReadFits, ReadFitsOn, read_of};
+ghost use Rattle.whole_calls.specs.Reads.{FilledFrom, HasRoomIn, ReadAsks, ReadFits, ReadFitsOn, read_of};
 
 use crate::asks::{Ask, Heard, Locked, Mark, Turn};
 use plain_tree::Answer;
@@ -27,7 +27,7 @@ impl Read {
 
     pub fn ask(&self, fd: u32, buffer: &[u8]) -> Ask
         ensures asks { (text : List ℕ) → asks (read_of fd buffer.now self.now) ≡ Some (op_in text result) }
-        ensures named { (path : List ℕ) → IsNamed path result }
+        ensures named { ReadAsks buffer.now self.now result }
     {
         match self {
             Read::Lock => Ask::LockFile(fd),
@@ -40,7 +40,7 @@ impl Read {
     pub fn next(self, heard: &Heard, buffer: &[u8]) -> Turn<Read, Answer>
         requires short { length buffer.now < 2 ^ 31 }
         requires fits { ReadFits buffer.now self }
-        requires count { count_in heard.now ≤ length buffer.now }
+        requires count { HasRoomIn buffer.now self heard.now }
         ensures goes { (fd : ℕ) (old : List ℕ) → FilledFrom old buffer.now self heard.now → hears buffer.now (read_of fd old self) heard.now ≡ turned (read_of fd buffer.now) (calls.Read fd buffer.now) result }
         ensures fits { ReadFitsOn buffer.now result }
     {
@@ -59,7 +59,7 @@ impl Read {
     pub fn step(&mut self, heard: &Heard, buffer: &[u8], says: &mut Answer) -> bool
         requires short { length buffer.now < 2 ^ 31 }
         requires fits { ReadFits buffer.now self.old }
-        requires count { count_in heard.now ≤ length buffer.now }
+        requires count { HasRoomIn buffer.now self.old heard.now }
         ensures goes { (fd : ℕ) (old : List ℕ) → FilledFrom old buffer.now self.old heard.now → hears buffer.now (read_of fd old self.old) heard.now ≡ stepped (read_of fd buffer.now self.new) (calls.Read fd buffer.now) says.new result }
         ensures fits { result ≡ false → ReadFits buffer.now self.new }
     {

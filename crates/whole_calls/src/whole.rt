@@ -1,9 +1,9 @@
 //! A call under way over whole inodes, whichever it is.
 ghost use Rattle.std.specs.Prelude.{◌≡◌, ◌≤◌, ℕ, [], List, Option, Some, length, false};
 ghost use Rattle.plain_tree.specs.declared.call.Call.{Call};
-ghost use Rattle.whole_calls.specs.Asks.{asks, count_in, hears, mark_at, marked_as, op_in, reply_to, IsNamed};
+ghost use Rattle.whole_calls.specs.Asks.{asks, hears, mark_at, marked_as, op_in, reply_to};
 ghost use Rattle.inode_machine.specs.Programs.{program};
-ghost use Rattle.whole_calls.specs.Wholes.{HasRoomFor, IsCall, WholeFits, action_in, call_in, text_in, went_to, whole_of};
+ghost use Rattle.whole_calls.specs.Wholes.{HasRoomFor, IsCall, WholeAsks, WholeFits, action_in, call_in, text_in, went_to, whole_of};
 
 use crate::asks::{Ask, Heard, Mark};
 use crate::chdir::Chdir;
@@ -22,7 +22,7 @@ use plain_tree::{Answer, Bytes, Call, Reply};
 #[derive(Drop)]
 pub enum Whole {
     Open { path: Bytes, flags: u32, at: Open },
-    Read { fd: u32, buf: Bytes, at: Read },
+    Read { fd: u32, buf: Vec<u8>, at: Read },
     Write { fd: u32, bytes: Bytes, at: Write },
     Link { old: Bytes, new: Bytes, at: Link },
     Unlink { path: Bytes, at: Unlink },
@@ -48,6 +48,7 @@ impl Whole {
                 Whole::Open { path, flags, at }
             }
             Call::Read { fd, buf } => {
+                let buf = buf.into_vec();
                 let at = Read::new();
                 Whole::Read { fd, buf, at }
             }
@@ -94,7 +95,7 @@ impl Whole {
     #[inline(always)]
     pub fn ask(&self) -> Ask
         ensures asks { (list : List ℕ) → asks (whole_of list self.now) ≡ Some (op_in (text_in self.now) result) }
-        ensures named { (list : List ℕ) → WholeFits list self.now → IsNamed (text_in self.now) result }
+        ensures named { (list : List ℕ) → WholeFits list self.now → WholeAsks self.now result }
     {
         match self {
             Whole::Open { path, flags, at } => return at.ask(path.as_slice(), *flags),
@@ -191,7 +192,10 @@ impl Whole {
     {
         let call = match self {
             Whole::Open { path, flags, at: _ } => Call::Open { path, flags },
-            Whole::Read { fd, buf, at: _ } => Call::Read { fd, buf },
+            Whole::Read { fd, buf, at: _ } => Call::Read {
+                fd,
+                buf: Bytes::new(buf),
+            },
             Whole::Write { fd, bytes, at: _ } => Call::Write { fd, bytes },
             Whole::Link { old, new, at: _ } => Call::Link { old, new },
             Whole::Unlink { path, at: _ } => Call::Unlink { path },

@@ -4,6 +4,7 @@ use Rattle.whole_calls.specs.Calls.{Fits, chdir_stage, unlink_stage}
 use Rattle.whole_calls.specs.Links.{LinkFits, link_stage, link_text}
 use Rattle.whole_calls.specs.Makes.{mkdir_stage}
 use Rattle.whole_calls.specs.Opens.{open_stage}
+use Rattle.whole_calls.specs.Reads.{ReadAsks}
 use Rattle.whole_calls.proofs.whole.Whole.ask.Goals as goal
 
 pub returns-in-Open-clause-named : goal.returns-in-Open-clause-named
@@ -12,7 +13,9 @@ returns-in-Open-clause-named c list =
     rw c.in-Open.is (λ fits. subst (λ (path : List ℕ). IsNamed path c.ask.result) e (c.ask.ensures.named list (subst (λ (path : List ℕ). Fits path list (open_stage c.in-Open.at)) (sym e) fits.1)))
 
 pub returns-in-Read-clause-named : goal.returns-in-Read-clause-named
-returns-in-Read-clause-named c list = rw c.in-Read.is (λ fits. c.ask-in-Read.ensures.named c.in-Read.buf)
+returns-in-Read-clause-named c list =
+    let e = c.as_slice-in-Read.ensures.value in
+    rw c.in-Read.is (λ fits. subst (λ (buffer : List ℕ). ReadAsks buffer c.in-Read.at c.ask-in-Read.result) e c.ask-in-Read.ensures.named)
 
 pub returns-in-Link-clause-named : goal.returns-in-Link-clause-named
 returns-in-Link-clause-named c list =

@@ -1,4 +1,8 @@
+use Rattle.std.proofs.Common.{ℕ, List, length, sym, subst}
+use Rattle.std.specs.Prelude.{◌<◌, ◌^◌}
 use Rattle.whole_calls.proofs.whole.Whole.new.Goals as goal
 
 pub returns-in-Read-clause-fits : goal.returns-in-Read-clause-fits
-returns-in-Read-clause-fits c = let short = rw c.in-Read.is at c.requires in (short, c.new-at-in-Read.ensures.fits _)
+returns-in-Read-clause-fits c =
+    let short = rw c.in-Read.is at c.requires in
+    (subst (λ (bytes : List ℕ). length bytes < 2 ^ 31) (sym c.into_vec-buf.ensures) short, c.new-at-in-Read.ensures.fits _)
