@@ -50,7 +50,7 @@ module _ (path : List ℕ) where
   has_opened : (t : Around) (fd n offset : ℕ) (s : Having) → InHand t (Opens n) Nothing s → LearnsFile fd n offset s → HasOpened fd n offset s
   has_opened t fd n offset s held learned =
       let at = at_its_lock t Nothing s s n tt (Opens n) held.0 held.1 held.1.here.1 in
-      (lock_found t Nothing s s n tt (Opens n) held.0 held.1 held.1.here.1, at.here.2, at.buffers, learned)
+      (lock_found t Nothing s s n tt (Opens n) held.0 held.1 held.1.here.1, at.here.2, at.buffers, learned, at.there.1)
 
   -- .. and is given up
   gives : (t : Around) (n : ℕ) (s u : Having) → InHand t (Opens n) Nothing s → Leaves path (above.Give n) tt s u → InHand t Nothing Nothing u

@@ -26,6 +26,10 @@ pub mod Searched
 pub mod Takes
 pub mod Relocks
 pub mod Taking
+pub mod Fillings
+pub mod LockedFiles
+pub mod FileReads
+pub mod FileWrites
 pub mod Goings
 pub mod StepLeaves
 pub mod Lowering

@@ -13,7 +13,7 @@ use Rattle.inode_machine.specs.World as above
 use Rattle.whole_calls.specs.Wholes.{IsCall}
 use Rattle.inode_parts.specs.Carries.{note_at}
 use Rattle.inode_parts.specs.Clears.{HasFound}
-use Rattle.inode_parts.specs.OneSteps.{Begins, HasFreeSeat, HasLock, HasReference, IsAlone, seat_of_lock, seat_of_reference}
+use Rattle.inode_parts.specs.OneSteps.{Begins, HasFreeSeat, HasLock, HasReference, IsAlone, other, seat_of_lock, seat_of_reference}
 use Rattle.inode_parts.specs.Relocks.{MayRelock}
 use Rattle.inode_parts.specs.declared.note.Note.TheVariants as note
 use Rattle.inode_parts.specs.Holding.{Having, Runs}
@@ -30,10 +30,10 @@ MayLock n h = HasReference n h × (inode_at (seat_of_reference n h) h ≡ None) 
 abbrev pub MayOpen : Hand → Type 0
 MayOpen h = (h.one ≡ None) × (h.two ≡ None) × HasNoBuffer h
 
--- the lock of the inode that this descriptor names is in hand, and its file stands there
+-- the lock of the inode that this descriptor names is in hand, and no other, and its file stands there
 abbrev pub HasOpened : (fd n offset : ℕ) → Having → Type 0
 HasOpened fd n offset s = HasLock n s.hand × IsLoadedAt (seat_of_lock n s.hand) s.hand × HasNoBuffer s.hand
-    × (note_at (seat_of_lock n s.hand) s.notes ≡ note.Opened fd offset)
+    × (note_at (seat_of_lock n s.hand) s.notes ≡ note.Opened fd offset) × (inode_at (other (seat_of_lock n s.hand)) s.hand ≡ None)
 
 abbrev pub BeginsWith : List ℕ → above.Op → Having → Type 0
 BeginsWith path (above.Take n looking) s = MayLock n s.hand ⊎ (MayRelock n s.hand × (looking ≡ AtNothing))

@@ -16,10 +16,13 @@ pub mod Faces
 pub mod FileStats
 pub mod Takes
 pub mod Relocks
-pub mod InodeParts
 pub mod Holding
 pub mod Leaving
+pub mod Expecting
+pub mod LockedFiles
+pub mod FileReads
+pub mod FileWrites
+pub mod InodeParts
 pub mod Coming
 pub mod UnderWay
-pub mod Expecting
 pub mod Calls

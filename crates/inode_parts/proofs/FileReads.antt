@@ -1,0 +1,142 @@
+-- A part of an open file read: it is a part, and goes on.
+use Rattle.std.proofs.Common.{◌≡◌, ℕ, ◌+◌, ◌-◌, ◌<◌, ◌≤◌, List, [], ◌++◌, length, take, drop, Option, Some, None, refl, sym, ap, subst, ◌∙◌, arith}
+use Rattle.std.specs.Prelude.{◌^◌}
+use Rattle.std.proofs.Math.Seq.{take-append_seam}
+use Rattle.std.proofs.Math.ListN.{drop_of_length-le}
+use Rattle.std.proofs.lemmas.List.{append-nil}
+use Rattle.plain_tree.specs.declared.answer.Reply.{Reply}
+use Rattle.plain_tree.specs.Tree.{put}
+use Rattle.fs_layout.specs.declared.inode.Dinode.{Dinode}
+use Rattle.fs_layout.specs.declared.superblock.Super.{Super}
+use Rattle.atomic_programs.specs.Prog.{Ret, Do, bind, plain, unmarked}
+use Rattle.atomic_programs.specs.Joined.{Handover}
+use Rattle.atomic_programs.proofs.Prog.{bind-assoc}
+use Rattle.fs_tables.specs.declared.inodes.Inode.{Inode}
+use Rattle.fs_machine.specs.Machines as code
+use Rattle.fs_machine.specs.Steps as steps
+use Rattle.inode_table.specs.Programs.{record_of}
+use Rattle.inode_data.specs.Programs.{FilledMemory, blocks_between, end_of, read_from}
+use Rattle.hands.specs.Controls.{Goes}
+use Rattle.hands.specs.Hands.{inode_at, inode_in, with_inode}
+use Rattle.hands.specs.declared.hand.Hand.{Hand}
+use Rattle.hand_controls.specs.HeldInodes.{record_in}
+use Rattle.hand_controls.proofs.Goings.{goes_with}
+use Rattle.content_parts.specs.InHand.{beside_buffers}
+use Rattle.content_parts.specs.PartReading.{filled_to, read_count, read_left, ReadReady}
+use Rattle.content_parts.specs.declared.read_part.ReadPart.{ReadPart}
+use Rattle.content_parts.specs.declared.read_part.ReadPart.TheVariants.{Fetching, Giving}
+use Rattle.inode_machine.specs.World as above
+use Rattle.inodes_on_blocks.specs.Files.{give_read}
+use Rattle.inodes_on_blocks.specs.Lowering.{Apart, Carry, nothing, record_had}
+use Rattle.inodes_on_blocks.specs.Storing.{record_in as record_of_carry}
+use Rattle.whole_calls.specs.declared.asks.Heard.TheVariants as heard
+use Rattle.inode_parts.specs.Carries.{carry_in, handed}
+use Rattle.inode_parts.specs.FileReads.{filled, read_file_left, read_over, FillsFrom, MayMove}
+use Rattle.inode_parts.specs.LockedFiles.{moved}
+use Rattle.inode_parts.specs.OneSteps.{HasLock, other, seat_of_lock}
+use Rattle.inode_parts.specs.Parts.{answer_by, IsPart, Message, Part}
+use Rattle.inode_parts.specs.declared.locked_file.LockedFile.{LockedFile}
+use Rattle.inode_parts.specs.declared.note.Notes.{Notes}
+use Rattle.inode_parts.specs.declared.read_file_part.ReadFilePart.TheVariants.{Reading, Ending}
+use Rattle.inode_parts.proofs.Begins.{lock_is}
+use Rattle.inode_parts.proofs.Fillings.{blocks_fill, blocks_same, within}
+use Rattle.inode_parts.proofs.LockedFiles.{gone, gone_then, inode_still}
+
+-- ---- it is a part
+
+alone_so : (b : List ℕ) → b ++ drop (length b) [] ≡ b
+alone_so b = (λ i. b ++ drop_nil (length b) i) ∙ append-nil b
+  where
+    drop_nil : (n : ℕ) → drop {A = ℕ} n [] ≡ []
+    drop_nil n = drop_of_length-le [] (let none : 0 ≤ n = omega arith in none)
+
+module _ (sizes : Super) (text : List ℕ) (m : Notes) (n fd offset count : ℕ) (h : Hand) (has : HasLock n h) (only : inode_at (other (seat_of_lock n h)) h ≡ None) where
+  abbrev c : Carry
+  c = carry_in text m h
+
+  abbrev file : LockedFile
+  file = record { seat = seat_of_lock n h; fd = fd; offset = offset }
+
+  -- the handler's inode is that in hand
+  abbrev had : Inode
+  had = record { number = n; content = record_had (c n) }
+
+  abbrev over : Inode → FilledMemory → Part
+  over v x = moved file v (offset + x.count) x.bytes (heard.Read x.count)
+
+  abbrev answered : Handover Message Carry → code.P (Handover (List ℕ) Carry)
+  answered r = Ret (record { answer = answer_by (above.ReadFile fd n offset count) r.answer; carry = r.carry })
+
+  module _ (mark : List ℕ → Option above.Mark) where
+    ends_so : (b : List ℕ) → plain (give_read fd n offset count mark c (within [] b)) ≡ bind (over had (within text b)) answered
+    ends_so b = λ i.
+        Do (steps.Unlock had (Some (fd, offset + length b))) unmarked (λ _.
+        Ret (record { answer = (alone_so b ∙ sym (take-append_seam b (drop (length b) text))) i; carry = gone text m (seat_of_lock n h) h only n has.0 i }))
+
+    reads_so : plain (bind (read_from (record_of had) offset count []) (give_read fd n offset count mark c)) ≡ bind (bind (read_from (record_of had) offset count text) (over had)) answered
+    reads_so =
+        blocks_same [] text (give_read fd n offset count mark c) (λ x. bind (over had x) answered) ends_so (blocks_between offset (end_of (record_of had) offset count)) (record_of had) offset (end_of (record_of had) offset count) []
+        ∙ sym (bind-assoc (read_from (record_of had) offset count text) (over had) answered)
+
+  pub read_is_part : (f : LockedFile) (q : code.P FilledMemory) → f ≡ file → q ≡ read_from (record_in f.seat h) offset count text → IsPart sizes c (above.ReadFile fd n offset count) (bind q (read_over f h))
+  read_is_part f q is program mark =
+      reads_so mark
+      ∙ (λ i. bind (bind (read_from (record_of (lock_is text m n h has.0 i)) offset count text) (over (lock_is text m n h has.0 i))) answered)
+      ∙ (λ i. bind (bind (read_from (record_in (sym is i).seat h) offset count text) (read_over (sym is i) h)) answered)
+      ∙ (λ i. bind (bind (sym program i) (read_over f h)) answered)
+
+  -- .. begun so, by what was learned
+  pub begun_is_part : (f : LockedFile) (d : Dinode) (q : Dinode → code.P FilledMemory) → f.seat ≡ seat_of_lock n h → f.fd ≡ fd → f.offset ≡ offset → d ≡ record_in f.seat h → q d ≡ read_from d f.offset count text
+      → IsPart sizes c (above.ReadFile fd n offset count) (bind (q (record_in f.seat h)) (read_over f h))
+  begun_is_part f d q seat by at is program =
+      read_is_part f (q (record_in f.seat h)) (λ i. record { seat = seat i; fd = by i; offset = at i })
+      (subst (λ (d : Dinode). q d ≡ read_from d offset count text) is (program ∙ ap (λ (from : ℕ). let p : code.P FilledMemory = read_from d from count text in p) at))
+
+-- what is read stands at the text's front
+pub read_fills : (text : List ℕ) (d : Dinode) (offset count : ℕ) (f : LockedFile) (h : Hand) (q : code.P FilledMemory) → q ≡ read_from d offset count text → FillsFrom text (bind q (read_over f h))
+read_fills text d offset count f h q program x y same =
+    subst (λ (q : code.P FilledMemory). bind (bind q (read_over f h)) x ≡ bind (bind q (read_over f h)) y) (sym program)
+    (bind-assoc (read_from d offset count text) (read_over f h) x
+    ∙ blocks_fill text (λ r. bind (read_over f h r) x) (λ r. bind (read_over f h r) y) ends (blocks_between offset (end_of d offset count)) d offset (end_of d offset count) []
+    ∙ sym (bind-assoc (read_from d offset count text) (read_over f h) y))
+  where
+    ends : (b : List ℕ) → bind (read_over f h (within text b)) x ≡ bind (read_over f h (within text b)) y
+    ends b = λ i. Do (steps.Unlock (inode_in f.seat h) (Some (f.fd, f.offset + length b))) unmarked (λ _. same b nothing i)
+
+pub begun_fills : (text : List ℕ) (count : ℕ) (f : LockedFile) (h : Hand) (d : Dinode) (q : Dinode → code.P FilledMemory) → d ≡ record_in f.seat h → q d ≡ read_from d f.offset count text → FillsFrom text (bind (q (record_in f.seat h)) (read_over f h))
+begun_fills text count f h d q is program =
+    read_fills text (record_in f.seat h) f.offset count f h (q (record_in f.seat h)) (subst (λ (d : Dinode). q d ≡ read_from d f.offset count text) is program)
+
+-- the file's offset has room for it
+pub may_move : (f : LockedFile) (d : Dinode) (count read : ℕ) → f.offset < 2 ^ 32 → read ≡ end_of d f.offset count - f.offset → MayMove f read
+may_move f d count read few is = omega arith
+
+-- ---- how it goes on
+
+-- there is room for what is read
+pub room_so : (bytes text : List ℕ) (p : ReadPart) (h : Hand) → read_count p ≤ length text → ReadReady bytes p h → ReadReady text p h
+room_so bytes text (Fetching r m) h room ready = (ready.0, room, ready.2)
+room_so bytes text (Giving r) h room ready = (ready.0, room, ready.2, ready.3)
+
+pub room_of : (bytes : List ℕ) (p : ReadPart) (h : Hand) → ReadReady bytes p h → read_count p ≤ length bytes
+room_of bytes (Fetching r m) h ready = ready.1
+room_of bytes (Giving r) h ready = ready.1
+
+module _ (text new : List ℕ) (f : LockedFile) (p : ReadPart) (before h : Hand) (answer : (o : steps.Op) → steps.Answer o) (same : beside_buffers tt h ≡ beside_buffers tt before) where
+  over_same : read_over f before ≡ read_over f h
+  over_same = λ i x. moved f (inode_still f.seat before h same i) (f.offset + x.count) x.bytes (heard.Read x.count)
+
+  goes_so : (r : code.P FilledMemory) → Goes (read_left (record_in f.seat h) text p before) answer r → Goes (read_file_left text (Reading f p) before) answer (bind r (read_over f h))
+  goes_so r goes =
+      goes_with (read_left (record_in f.seat before) text p before) r (read_over f before) (read_over f h) answer over_same
+      (subst (λ (v : Inode). Goes (read_left (record_of v) text p before) answer r) (sym (inode_still f.seat before h same)) goes)
+
+  pub read_on : (q : ReadPart) → Goes (read_left (record_in f.seat h) text p before) answer (read_left (record_in f.seat h) new q h) → Goes (read_file_left text (Reading f p) before) answer (read_file_left new (Reading f q) h)
+  read_on q goes = goes_so (read_left (record_in f.seat h) new q h) goes
+
+  pub read_ends : (count : ℕ) → Goes (read_left (record_in f.seat h) text p before) answer (Ret (filled_to count new)) → Goes (read_file_left text (Reading f p) before) answer (read_file_left new (Ending f count) h)
+  read_ends count goes = goes_so (Ret (filled_to count new)) goes
+
+pub read_gone : (text : List ℕ) (m : Notes) (f : LockedFile) (count : ℕ) (before h : Hand) (answer : (o : steps.Op) → steps.Answer o) → inode_at (other f.seat) before ≡ None → h ≡ with_inode f.seat None before
+    → Goes (read_file_left text (Ending f count) before) answer (Ret (handed text m (heard.Read count) h))
+read_gone text m f count before h answer only after = λ i. Ret (record { answer = (text, heard.Read count); carry = gone_then text m f.seat before h only after i })

@@ -1,0 +1,190 @@
+-- A piece of bytes written to an open file: it is a part, and goes on.
+use Rattle.std.proofs.Common.{◌≡◌, ℕ, ◌+◌, ◌-◌, ◌==◌, ◌≤◌, Bool, true, false, if◌then◌else◌, List, length, Option, Some, None, refl, sym, ap, subst, ◌∙◌, arith}
+use Rattle.std.specs.Prelude.{IsSome}
+use Rattle.std.specs.Option.{option_map}
+use Rattle.plain_tree.specs.Calls.{piece}
+use Rattle.plain_tree.specs.declared.answer.Cause.{Cause}
+use Rattle.plain_tree.specs.Tree.{put}
+use Rattle.fs_layout.specs.declared.inode.Dinode.{Dinode}
+use Rattle.fs_layout.specs.declared.superblock.Super.{Super}
+use Rattle.atomic_programs.specs.Prog.{Ret, Do, bind, plain, unmarked}
+use Rattle.atomic_programs.specs.Joined.{Handover}
+use Rattle.atomic_programs.proofs.Prog.{bind-assoc}
+use Rattle.sleep_lock.specs.SleepLock.{GuardState}
+use Rattle.fs_tables.specs.declared.inodes.Inode.{Inode}
+use Rattle.fs_machine.specs.Machines as code
+use Rattle.fs_machine.specs.Steps as steps
+use Rattle.inode_table.specs.Programs.{record_of, store as store_inode}
+use Rattle.inode_data.specs.Programs.{blocks_between}
+use Rattle.inode_data.specs.Writing.{WriteResult, grown, store_written, write_blocks, write_part}
+use Rattle.hands.specs.Controls.{Goes}
+use Rattle.hands.specs.Hands.{inode_at, inode_in, recorded, with_inode, with_record}
+use Rattle.hands.specs.declared.hand.Hand.{Hand}
+use Rattle.hands.specs.declared.hand.Seat.{Seat}
+use Rattle.hands.specs.declared.hand.Seat.TheVariants.{One, Two}
+use Rattle.hand_controls.specs.Emptying.{HasNoBuffer}
+use Rattle.hand_controls.specs.HeldInodes.{number_in, record_in, IsLoadedAt}
+use Rattle.hand_controls.proofs.Goings.{goes_to, goes_with, recorded-in}
+use Rattle.content_parts.specs.InHand.{beside_buffers}
+use Rattle.content_parts.specs.PartWriting.{write_left, written_as, WriteReady}
+use Rattle.content_parts.specs.declared.write_part.WritePart.{WritePart}
+use Rattle.content_parts.specs.declared.write_part.WritePart.TheVariants as write
+use Rattle.content_parts.specs.declared.write_part.Written.{Written}
+use Rattle.inode_machine.specs.World as above
+use Rattle.inodes_on_blocks.specs.Handlers.{Acts}
+use Rattle.inodes_on_blocks.specs.Lowering.{Apart, Carry, nothing, record_had}
+use Rattle.inodes_on_blocks.specs.Writing.{give_written, refused_in, write_unless, wrote_to}
+use Rattle.whole_calls.specs.Asks.{wrote_of}
+use Rattle.whole_calls.specs.declared.asks.Heard.TheVariants as heard
+use Rattle.whole_calls.specs.declared.asks.Wrote.{Wrote}
+use Rattle.whole_calls.specs.declared.asks.Wrote.TheVariants as wrote
+use Rattle.inode_parts.specs.Carries.{carry_in, handed}
+use Rattle.inode_parts.specs.FileWrites.{ended_as, write_done, write_file_left, write_over, wrote_upto, WriteFileReady}
+use Rattle.inode_parts.specs.LockedFiles.{moved}
+use Rattle.inode_parts.specs.OneSteps.{HasLock, other, seat_of_lock}
+use Rattle.inode_parts.specs.Parts.{answer_by, IsPart, Message, Part}
+use Rattle.inode_parts.specs.declared.locked_file.LockedFile.{LockedFile}
+use Rattle.inode_parts.specs.declared.note.Notes.{Notes}
+use Rattle.inode_parts.specs.declared.write_file_part.WriteFilePart.TheVariants.{Denied, Writing, Ending}
+use Rattle.inode_parts.proofs.Begins.{lock_is}
+use Rattle.inode_parts.proofs.LockedFiles.{gone, gone_then, inode_still}
+use Rattle.inode_parts.proofs.Plain.{plain_store}
+use Rattle.inode_parts.proofs.PlainContents.{plain_writes, then_plain}
+
+-- ---- it is a part
+
+plain_part : (sizes : Super) (n : ℕ) (d : Dinode) (offset : ℕ) (bytes : List ℕ) → plain (write_part {M = Acts} sizes n d offset bytes) ≡ write_part sizes n d offset bytes
+plain_part sizes n d offset bytes =
+    let count : ℕ = blocks_between offset (offset + length bytes) in
+    then_plain (write_blocks count sizes offset bytes d) (write_blocks count sizes offset bytes d) (store_written sizes n) (store_written sizes n) (plain_writes count sizes offset bytes d)
+    (λ w. then_plain (store_inode sizes.inodestart n (grown w)) (store_inode sizes.inodestart n (grown w)) (λ _. Ret (record { inode = grown w; upto = w.upto })) (λ _. Ret (record { inode = grown w; upto = w.upto })) (plain_store sizes.inodestart n (grown w)) (λ _. refl))
+
+heard_so : (offset : ℕ) (bytes : List ℕ) (upto : ℕ) → wrote_to offset bytes upto ≡ wrote_of (wrote_upto offset bytes upto)
+heard_so offset bytes upto = by (upto == offset + length bytes)
+  where
+    by : (b : Bool) → (if b then above.Whole else above.Short (upto - offset)) ≡ wrote_of (if b then wrote.Whole else wrote.Short (upto - offset))
+    by true = refl
+    by false = refl
+
+module _ (sizes : Super) (text : List ℕ) (m : Notes) (n fd offset : ℕ) (bytes : List ℕ) (h : Hand) (has : HasLock n h) (only : inode_at (other (seat_of_lock n h)) h ≡ None) where
+  abbrev c : Carry
+  c = carry_in text m h
+
+  abbrev file : LockedFile
+  file = record { seat = seat_of_lock n h; fd = fd; offset = offset }
+
+  -- the handler's inode is that in hand
+  abbrev had : Inode
+  had = record { number = n; content = record_had (c n) }
+
+  lock : had ≡ inode_in (seat_of_lock n h) h
+  lock = lock_is text m n h has.0
+
+  given_up : put c n Apart ≡ nothing
+  given_up = gone text m (seat_of_lock n h) h only n has.0
+
+  abbrev answered : Handover Message Carry → code.P (Handover above.Wrote Carry)
+  answered r = Ret (record { answer = answer_by (above.WriteFile fd n offset bytes) r.answer; carry = r.carry })
+
+  module _ (mark : above.Wrote → Option above.Mark) where
+    ends_so : (w : WriteResult) → plain (give_written fd n offset bytes mark c w) ≡ bind (write_over text file bytes n w) answered
+    ends_so w = λ i.
+        Do (steps.Unlock (record { number = n; content = Some w.inode }) (Some (fd, w.upto))) unmarked (λ _.
+        Ret (record { answer = heard_so offset bytes w.upto i; carry = given_up i }))
+
+    writes_so : (d : Dinode) → plain (bind (write_part sizes n d offset bytes) (give_written fd n offset bytes mark c)) ≡ bind (bind (write_part sizes n d offset bytes) (write_over text file bytes n)) answered
+    writes_so d =
+        then_plain (write_part sizes n d offset bytes) (write_part sizes n d offset bytes) (give_written fd n offset bytes mark c) (λ w. bind (write_over text file bytes n w) answered) (plain_part sizes n d offset bytes) ends_so
+        ∙ sym (bind-assoc (write_part sizes n d offset bytes) (write_over text file bytes n) answered)
+
+  module _ (k : Seat) (at : k ≡ seat_of_lock n h) where
+    record_is : record_of had ≡ record_in k h
+    record_is = ap record_of lock ∙ ap (λ (k : Seat). record_in k h) (sym at)
+
+    refused_so : (o : Option Cause) → refused_in (record_in k h) offset bytes ≡ o → refused_in (record_of had) offset bytes ≡ o
+    refused_so o e = ap (λ (d : Dinode). refused_in d offset bytes) record_is ∙ e
+
+  pub write_is_part : (f : LockedFile) (q : code.P WriteResult) → f ≡ file → refused_in (record_in f.seat h) offset bytes ≡ None → q ≡ write_part sizes n (record_in f.seat h) offset bytes
+      → IsPart sizes c (above.WriteFile fd n offset bytes) (bind q (write_over text f bytes (number_in f.seat h)))
+  write_is_part f q is fits program mark =
+      (λ i. plain (write_unless sizes fd n offset bytes mark c (refused_so f.seat (ap (λ (f : LockedFile). f.seat) is) None fits i)))
+      ∙ writes_so mark (record_of had)
+      ∙ (λ i. bind (bind (write_part sizes n (record_of (lock i)) offset bytes) (write_over text file bytes (lock i).number)) answered)
+      ∙ (λ i. bind (bind (write_part sizes n (record_in (sym is i).seat h) offset bytes) (write_over text (sym is i) bytes (number_in (sym is i).seat h))) answered)
+      ∙ (λ i. bind (bind (sym program i) (write_over text f bytes (number_in f.seat h))) answered)
+
+  pub deny_is_part : (k : Seat) (why : Cause) → k ≡ seat_of_lock n h → refused_in (record_in k h) offset bytes ≡ Some why → IsPart sizes c (above.WriteFile fd n offset bytes) (write_file_left text (Denied k why) h)
+  deny_is_part k why at refused mark =
+      (λ i. plain (write_unless sizes fd n offset bytes mark c (refused_so k at (Some why) refused i)))
+      ∙ (λ i. Do (steps.Unlock (lock i) None) unmarked (λ _. Ret (record { answer = above.Refused why; carry = given_up i })))
+      ∙ (λ i. Do (steps.Unlock (inode_in (sym at i) h) None) unmarked (λ _. Ret (record { answer = above.Refused why; carry = nothing })))
+
+  -- .. begun so, by what was learned
+  module _ (f : LockedFile) (d : Dinode) (seat : f.seat ≡ seat_of_lock n h) (by : f.fd ≡ fd) (from : f.offset ≡ offset) (is : d ≡ record_in f.seat h) where
+    refuses : (o : Option Cause) → refused_in d f.offset bytes ≡ o → refused_in (record_in f.seat h) offset bytes ≡ o
+    refuses o e = (λ i. refused_in (sym is i) (sym from i) bytes) ∙ e
+
+    pub begun_write : (q : code.P WriteResult) → refused_in d f.offset bytes ≡ None → q ≡ write_part sizes n d f.offset bytes → IsPart sizes c (above.WriteFile fd n offset bytes) (bind q (write_over text f bytes (number_in f.seat h)))
+    begun_write q fits program =
+        write_is_part f q (λ i. record { seat = seat i; fd = by i; offset = from i }) (refuses None fits)
+        (program ∙ (λ i. let p : code.P WriteResult = write_part sizes n (is i) (from i) bytes in p))
+
+    pub begun_deny : (why : Cause) → refused_in d f.offset bytes ≡ Some why → IsPart sizes c (above.WriteFile fd n offset bytes) (write_file_left text (Denied f.seat why) h)
+    begun_deny why refused = deny_is_part f.seat why seat (refuses (Some why) refused)
+
+-- ---- how it goes on
+
+-- so many of the bytes were written
+pub bytes_so : (bytes new : List ℕ) (p : WritePart) (h : Hand) → write_done p ≤ length new → WriteReady bytes p h → WriteReady new p h
+bytes_so bytes new (write.Locating w m) h done ready = ((ready.0.0, done), ready.1)
+bytes_so bytes new (write.Fetching w d m) h done ready = ((ready.0.0, done), ready.1, ready.2, ready.3, ready.4)
+bytes_so bytes new (write.There w d) h done ready = ((ready.0.0, done), ready.1, ready.2)
+bytes_so bytes new (write.Storing r m) h done ready = ready
+
+pub done_so : (bytes : List ℕ) (p : WritePart) (h : Hand) → WriteReady bytes p h → write_done p ≤ length bytes
+done_so bytes (write.Locating w m) h ready = ready.0.1
+done_so bytes (write.Fetching w d m) h ready = ready.0.1
+done_so bytes (write.There w d) h ready = ready.0.1
+done_so bytes (write.Storing r m) h ready = omega arith
+
+-- .. as they were read
+pub ready_for : (text : List ℕ) (at : ℕ) (p : WritePart) (h : Hand) (bytes : List ℕ) → bytes ≡ piece text at → write_done p ≤ length (piece text at) → (any : List ℕ) × WriteReady any p h → WriteReady bytes p h
+ready_for text at p h bytes is done ready = subst (λ (b : List ℕ). WriteReady b p h) (sym is) (bytes_so ready.0 (piece text at) p h done ready.1)
+
+module _ (text : List ℕ) (f : LockedFile) (at : ℕ) (p : WritePart) (before h : Hand) (answer : (o : steps.Op) → steps.Answer o) (same : beside_buffers tt h ≡ beside_buffers tt before) where
+  goes_so : (r : code.P WriteResult) → Goes (write_left (piece text at) p before) answer r → Goes (write_file_left text (Writing f at p) before) answer (bind r (write_over text f (piece text at) (number_in f.seat h)))
+  goes_so r goes =
+      goes_with (write_left (piece text at) p before) r (write_over text f (piece text at) (number_in f.seat before)) (write_over text f (piece text at) (number_in f.seat h)) answer
+      (ap (λ (v : Inode). write_over text f (piece text at) v.number) (inode_still f.seat before h same)) goes
+
+  pub write_on : (q : WritePart) → Goes (write_left (piece text at) p before) answer (write_left (piece text at) q h) → Goes (write_file_left text (Writing f at p) before) answer (write_file_left text (Writing f at q) h)
+  write_on q goes = goes_so (write_left (piece text at) q h) goes
+
+  pub write_ends : (r : Written) (after : Hand) → IsLoadedAt f.seat h → after ≡ with_record f.seat r.inode h → Goes (write_left (piece text at) p before) answer (Ret (written_as r))
+      → Goes (write_file_left text (Writing f at p) before) answer (write_file_left text (ended_as f (piece text at) r) after)
+  write_ends r after loaded set goes =
+      goes_to (write_file_left text (Writing f at p) before) (write_over text f (piece text at) (number_in f.seat h) (written_as r)) (write_file_left text (ended_as f (piece text at) r) after) answer
+      (goes_so (Ret (written_as r)) goes)
+      (λ i. moved f ((sym (recorded-in f.seat r.inode h loaded) ∙ ap (inode_in f.seat) (sym set)) i) r.upto text (heard.Wrote (wrote_upto f.offset (piece text at) r.upto)))
+
+-- the inode has its new record in hand
+pub ended_ready : (f : LockedFile) (bytes : List ℕ) (r : Written) (h after : Hand) → IsSome (inode_at f.seat h) → inode_at (other f.seat) h ≡ None → HasNoBuffer h → after ≡ with_record f.seat r.inode h → WriteFileReady (ended_as f bytes r) after
+ended_ready f bytes r h after there only none set =
+    subst (λ (g : Hand). IsSome (inode_at f.seat g) × (inode_at (other f.seat) g ≡ None) × HasNoBuffer g) (sym set) (at f.seat there only)
+  where
+    some : (o : Option (GuardState Inode)) → IsSome o → IsSome (option_map (recorded r.inode) o)
+    some None is = absurd (cc is)
+    some (Some g) is = refl
+
+    at : (k : Seat) → IsSome (inode_at k h) → inode_at (other k) h ≡ None → let g : Hand = with_record k r.inode h in IsSome (inode_at k g) × (inode_at (other k) g ≡ None) × HasNoBuffer g
+    at One there only = (some h.one there, only, none)
+    at Two there only = (some h.two there, only, none)
+
+module _ (text : List ℕ) (m : Notes) (before h : Hand) (answer : (o : steps.Op) → steps.Answer o) where
+  pub write_gone : (f : LockedFile) (upto : ℕ) (w : Wrote) → inode_at (other f.seat) before ≡ None → h ≡ with_inode f.seat None before
+      → Goes (write_file_left text (Ending f upto w) before) answer (Ret (handed text m (heard.Wrote w) h))
+  write_gone f upto w only after = λ i. Ret (record { answer = (text, heard.Wrote w); carry = gone_then text m f.seat before h only after i })
+
+  pub deny_gone : (k : Seat) (why : Cause) → inode_at (other k) before ≡ None → h ≡ with_inode k None before
+      → Goes (write_file_left text (Denied k why) before) answer (Ret (handed text m (heard.Wrote (wrote.Refused why)) h))
+  deny_gone k why only after = λ i. Ret (record { answer = (text, heard.Wrote (wrote.Refused why)); carry = gone_then text m k before h only after i })

@@ -1,0 +1,65 @@
+-- A file's lock given up: nothing is had then.
+use Rattle.std.proofs.Common.{◌≡◌, ℕ, Bool, true, false, List, Option, Some, None, refl, sym, ap, subst, ◌∙◌}
+use Rattle.std.specs.Prelude.{◌==◌, if◌then◌else◌, IsSome}
+use Rattle.std.specs.Option.{MatchOption, option_map_or}
+use Rattle.plain_tree.specs.Tree.{put}
+use Rattle.sleep_lock.specs.SleepLock.{GuardState}
+use Rattle.fs_tables.specs.declared.inodes.Inode.{Inode}
+use Rattle.hands.specs.declared.hand.Hand.{Hand}
+use Rattle.hands.specs.declared.hand.Seat.{Seat}
+use Rattle.hands.specs.declared.hand.Seat.TheVariants.{One, Two}
+use Rattle.hands.specs.Hands.{inode_at, inode_in, no_inode, with_inode}
+use Rattle.hand_controls.specs.Emptying.{HasNoBuffer}
+use Rattle.hand_controls.specs.HeldInodes.{IsLoadedAt}
+use Rattle.content_parts.specs.InHand.{beside_buffers}
+use Rattle.inodes_on_blocks.specs.Lowering.{Had, Apart, Carry, nothing}
+use Rattle.inode_parts.specs.Carries.{carry_in, had_at, note_at}
+use Rattle.inode_parts.specs.Changes.{beside_inode, IsAmid}
+use Rattle.inode_parts.specs.Holding.{Unlocked}
+use Rattle.inode_parts.specs.OneSteps.{locks, other, seat_of_lock}
+use Rattle.inode_parts.specs.Sides.{beside_in}
+use Rattle.inode_parts.specs.declared.note.Notes.{Notes}
+use Rattle.inode_parts.proofs.Amid.{same_inode}
+use Rattle.inode_parts.proofs.Sides.{had_beside, lock_is_of}
+
+-- ---- what is had
+
+put_apart : (n : ℕ) → put nothing n Apart ≡ nothing
+unfolding put
+put_apart n = λ j i. at (i == n) j
+  where
+    at : (b : Bool) → let x : Had = if b then Apart else Apart in x ≡ Apart
+    at true = refl
+    at false = refl
+
+module _ (path : List ℕ) (m : Notes) (k : Seat) (h : Hand) (only : inode_at (other k) h ≡ None) where
+  none_beside : beside_in path m k h ≡ nothing
+  none_beside = λ j i. had_at path (note_at (other k) m) (only j) i Apart
+
+  -- the only inode's lock was given up
+  pub gone : (n : ℕ) → locks n (inode_at k h) ≡ true → put (carry_in path m h) n Apart ≡ nothing
+  gone n has = had_beside path m h k n Apart (lock_is_of n (inode_at k h) has) ∙ (λ i. put (none_beside i) n Apart) ∙ put_apart n
+
+-- .. and isn't there
+pub gone_then : (path : List ℕ) (m : Notes) (k : Seat) (before h : Hand) → inode_at (other k) before ≡ None → h ≡ with_inode k None before → nothing ≡ carry_in path m h
+gone_then path m One before h only after = (λ j i. had_at path m.two (sym only j) i Apart) ∙ ap (carry_in path m) (sym after)
+gone_then path m Two before h only after = (λ j i. had_at path m.one (sym only j) i Apart) ∙ ap (carry_in path m) (sym after)
+
+-- ---- what is in hand
+
+pub inode_still : (k : Seat) (before h : Hand) → beside_buffers tt h ≡ beside_buffers tt before → inode_in k before ≡ inode_in k h
+inode_still k before h same = ap (λ (o : Option (GuardState Inode)). option_map_or (λ (g : GuardState Inode). g.value) o no_inode) (sym (same_inode k before h same))
+
+pub other_still : (k : Seat) (before h : Hand) → beside_buffers tt h ≡ beside_buffers tt before → inode_at (other k) before ≡ None → inode_at (other k) h ≡ None
+other_still k before h same only = same_inode (other k) before h same ∙ only
+
+pub loaded_still : (k : Seat) (before h : Hand) → beside_buffers tt h ≡ beside_buffers tt before → IsLoadedAt k before → IsLoadedAt k h
+loaded_still k before h same loaded = subst (λ (o : Option (GuardState Inode)). MatchOption o ⊥ (λ g. IsSome g.value.content)) (sym (same_inode k before h same)) loaded
+
+-- amid an operation the lock goes
+pub unlocked : (n : ℕ) (start : Hand) (k : Seat) (before h : Hand) → IsAmid n start k before → HasNoBuffer before → h ≡ with_inode k None before → Unlocked n start h
+unlocked n start k before h amid none after = subst (λ (k : Seat). h ≡ with_inode k None start) amid.0 (after ∙ at k amid.2)
+  where
+    at : (k : Seat) → beside_inode k before ≡ beside_inode k start → with_inode k None before ≡ with_inode k None start
+    at One same = λ i. record (same i) { one = None; first = (none.0 ∙ sym amid.1.0) i; second = (none.1 ∙ sym amid.1.1) i }
+    at Two same = λ i. record (same i) { two = None; first = (none.0 ∙ sym amid.1.0) i; second = (none.1 ∙ sym amid.1.1) i }

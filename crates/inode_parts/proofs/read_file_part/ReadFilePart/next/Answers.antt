@@ -1,0 +1,27 @@
+use Rattle.std.proofs.Common.{◌≡◌, ◌≤◌, ℕ, List, length, Some, None, refl, sym, subst}
+use Rattle.atomic_programs.specs.Prog.{Ret}
+use Rattle.fs_layout.specs.declared.inode.Dinode.{Dinode}
+use Rattle.hands.specs.Controls.{Goes}
+use Rattle.hands.specs.Ops.{answer_in, IsAfter}
+use Rattle.content_parts.specs.PartReading.{filled_to, read_asked, read_left}
+use Rattle.inode_parts.specs.FileReads.{read_file_asked, MayMove, ReadFileReady, ReadFileTold}
+use Rattle.inode_parts.specs.declared.read_file_part.ReadFilePart.{ReadFilePart}
+use Rattle.inode_parts.proofs.Amid.{buffers_beside, still_amid}
+use Rattle.inode_parts.proofs.FileReads.{read_ends, read_gone, read_on, room_of, room_so}
+use Rattle.inode_parts.proofs.Locking.{loaded_there}
+use Rattle.inode_parts.proofs.LockedFiles.{loaded_still, other_still, unlocked}
+use Rattle.inode_parts.proofs.read_file_part.ReadFilePart.next.Goals as goal
+
+pub returns-in-None-clause-goes : goal.returns-in-None-clause-goes
+returns-in-None-clause-goes c notes before =
+    let p = c.in-Reading.part in
+    let h = c.args.hand.now in
+    let old = c.args.text.now in
+    let new = c.next.new.memory in
+    let did = c.in-None.ensures in
+    let answer = answer_in (read_asked p) c.args.answer.now h in
+    let room = subst (λ (p : ReadFilePart). ReadFileTold old p) c.in-Reading.is c.requires.told in
+    rw c.in-Reading.is (λ ready after.
+    let has = room_so ready.3.0 old p before room ready.3.1 in
+    read_on old new c.in-Reading.file p before h answer (did.beside before has after) c.next.new.self
+    (subst (λ (d : Dinode). Goes (read_left d old p before) answer (read_left d new c.next.new.self h)) c.record_at-inode.ensures (did.goes before has after)))

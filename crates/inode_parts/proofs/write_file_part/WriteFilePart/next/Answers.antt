@@ -1,0 +1,51 @@
+use Rattle.std.proofs.Common.{◌≡◌, ◌≤◌, ◌*◌, ℕ, List, length, drop, Some, None, refl, sym, ap, subst, ◌∙◌, arith, length-take}
+use Rattle.plain_tree.specs.Widths.{piece_len}
+use Rattle.plain_tree.specs.Calls.{piece}
+use Rattle.atomic_programs.specs.Prog.{Ret}
+use Rattle.hands.specs.Controls.{Goes}
+use Rattle.hands.specs.Ops.{answer_in, IsAfter}
+use Rattle.hands.specs.Hands.{inode_at, with_record}
+use Rattle.hands.specs.declared.hand.Hand.{Hand}
+use Rattle.hand_controls.specs.Emptying.{HasNoBuffer}
+use Rattle.content_parts.specs.InHand.{beside_buffers}
+use Rattle.content_parts.specs.PartWriting.{write_asked, write_left, written_as, WriteReady}
+use Rattle.inode_parts.specs.FileWrites.{ended_as, write_file_asked, write_file_left, WriteFileAmid, WriteFileReady, WriteFileTold}
+use Rattle.inode_parts.specs.OneSteps.{other}
+use Rattle.inode_parts.specs.declared.write_file_part.WriteFilePart.{WriteFilePart}
+use Rattle.inode_parts.specs.declared.write_file_part.WriteFilePart.TheVariants.{Writing}
+use Rattle.inode_parts.proofs.FileWrites.{deny_gone, done_so, ended_ready, ready_for, write_ends, write_gone, write_on}
+use Rattle.inode_parts.proofs.Amid.{buffers_beside, record_beside, still_amid}
+use Rattle.inode_parts.proofs.Locking.{loaded_there}
+use Rattle.inode_parts.proofs.LockedFiles.{loaded_still, other_still, unlocked}
+use Rattle.inode_parts.proofs.write_file_part.WriteFilePart.next.Goals as goal
+
+pub returns-in-None-clause-goes : goal.returns-in-None-clause-goes
+returns-in-None-clause-goes c notes before =
+    let p = c.in-Writing.part in
+    let at = c.in-Writing.index in
+    let h = c.next.new.hand in
+    let text = c.args.text.now in
+    let did = c.in-None.ensures in
+    let read = c.piece-bytes.ensures.is in
+    let answer = answer_in (write_asked p) c.args.answer.now c.args.hand.now in
+    let told = subst (λ (p : WriteFilePart). WriteFileTold text p) c.in-Writing.is c.requires.told in
+    rw c.in-Writing.is (λ ready after.
+    let has = ready_for text at p before c.piece-bytes.result.now read told.1 ready.2 in
+    let same = ap (beside_buffers tt) did.same ∙ did.beside before has after in
+    write_on text c.in-Writing.file at p before h answer same c.next.new.self
+    (subst (λ (b : List ℕ). Goes (write_left b p before) answer (write_left b c.next.new.self h)) read (did.goes before has after)))
+
+pub returns-in-None-clause-ready : goal.returns-in-None-clause-ready
+returns-in-None-clause-ready c =
+    let f = c.in-Writing.file in
+    let p = c.in-Writing.part in
+    let h = c.next.new.hand in
+    let text = c.args.text.now in
+    let did = c.in-None.ensures in
+    let before = c.requires.came.0 in
+    let told = subst (λ (p : WriteFilePart). WriteFileTold text p) c.in-Writing.is c.requires.told in
+    let ready = subst (λ (p : WriteFilePart). WriteFileReady p before) c.in-Writing.is c.requires.came.1 in
+    let after = subst (λ (p : WriteFilePart). IsAfter (write_file_asked p) before c.args.answer.now c.args.hand.now) c.in-Writing.is c.requires.came.2 in
+    let has = ready_for text c.in-Writing.index p before c.piece-bytes.result.now c.piece-bytes.ensures.is told.1 ready.2 in
+    let same = ap (beside_buffers tt) did.same ∙ did.beside before has after in
+    (loaded_still f.seat before h same ready.0, other_still f.seat before h same ready.1, (c.piece-bytes.result.now, did.ready))

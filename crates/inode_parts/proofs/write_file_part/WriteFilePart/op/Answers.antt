@@ -1,0 +1,19 @@
+use Rattle.std.proofs.Common.{◌≡◌, ℕ, List, Some, subst}
+use Rattle.plain_tree.specs.Calls.{piece}
+use Rattle.atomic_programs.specs.Prog.{asks}
+use Rattle.hands.specs.Ops.{op_in}
+use Rattle.hand_controls.specs.HeldInodes.{number_in}
+use Rattle.content_parts.proofs.Asking.{asks_bind}
+use Rattle.content_parts.specs.PartWriting.{write_left}
+use Rattle.inode_parts.specs.FileWrites.{write_over}
+use Rattle.inode_parts.proofs.write_file_part.WriteFilePart.op.Goals as goal
+
+pub returns-in-Writing-clause-asks : goal.returns-in-Writing-clause-asks
+returns-in-Writing-clause-asks c =
+    let f = c.in-Writing.field-0 in
+    let p = c.in-Writing.part in
+    let text = c.args.text.now in
+    let bytes = piece text c.in-Writing.index in
+    let h = c.args.hand.now in
+    let op = op_in c.op.new.hand c.op.result in
+    rw c.in-Writing.is (asks_bind (write_left bytes p h) (write_over text f bytes (number_in f.seat h)) op (subst (λ (b : List ℕ). asks (write_left b p h) ≡ Some op) c.piece.ensures.is c.op.ensures.asks))

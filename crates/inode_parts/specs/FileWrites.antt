@@ -1,0 +1,88 @@
+-- A piece of bytes written to an open file, as a part.
+use Rattle.std.specs.Prelude.{◌≡◌, ◌*◌, ◌+◌, ◌-◌, ◌==◌, ◌<◌, ◌≤◌, ◌^◌, ℕ, List, length, if◌then◌else◌, None, Some, IsSome}
+use Rattle.plain_tree.specs.Calls.{piece}
+use Rattle.plain_tree.specs.Widths.{piece_len}
+use Rattle.fs_layout.specs.Widths.{bits_per_block}
+use Rattle.fs_layout.specs.declared.superblock.Super.{Super}
+use Rattle.atomic_programs.specs.Prog.{Ret, Do, bind, unmarked}
+use Rattle.fs_tables.specs.declared.inodes.Inode.{Inode}
+use Rattle.fs_machine.specs.Steps as steps
+use Rattle.inode_table.specs.Programs.{inode_block}
+use Rattle.inode_data.specs.Writing.{WriteResult}
+use Rattle.hands.specs.declared.hand.Hand.{Hand}
+use Rattle.hands.specs.declared.hand.Seat.{Seat}
+use Rattle.hands.specs.declared.op.Op.{Op}
+use Rattle.hands.specs.declared.op.Op.TheVariants as ops
+use Rattle.hands.specs.Hands.{inode_at, inode_in}
+use Rattle.hand_controls.specs.Emptying.{HasNoBuffer}
+use Rattle.hand_controls.specs.HeldInodes.{number_in, IsLoadedAt}
+use Rattle.content_parts.specs.PartWriting.{write_asked, write_left, WriteReady}
+use Rattle.content_parts.specs.declared.write_part.WritePart.{WritePart}
+use Rattle.content_parts.specs.declared.write_part.Written.{Written}
+use Rattle.content_parts.specs.declared.write_part.WritePart.TheVariants as write
+use Rattle.inodes_on_blocks.specs.Lowering.{nothing}
+use Rattle.whole_calls.specs.declared.asks.Heard.TheVariants as heard
+use Rattle.whole_calls.specs.declared.asks.Wrote.{Wrote}
+use Rattle.whole_calls.specs.declared.asks.Wrote.TheVariants as wrote
+use Rattle.inode_parts.specs.Changes.{IsAmid}
+use Rattle.inode_parts.specs.Expecting.{HasOpened}
+use Rattle.inode_parts.specs.Holding.{Having}
+use Rattle.inode_parts.specs.LockedFiles.{moved, IsOnly}
+use Rattle.inode_parts.specs.OneSteps.{other}
+use Rattle.inode_parts.specs.Parts.{Part}
+use Rattle.inode_parts.specs.declared.locked_file.LockedFile.{LockedFile}
+use Rattle.inode_parts.specs.declared.write_file_part.WriteFilePart.{WriteFilePart}
+use Rattle.inode_parts.specs.declared.write_file_part.WriteFilePart.TheVariants.{Denied, Writing, Ending}
+
+-- what is heard where these bytes were written from an offset up to another one
+abbrev pub wrote_upto : (offset : ℕ) → List ℕ → (upto : ℕ) → Wrote
+wrote_upto offset bytes upto = if upto == offset + length bytes then wrote.Whole else wrote.Short (upto - offset)
+
+-- the file moves to where they end that were written, and the inode's record is that with their blocks
+abbrev pub write_over : List ℕ → LockedFile → List ℕ → (n : ℕ) → WriteResult → Part
+write_over text f bytes n w = moved f (record { number = n; content = Some w.inode }) w.upto text (heard.Wrote (wrote_upto f.offset bytes w.upto))
+
+abbrev pub write_file_left : List ℕ → WriteFilePart → Hand → Part
+write_file_left text (Denied k why) h = Do (steps.Unlock (inode_in k h) None) unmarked (λ _. Ret (record { answer = (text, heard.Wrote (wrote.Refused why)); carry = nothing }))
+write_file_left text (Writing f i p) h = bind (write_left (piece text i) p h) (write_over text f (piece text i) (number_in f.seat h))
+write_file_left text (Ending f upto w) h = moved f (inode_in f.seat h) upto text (heard.Wrote w)
+
+abbrev pub write_file_asked : WriteFilePart → Op
+write_file_asked (Denied k why) = ops.Unlock k
+write_file_asked (Writing f i p) = write_asked p
+write_file_asked (Ending f upto w) = ops.UnlockMoving f.seat f.fd upto
+
+abbrev pub WriteFileReady : WriteFilePart → Hand → Type 0
+WriteFileReady (Denied k why) h = IsSome (inode_at k h) × (inode_at (other k) h ≡ None) × HasNoBuffer h
+WriteFileReady (Writing f i p) h = IsLoadedAt f.seat h × IsOnly f h × ((bytes : List ℕ) × WriteReady bytes p h)
+WriteFileReady (Ending f upto w) h = IsSome (inode_at f.seat h) × IsOnly f h × HasNoBuffer h
+
+-- how many of its bytes were written before the next block
+abbrev pub write_done : WritePart → ℕ
+write_done (write.Locating w m) = w.done
+write_done (write.Fetching w d m) = w.done
+write_done (write.There w d) = w.done
+write_done (write.Storing r m) = 0
+
+-- its piece begins within the text, and has those
+abbrev pub WriteFileTold : List ℕ → WriteFilePart → Type 0
+WriteFileTold text (Denied k why) = Unit {0}
+WriteFileTold text (Writing f i p) = (piece_len * i ≤ length text) × (write_done p ≤ length (piece text i))
+WriteFileTold text (Ending f upto w) = Unit {0}
+
+abbrev pub write_seat : WriteFilePart → Seat
+write_seat (Denied k why) = k
+write_seat (Writing f i p) = f.seat
+write_seat (Ending f upto w) = f.seat
+
+-- it ends so
+abbrev pub ended_as : LockedFile → List ℕ → Written → WriteFilePart
+ended_as f bytes r = Ending f r.upto (wrote_upto f.offset bytes r.upto)
+
+-- what it asks: a transaction, and blocks that have numbers and bits
+abbrev pub WriteBegins : Super → (fd n offset : ℕ) → Having → Type 0
+WriteBegins sizes fd n offset s = HasOpened fd n offset s × IsSome s.hand.txn × (inode_block sizes.inodestart n < 2 ^ 32) × (sizes.size ≤ bits_per_block)
+
+-- of inode n
+abbrev pub WriteFileAmid : ℕ → Hand → WriteFilePart → Hand → Type 0
+WriteFileAmid n start p now = IsAmid n start (write_seat p) now

@@ -1,0 +1,20 @@
+-- Files that descriptors name, whose inodes' locks are in hand.
+use Rattle.std.specs.Prelude.{◌≡◌, ℕ, List, Some, None}
+use Rattle.atomic_programs.specs.Prog.{Ret, Do, unmarked}
+use Rattle.fs_tables.specs.declared.inodes.Inode.{Inode}
+use Rattle.fs_machine.specs.Steps as steps
+use Rattle.hands.specs.declared.hand.Hand.{Hand}
+use Rattle.hands.specs.Hands.{inode_at}
+use Rattle.inodes_on_blocks.specs.Lowering.{nothing}
+use Rattle.whole_calls.specs.declared.asks.Heard.{Heard}
+use Rattle.inode_parts.specs.OneSteps.{other}
+use Rattle.inode_parts.specs.Parts.{Part}
+use Rattle.inode_parts.specs.declared.locked_file.LockedFile.{LockedFile}
+
+-- no other lock is in hand
+abbrev pub IsOnly : LockedFile → Hand → Type 0
+IsOnly f h = inode_at (other f.seat) h ≡ None
+
+-- In one step the lock goes back with the inode so, and the file stands at this offset. The call's text is so then, and this is heard.
+abbrev pub moved : LockedFile → Inode → (upto : ℕ) → List ℕ → Heard → Part
+moved f v upto text x = Do (steps.Unlock v (Some (f.fd, upto))) unmarked (λ _. Ret (record { answer = (text, x); carry = nothing }))
