@@ -10,9 +10,11 @@ use Rattle.hand_controls.specs.HeldInodes.{number_in}
 use Rattle.inode_machine.specs.Inodes.{AtNothing, Query}
 use Rattle.inode_parts.specs.Changes.{MayChange}
 use Rattle.inode_parts.specs.Claims.{ClaimBegins}
-use Rattle.inode_parts.specs.Expecting.{HasChangeable, MayLock, MayOpen}
+use Rattle.inode_parts.specs.Expecting.{HasChangeable, HasOpened, MayLock, MayOpen}
 use Rattle.inode_parts.specs.FileLocks.{LockBegins}
+use Rattle.inode_parts.specs.FileWrites.{WriteBegins}
 use Rattle.inode_parts.specs.Frees.{FreeBegins}
+use Rattle.inode_parts.specs.Holding.{Having}
 use Rattle.inode_parts.specs.OneSteps.{HasFreeSeat, HasLock, seat_of_lock}
 use Rattle.inode_parts.specs.Relocks.{MayRelock, RelockBegins}
 use Rattle.inode_parts.specs.Sizes.{IsSized}
@@ -46,3 +48,6 @@ module _ (sizes : Super) (sized : IsSized sizes) where
 
   pub may_claim : (h : Hand) → HasFreeSeat h × HasNoBuffer h × IsSome h.txn → ClaimBegins sizes h
   may_claim h has = let early = sized.early in let few = sized.few in ((sized.some, omega arith), has.0, has.1, has.2)
+
+  pub may_write : (n fd offset : ℕ) (s : Having) → n < 2 ^ 32 → HasOpened fd n offset s × IsSome s.hand.txn → WriteBegins sizes fd n offset s
+  may_write n fd offset s few has = (has.0, has.1, block_fits n few, sized.size)

@@ -32,11 +32,12 @@ use Rattle.whole_calls.specs.declared.elements.Element.{Element}
 use Rattle.whole_calls.specs.declared.asks.Query.{Query}
 use Rattle.whole_calls.specs.declared.asks.Sort.{Sort}
 use Rattle.whole_calls.specs.declared.asks.Heard.TheVariants as heard
+use Rattle.inode_parts.specs.Expecting.{BeginsWith}
 use Rattle.inode_parts.specs.Carries.{carry_in, had_at, had_of}
-use Rattle.inode_parts.specs.Parts.{IsPart, one}
+use Rattle.inode_parts.specs.Parts.{IsPart, Part, one}
 use Rattle.inode_parts.specs.OneSteps.{Begins, HasReference, IsAlone, joining_heard, loan_heard, locks, seat_of_lock, seat_of_reference, still}
 use Rattle.inode_parts.specs.Leaving.{having}
-use Rattle.inode_parts.specs.InodeParts.{ends_with, part_for, part_left, PartBegins, PartReady, one_or_leave, PartTold}
+use Rattle.inode_parts.specs.InodeParts.{ends_with, part_for, part_left, PartReady, one_or_leave, PartTold, FillsAs}
 use Rattle.inode_parts.specs.declared.note.Note.{Note}
 use Rattle.inode_parts.specs.declared.note.Note.TheVariants as note
 use Rattle.inode_parts.specs.declared.note.Notes.{Notes}
@@ -141,8 +142,13 @@ module _ (sizes : Super) (path : List ℕ) (m : Notes) (h : Hand) where
 
 -- ---- what is asked
 
+-- what isn't asked to be read fills nothing
+pub other_fills : (text : List ℕ) (a : Ask) (q : Part) → ((fd n offset count : ℕ) → a ≢ ask.ReadFile fd n offset count) → FillsAs a text q
+other_fills text (ask.ReadFile fd n offset count) q other = absurd (other fd n offset count refl)
+other_fills text a q other = tt
+
 -- what isn't one of the longer ones is one below, or leaves a transaction
-pub short_begins : (path : List ℕ) (m : Notes) (a : Ask) (h : Hand) → PartBegins path (op_in path a) (having h m)
+pub short_begins : (path : List ℕ) (m : Notes) (a : Ask) (h : Hand) → BeginsWith path (op_in path a) (having h m)
     → ((n count : ℕ) → a ≢ ask.Store n count)
     → ((n : ℕ) → a ≢ ask.Empty n)
     → ((d : ℕ) (e : Element) (n : ℕ) → a ≢ ask.Enter d e n)
@@ -154,19 +160,23 @@ pub short_begins : (path : List ℕ) (m : Notes) (a : Ask) (h : Hand) → PartBe
     → ((fd : ℕ) → a ≢ ask.LockFile fd)
     → ((fd : ℕ) → a ≢ ask.StatFile fd)
     → ((n : ℕ) (q : Query) → a ≢ ask.Take n q)
+    → ((fd n offset count : ℕ) → a ≢ ask.ReadFile fd n offset count)
+    → ((fd n offset i : ℕ) → a ≢ ask.WriteFile fd n offset i)
     → Begins (op_in path a) h
-short_begins path m (ask.Store n count) h has store empty enter clear fill free claim opened locked told taken = absurd (store n count refl)
-short_begins path m (ask.Empty n) h has store empty enter clear fill free claim opened locked told taken = absurd (empty n refl)
-short_begins path m (ask.Enter d e n) h has store empty enter clear fill free claim opened locked told taken = absurd (enter d e n refl)
-short_begins path m (ask.Clear d e) h has store empty enter clear fill free claim opened locked told taken = absurd (clear d e refl)
-short_begins path m (ask.Fill n d) h has store empty enter clear fill free claim opened locked told taken = absurd (fill n d refl)
-short_begins path m (ask.Free n) h has store empty enter clear fill free claim opened locked told taken = absurd (free n refl)
-short_begins path m (ask.Claim s) h has store empty enter clear fill free claim opened locked told taken = absurd (claim s refl)
-short_begins path m (ask.LockOpen fd n) h has store empty enter clear fill free claim opened locked told taken = absurd (opened fd n refl)
-short_begins path m (ask.LockFile fd) h has store empty enter clear fill free claim opened locked told taken = absurd (locked fd refl)
-short_begins path m (ask.StatFile fd) h has store empty enter clear fill free claim opened locked told taken = absurd (told fd refl)
-short_begins path m (ask.Take n q) h has store empty enter clear fill free claim opened locked told taken = absurd (taken n q refl)
-short_begins path m a h has store empty enter clear fill free claim opened locked told taken = has
+short_begins path m (ask.Store n count) h has store empty enter clear fill free claim opened locked told taken reads writes = absurd (store n count refl)
+short_begins path m (ask.Empty n) h has store empty enter clear fill free claim opened locked told taken reads writes = absurd (empty n refl)
+short_begins path m (ask.Enter d e n) h has store empty enter clear fill free claim opened locked told taken reads writes = absurd (enter d e n refl)
+short_begins path m (ask.Clear d e) h has store empty enter clear fill free claim opened locked told taken reads writes = absurd (clear d e refl)
+short_begins path m (ask.Fill n d) h has store empty enter clear fill free claim opened locked told taken reads writes = absurd (fill n d refl)
+short_begins path m (ask.Free n) h has store empty enter clear fill free claim opened locked told taken reads writes = absurd (free n refl)
+short_begins path m (ask.Claim s) h has store empty enter clear fill free claim opened locked told taken reads writes = absurd (claim s refl)
+short_begins path m (ask.LockOpen fd n) h has store empty enter clear fill free claim opened locked told taken reads writes = absurd (opened fd n refl)
+short_begins path m (ask.LockFile fd) h has store empty enter clear fill free claim opened locked told taken reads writes = absurd (locked fd refl)
+short_begins path m (ask.StatFile fd) h has store empty enter clear fill free claim opened locked told taken reads writes = absurd (told fd refl)
+short_begins path m (ask.Take n q) h has store empty enter clear fill free claim opened locked told taken reads writes = absurd (taken n q refl)
+short_begins path m (ask.ReadFile fd n offset count) h has store empty enter clear fill free claim opened locked told taken reads writes = absurd (reads fd n offset count refl)
+short_begins path m (ask.WriteFile fd n offset i) h has store empty enter clear fill free claim opened locked told taken reads writes = absurd (writes fd n offset i refl)
+short_begins path m a h has store empty enter clear fill free claim opened locked told taken reads writes = has
 
 -- none of these has a name to seek
 pub told_for : (path : List ℕ) (o : Option OneStep) → PartTold path (one_or_leave o)

@@ -7,15 +7,15 @@ use Rattle.plain_tree.specs.declared.call.Call.TheVariants as calls
 use Rattle.hand_controls.specs.Calling.{IsEmpty}
 use Rattle.inode_machine.specs.Descriptors.{dup_on}
 use Rattle.inode_machine.specs.Parts.{full, say}
+use Rattle.inode_parts.specs.Expecting.{BeginsWith}
 use Rattle.inode_parts.specs.Calls.{RunsByParts}
 use Rattle.inode_parts.specs.Holding.{Having, Runs}
-use Rattle.inode_parts.specs.InodeParts.{PartBegins}
 
-says : (r : Reply) (s : Having) → IsEmpty s.hand → Runs [] (PartBegins []) (say r) s
+says : (r : Reply) (s : Having) → IsEmpty s.hand → Runs [] (BeginsWith []) (say r) s
 unfolding Runs
 says r s empty = (tt, λ a t left. subst IsEmpty (sym left.0) empty)
 
-doubled : (fd : ℕ) (a : Option (Option ℕ)) (s : Having) → IsEmpty s.hand → Runs [] (PartBegins []) (dup_on fd a) s
+doubled : (fd : ℕ) (a : Option (Option ℕ)) (s : Having) → IsEmpty s.hand → Runs [] (BeginsWith []) (dup_on fd a) s
 unfolding Runs
 doubled fd None s empty = empty
 doubled fd (Some None) s empty = says (full (calls.Dup fd) Descriptors) s empty

@@ -5,16 +5,28 @@ use Rattle.hands.specs.declared.hand.Hand.{Hand}
 use Rattle.whole_calls.specs.declared.asks.Heard.{Heard}
 use Rattle.inode_parts.specs.Carries.{handed}
 use Rattle.inode_parts.specs.FileLocks.{lock_file_left}
+use Rattle.inode_parts.specs.FileReads.{read_file_left}
 use Rattle.inode_parts.specs.FileStats.{stat_left}
+use Rattle.inode_parts.specs.FileWrites.{write_file_left}
 use Rattle.inode_parts.specs.InodeParts.{part_left_after}
 use Rattle.inode_parts.specs.declared.lock_file_part.LockFilePart.{LockFilePart}
 use Rattle.inode_parts.specs.declared.note.Notes.{Notes}
 use Rattle.inode_parts.specs.declared.part.InodePart.TheVariants as part
+use Rattle.inode_parts.specs.declared.read_file_part.ReadFilePart.{ReadFilePart}
 use Rattle.inode_parts.specs.declared.stat_file_part.StatFilePart.{StatFilePart}
+use Rattle.inode_parts.specs.declared.write_file_part.WriteFilePart.{WriteFilePart}
 
 pub lock_file_after : (path : List ℕ) (m : Notes) (r : Option Heard) (p : LockFilePart) (h : Hand) → left_after (lock_file_left path m) (handed path m) r p h ≡ part_left_after path m r (part.LockFile p) h
 lock_file_after path m None p h = refl
 lock_file_after path m (Some x) p h = refl
+
+pub write_after : (text : List ℕ) (m : Notes) (r : Option Heard) (p : WriteFilePart) (h : Hand) → left_after (write_file_left text) (handed text m) r p h ≡ part_left_after text m r (part.WriteFile p) h
+write_after text m None p h = refl
+write_after text m (Some x) p h = refl
+
+pub read_after : (text : List ℕ) (m : Notes) (r : Option Heard) (p : ReadFilePart) (h : Hand) → left_after (read_file_left text) (handed text m) r p h ≡ part_left_after text m r (part.ReadFile p) h
+read_after text m None p h = refl
+read_after text m (Some x) p h = refl
 
 pub stat_after : (path : List ℕ) (m : Notes) (r : Option Heard) (p : StatFilePart) (h : Hand) → left_after (stat_left path m) (handed path m) r p h ≡ part_left_after path m r (part.StatFile p) h
 stat_after path m None p h = refl

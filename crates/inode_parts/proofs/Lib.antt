@@ -35,6 +35,7 @@ pub mod StepLeaves
 pub mod Lowering
 pub mod Amid
 pub mod UnderWay
+pub mod Texts
 pub mod OnWay
 pub mod Dups
 pub mod HasOnes

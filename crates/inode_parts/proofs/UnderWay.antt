@@ -15,6 +15,8 @@ use Rattle.inode_parts.specs.Empties.{EmptyAmid}
 use Rattle.inode_parts.specs.Enters.{EnterAmid}
 use Rattle.inode_parts.specs.FileLocks.{LockFileAmid, LockOpenAmid}
 use Rattle.inode_parts.specs.FileStats.{StatAmid}
+use Rattle.inode_parts.specs.FileReads.{ReadFileAmid}
+use Rattle.inode_parts.specs.FileWrites.{WriteFileAmid}
 use Rattle.inode_parts.specs.Fills.{FillAmid}
 use Rattle.inode_parts.specs.Frees.{FreeAmid}
 use Rattle.inode_parts.specs.Relocks.{RelockAmid}
@@ -34,10 +36,12 @@ use Rattle.inode_parts.specs.declared.lock_open_part.LockOpenPart.{LockOpenPart}
 use Rattle.inode_parts.specs.declared.note.Notes.{Notes}
 use Rattle.inode_parts.specs.declared.part.InodePart.{InodePart}
 use Rattle.inode_parts.specs.declared.part.InodePart.TheVariants as part
+use Rattle.inode_parts.specs.declared.read_file_part.ReadFilePart.{ReadFilePart}
 use Rattle.inode_parts.specs.declared.relock_part.RelockPart.{RelockPart}
 use Rattle.inode_parts.specs.declared.stat_file_part.StatFilePart.{StatFilePart}
 use Rattle.inode_parts.specs.declared.store_part.StorePart.{StorePart}
 use Rattle.inode_parts.specs.declared.take_part.TakePart.{TakePart}
+use Rattle.inode_parts.specs.declared.write_file_part.WriteFilePart.{WriteFilePart}
 
 -- it began with what was learned then, and so it goes on
 went : (path : List ℕ) (op : above.Op) (start : Having) (Amid : Hand → Type 0) (q : InodePart) (m m2 : Notes) (h : Hand) (o : Option Heard) → m ≡ start.notes
@@ -98,6 +102,14 @@ module _ (path : List ℕ) (start : Having) (before h : Hand) (m m2 : Notes) (o 
   pub takes : (p r : TakePart) → ((n : ℕ) (looking : Query) → TakeAmid path n looking start.hand p before → StaysOrLeaves (TakeAmid path n looking start.hand r) path (above.Take n looking) o (having start.hand m) (having h m2)) → Goes (part.Take p) (part.Take r)
   takes p r on (above.Take n looking) under = went path (above.Take n looking) start (TakeAmid path n looking start.hand r) (part.Take r) m m2 h o under.1 (λ stays. stays) (on n looking under.0)
   takes p r on op under = absurd under.0
+
+  pub reads : (p r : ReadFilePart) → ((fd n offset count : ℕ) → ReadFileAmid n start.hand p before → StaysOrLeaves (ReadFileAmid n start.hand r) path (above.ReadFile fd n offset count) o (having start.hand m) (having h m2)) → Goes (part.ReadFile p) (part.ReadFile r)
+  reads p r on (above.ReadFile fd n offset count) under = went path (above.ReadFile fd n offset count) start (ReadFileAmid n start.hand r) (part.ReadFile r) m m2 h o under.1 (λ stays. stays) (on fd n offset count under.0)
+  reads p r on op under = absurd under.0
+
+  pub writes : (p r : WriteFilePart) → ((fd n offset : ℕ) (bytes : List ℕ) → WriteFileAmid n start.hand p before → StaysOrLeaves (WriteFileAmid n start.hand r) path (above.WriteFile fd n offset bytes) o (having start.hand m) (having h m2)) → Goes (part.WriteFile p) (part.WriteFile r)
+  writes p r on (above.WriteFile fd n offset bytes) under = went path (above.WriteFile fd n offset bytes) start (WriteFileAmid n start.hand r) (part.WriteFile r) m m2 h o under.1 (λ stays. stays) (on fd n offset bytes under.0)
+  writes p r on op under = absurd under.0
 
 -- a transaction is left
 no_txn : (h : Hand) → h.txn ≡ None → h ≡ with_txn None h

@@ -1,8 +1,10 @@
 -- Calls over whole inodes, run below.
-use Rattle.std.specs.Prelude.{◌≡◌, ℕ, List, [], Some}
+use Rattle.std.specs.Prelude.{◌≡◌, ◌⊎◌, ℕ, List, [], length, Some}
 use Rattle.plain_tree.specs.declared.answer.Reply.{Reply}
 use Rattle.plain_tree.specs.declared.call.Call.{Call}
 use Rattle.plain_tree.specs.declared.call.Call.TheVariants as calls
+use Rattle.fs_layout.specs.declared.superblock.Super.{Super}
+use Rattle.atomic_programs.specs.Prog.{bind}
 use Rattle.fs_machine.specs.Machines.{P}
 use Rattle.hands.specs.declared.hand.Hand.{Hand}
 use Rattle.hands.specs.declared.op.Op.{Op}
@@ -11,11 +13,16 @@ use Rattle.inode_machine.specs.Parts as programs
 use Rattle.inode_machine.specs.Programs.{program}
 use Rattle.inode_machine.specs.World as above
 use Rattle.whole_calls.specs.Asks.{asks}
+use Rattle.whole_calls.specs.Reads.{read_of}
 use Rattle.whole_calls.specs.Wholes.{WholeFits, call_in, text_in, whole_of}
+use Rattle.whole_calls.specs.declared.reading.Read.TheVariants as reading
+use Rattle.whole_calls.specs.declared.whole.Whole.{Whole}
+use Rattle.whole_calls.specs.declared.whole.Whole.TheVariants as whole
+use Rattle.inode_parts.specs.Expecting.{BeginsWith}
 use Rattle.inode_parts.specs.Holding.{Having, Runs}
-use Rattle.inode_parts.specs.InodeParts.{part_left, part_asked, PartBegins, PartReady, PartTold}
+use Rattle.inode_parts.specs.InodeParts.{part_left, part_asked, PartReady, PartTold, ReadsInto}
 use Rattle.inode_parts.specs.Leaving.{having}
-use Rattle.inode_parts.specs.Parts.{with_part}
+use Rattle.inode_parts.specs.Parts.{Part, hears_in, lowered}
 use Rattle.inode_parts.specs.Sizes.{IsSized}
 use Rattle.inode_parts.specs.UnderWay.{UnderWay}
 use Rattle.inode_parts.specs.declared.lowered.Lowered.{Lowered}
@@ -37,21 +44,42 @@ path_of (calls.Fstat fd) = []
 path_of (calls.Close fd) = []
 path_of (calls.Inherit child) = []
 
--- it has no second path, and nothing is read into it
+-- it has no second path
 abbrev pub HasOnePath : Call → Type 0
-HasOnePath (calls.Read fd buf) = ⊥
 HasOnePath (calls.Link old new) = ⊥
 HasOnePath call = Unit {0}
 
 -- with nothing in hand a call runs to its end by such parts
 abbrev pub RunsByParts : List ℕ → Call → Type 0
-RunsByParts path call = (s : Having) → IsEmpty s.hand → Runs path (PartBegins path) (program call) s
+RunsByParts path call = (s : Having) → IsEmpty s.hand → Runs path (BeginsWith path) (program call) s
 
 -- ---- what is left of a call
 
--- the part's program, and then the call's
+-- a read whose part comes next
+abbrev pub IsReading : Whole → Type 0
+IsReading (whole.Read fd buf (reading.Part n offset)) = Unit {0}
+IsReading w = ⊥
+
+-- the same read, with other bytes in its buffer
+abbrev pub IsFilled : Whole → Whole → Type 0
+IsFilled (whole.Read fd buf (reading.Part n offset)) (whole.Read gd new (reading.Part k at)) = (gd ≡ fd) × (k ≡ n) × (at ≡ offset) × (length new.items ≡ length buf.items)
+IsFilled w v = ⊥
+
+-- .. or the same call
+abbrev pub FillsOrStays : Whole → Whole → Type 0
+FillsOrStays w v = (v ≡ w) ⊎ IsFilled w v
+
+-- what is left of the call, where such a read's buffer has these bytes by then
+abbrev pub whole_with : List ℕ → Whole → List ℕ → programs.P Reply
+whole_with ns (whole.Read fd buf (reading.Part n offset)) text = read_of fd text (reading.Part n offset)
+whole_with ns w text = whole_of ns w
+
+-- the part's program, and then the call's, with the text that the part hands over
+abbrev pub with_text : Super → Part → (List ℕ → programs.P Reply) → P Reply
+with_text sizes q p = bind q (λ r. lowered sizes r.carry (hears_in sizes (p r.answer.0) r.answer))
+
 abbrev pub lowered_left : Lowered → Hand → P Reply
-lowered_left l h = with_part l.sizes (part_left (text_in l.call) l.notes l.part h) (whole_of l.list l.call)
+lowered_left l h = with_text l.sizes (part_left (text_in l.call) l.notes l.part h) (whole_with l.list l.call)
 
 abbrev pub lowered_asked : Lowered → Op
 lowered_asked l = part_asked l.part
@@ -61,7 +89,7 @@ pub record IsOnWay (path : List ℕ) (p : programs.P Reply) (q : InodePart) (now
   pub op : above.Op
   pub start : Having
   pub asked : asks p ≡ Some op
-  pub runs : Runs path (PartBegins path) p start
+  pub runs : Runs path (BeginsWith path) p start
   pub under : UnderWay path op start q now
 
 pub record LoweredReady (l : Lowered) (h : Hand) : Type 0 where
@@ -70,4 +98,5 @@ pub record LoweredReady (l : Lowered) (h : Hand) : Type 0 where
   pub fits : WholeFits l.list l.call
   pub ready : PartReady l.part h
   pub told : PartTold (text_in l.call) l.part
+  pub reads : ReadsInto l.part → IsReading l.call
   pub way : IsOnWay (text_in l.call) (whole_of l.list l.call) l.part (having h l.notes)

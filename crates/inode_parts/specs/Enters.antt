@@ -1,5 +1,6 @@
 -- A name entered, as a part.
-use Rattle.std.specs.Prelude.{◌≤◌, ℕ, List, length}
+use Rattle.std.specs.Prelude.{◌*◌, ◌^◌, ◌<◌, ◌≤◌, ℕ, List, length}
+use Rattle.plain_tree.specs.Widths.{piece_len}
 use Rattle.fs_layout.specs.Name.{IsName}
 use Rattle.fs_layout.specs.Widths.{bits_per_block}
 use Rattle.fs_layout.specs.declared.inode.Dinode.{Dinode}
@@ -49,7 +50,9 @@ EnterAmid n start p now = IsAmid n start p.seat now
 abbrev pub EnterBegins : Super → ℕ → List ℕ → Hand → Type 0
 EnterBegins sizes n name h = MayChange sizes n h × (sizes.size ≤ bits_per_block) × IsName name
 
--- a name that is asked for stands in the call's path
+-- a name that is asked for stands in the call's path, there is room for what is read, and a piece begins within its bytes
 abbrev pub AskStands : List ℕ → Ask → Type 0
 AskStands path (ask.Enter d e n) = (e.start ≤ e.end) × (e.end ≤ length path)
+AskStands path (ask.ReadFile fd n offset count) = (count ≤ length path) × (count < 2 ^ 32)
+AskStands path (ask.WriteFile fd n offset i) = piece_len * i ≤ length path
 AskStands path a = Unit {0}

@@ -24,8 +24,8 @@ use Rattle.inode_parts.specs.FileStats.{stat_left, stat_asked, StatReady}
 use Rattle.inode_parts.specs.Frees.{free_left, free_asked, FreeReady}
 use Rattle.inode_parts.specs.Takes.{take_left, take_asked, IsTold, TakeReady, TakeTold}
 use Rattle.inode_parts.specs.Relocks.{relock_left, relock_asked, RelockReady}
-use Rattle.inode_parts.specs.Expecting.{BeginsWith}
-use Rattle.inode_parts.specs.Holding.{Having}
+use Rattle.inode_parts.specs.FileReads.{read_file_left, read_file_asked, FillsFrom, ReadFileReady, ReadFileTold}
+use Rattle.inode_parts.specs.FileWrites.{write_file_left, write_file_asked, WriteFileReady, WriteFileTold}
 use Rattle.inode_parts.specs.Stores.{store_part_left, store_part_asked, StorePartReady}
 use Rattle.inode_parts.specs.declared.note.Notes.{Notes}
 use Rattle.inode_parts.specs.declared.one_step.OneStep.{OneStep}
@@ -50,6 +50,8 @@ part_left path m (part.LockFile p) h = lock_file_left path m p h
 part_left path m (part.StatFile p) h = stat_left path m p h
 part_left path m (part.Take p) h = take_left path m p h
 part_left path m (part.Relock p) h = relock_left path m p h
+part_left path m (part.ReadFile p) h = read_file_left path p h
+part_left path m (part.WriteFile p) h = write_file_left path p h
 
 abbrev pub part_left_after : List ℕ → Notes → Option Heard → InodePart → Hand → Part
 part_left_after path m None p h = part_left path m p h
@@ -70,6 +72,8 @@ part_asked (part.LockFile p) = lock_file_asked p
 part_asked (part.StatFile p) = stat_asked p
 part_asked (part.Take p) = take_asked p
 part_asked (part.Relock p) = relock_asked p
+part_asked (part.ReadFile p) = read_file_asked p
+part_asked (part.WriteFile p) = write_file_asked p
 
 abbrev pub PartReady : InodePart → Hand → Type 0
 PartReady (part.One s) h = StepReady s h
@@ -86,10 +90,14 @@ PartReady (part.LockFile p) h = LockFileReady p h
 PartReady (part.StatFile p) h = StatReady p h
 PartReady (part.Take p) h = TakeReady p h
 PartReady (part.Relock p) h = RelockReady p h
+PartReady (part.ReadFile p) h = ReadFileReady p h
+PartReady (part.WriteFile p) h = WriteFileReady p h
 
--- the names that it seeks stand in the call's path
+-- the names that it seeks stand in the call's path, and its bytes, or the room for them
 abbrev pub PartTold : List ℕ → InodePart → Type 0
 PartTold path (part.Take p) = TakeTold path p
+PartTold path (part.ReadFile p) = ReadFileTold path p
+PartTold path (part.WriteFile p) = WriteFileTold path p
 PartTold path p = Unit {0}
 
 abbrev pub AskTold : List ℕ → Ask → Type 0
@@ -104,11 +112,15 @@ one_or_leave None = part.Leave finish.Leave
 abbrev pub part_for : above.Op → Hand → InodePart
 part_for op h = one_or_leave (step_for op h)
 
--- what an operation asks of the hand, and of what was learned, where it has a part
-abbrev pub PartBegins : List ℕ → above.Op → Having → Type 0
-PartBegins path (above.ReadFile fd n offset count) s = ⊥
-PartBegins path (above.WriteFile fd n offset bytes) s = ⊥
-PartBegins path op s = BeginsWith path op s
+-- what is asked to be read comes to the front of the call's text
+abbrev pub FillsAs : Ask → List ℕ → Part → Type 0
+FillsAs (ask.ReadFile fd n offset count) text q = FillsFrom text q
+FillsAs a text q = Unit {0}
+
+-- it reads into the call's text
+abbrev pub ReadsInto : InodePart → Type 0
+ReadsInto (part.ReadFile p) = Unit {0}
+ReadsInto p = ⊥
 
 -- it may be more than one operation
 abbrev pub MayGoOn : InodePart → Type 0

@@ -38,5 +38,9 @@ IsPart sizes = layers.IsPart machine (below sizes) (handlers sizes) answer_by
 abbrev pub lowered : Super → Carry → above.P Reply → P Reply
 lowered sizes c p = layers.below machine (below sizes) (handlers sizes) answer_by c p
 
+-- how a call goes on with what a part hands over
+abbrev pub hears_in : Super → above.P Reply → Message → above.P Reply
+hears_in sizes = layers.hears machine (below sizes) (handlers sizes) answer_by
+
 abbrev pub with_part : Super → Part → above.P Reply → P Reply
 with_part sizes q p = layers.with_part machine (below sizes) (handlers sizes) answer_by q p

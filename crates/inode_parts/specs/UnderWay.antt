@@ -11,7 +11,9 @@ use Rattle.inode_parts.specs.Clears.{ClearAmid}
 use Rattle.inode_parts.specs.Empties.{EmptyAmid}
 use Rattle.inode_parts.specs.Enters.{EnterAmid}
 use Rattle.inode_parts.specs.FileLocks.{LockFileAmid, LockOpenAmid}
+use Rattle.inode_parts.specs.FileReads.{ReadFileAmid}
 use Rattle.inode_parts.specs.FileStats.{StatAmid}
+use Rattle.inode_parts.specs.FileWrites.{WriteFileAmid}
 use Rattle.inode_parts.specs.Fills.{FillAmid}
 use Rattle.inode_parts.specs.Frees.{FreeAmid}
 use Rattle.inode_parts.specs.Relocks.{RelockAmid}
@@ -42,6 +44,8 @@ LongAmid path (above.LockFile fd) start (part.LockFile p) now = LockFileAmid fd 
 LongAmid path (above.StatFile fd) start (part.StatFile p) now = StatAmid start p now
 LongAmid path (above.Take n looking) start (part.Relock p) now = (looking ≡ AtNothing) × RelockAmid n start p now
 LongAmid path (above.Take n looking) start (part.Take p) now = TakeAmid path n looking start p now
+LongAmid path (above.ReadFile fd n offset count) start (part.ReadFile p) now = ReadFileAmid n start p now
+LongAmid path (above.WriteFile fd n offset bytes) start (part.WriteFile p) now = WriteFileAmid n start p now
 LongAmid path op start p now = ⊥
 
 -- this operation began with that in hand, and its part is under way from there

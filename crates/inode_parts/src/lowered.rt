@@ -2,14 +2,20 @@
 ghost use Rattle.std.specs.Prelude.{◌≡◌, Some, None, IfSome, IfNone};
 ghost use Rattle.plain_tree.specs.declared.answer.Reply.{Reply as ReplyState};
 ghost use Rattle.inode_machine.specs.Programs.{program};
+ghost use Rattle.inode_machine.specs.World.{Op as OpAbove};
 ghost use Rattle.whole_calls.specs.Asks.{reply_to};
-ghost use Rattle.whole_calls.specs.Wholes.{call_in, IsCall};
+ghost use Rattle.whole_calls.specs.Wholes.{call_in, text_in, HasRoomFor, IsCall};
 ghost use Rattle.inodes_on_blocks.specs.Lowering.{nothing};
 ghost use Rattle.hand_controls.specs.Calling.{IsEmpty};
-ghost use Rattle.hands.specs.Controls.{bare};
+ghost use Rattle.hands.specs.Controls.{bare, Goes};
+ghost use Rattle.hands.specs.Ops.{answer_in, IsAfter};
 ghost use Rattle.hands.specs.declared.hand.Hand.{Hand as HandState};
 ghost use Rattle.inode_parts.specs.Parts.{lowered};
-ghost use Rattle.inode_parts.specs.Calls.{lowered_left, lowered_asked, path_of, HasOnePath, LoweredReady, RunsByParts};
+ghost use Rattle.inode_parts.specs.Calls.{lowered_left, lowered_asked, path_of, FillsOrStays, HasOnePath, IsReading, LoweredReady, RunsByParts};
+ghost use Rattle.inode_parts.specs.Holding.{Having};
+ghost use Rattle.inode_parts.specs.InodeParts.{part_left, part_left_after, part_asked, PartReady, PartTold, ReadsInto};
+ghost use Rattle.inode_parts.specs.Leaving.{having, heard_if};
+ghost use Rattle.inode_parts.specs.UnderWay.{GoesOrLeaves, UnderWay};
 ghost use Rattle.inode_parts.specs.Sizes.{IsSized};
 
 use crate::note::Notes;
@@ -101,6 +107,40 @@ fn take_call(call: &mut Whole) -> Whole
     mem::replace(call, no_call())
 }
 
+// A call's part goes on: true where it is over, with what is heard left in `heard`. A read's has the call's own buffer.
+fn part_next(
+    part: &mut InodePart,
+    call: &mut Whole,
+    notes: &mut Notes,
+    answer: &Answer,
+    hand: &mut Hand,
+    heard: &mut Heard,
+) -> bool
+    requires told { PartTold (text_in call.old) part.old }
+    requires reads { ReadsInto part.old → IsReading call.old }
+    requires came { (before : HandState) × PartReady part.old before × IsAfter (part_asked part.old) before answer.now hand.old }
+    ensures goes { (before : HandState) → PartReady part.old before → IsAfter (part_asked part.old) before answer.now hand.old
+        → Goes (part_left (text_in call.old) notes.old part.old before) (answer_in (part_asked part.old) answer.now hand.old)
+        (part_left_after (text_in call.new) notes.new (heard_if result heard.new) part.new hand.new) }
+    ensures under { (op : OpAbove) (start : Having) (before : HandState) → UnderWay (text_in call.old) op start part.old (having before notes.old)
+        → PartReady part.old before → IsAfter (part_asked part.old) before answer.now hand.old
+        → GoesOrLeaves (text_in call.old) op start (heard_if result heard.new) part.new (having hand.new notes.new) }
+    ensures ready { IfNone (heard_if result heard.new) (PartReady part.new hand.new) }
+    ensures told { IfNone (heard_if result heard.new) (PartTold (text_in call.new) part.new) }
+    ensures call { FillsOrStays call.old call.new }
+    ensures reads { IfNone (heard_if result heard.new) (ReadsInto part.new → ReadsInto part.old) }
+    ensures room { ReadsInto part.old → IfSome (heard_if result heard.new) (λ x. HasRoomFor x call.new) }
+    ensures hand { bare hand.new ≡ bare hand.old }
+{
+    match part {
+        InodePart::ReadFile(read) => match call {
+            Whole::Read { fd: _, buf, at: _ } => read.next(buf.as_mut_slice(), answer, hand, heard),
+            _ => unreachable!(),
+        }
+        _ => part.next(call.text(), notes, answer, hand, heard),
+    }
+}
+
 impl Control for Lowered {
     type Out = ();
 
@@ -117,16 +157,20 @@ impl Control for Lowered {
     ghost Ends = { λ _ h. IsEmpty h };
 
     fn op(&self, hand: &mut Hand) -> Op {
-        self.part.op(hand)
+        self.part.op(self.call.text(), hand)
     }
 
     fn next(&mut self, answer: &Answer, hand: &mut Hand) -> Option<()> {
         let mut heard = Heard::Did;
-        let text = self.call.text();
-        if self
-            .part
-            .next(text, &mut self.notes, answer, hand, &mut heard)
-        {
+        let part = &mut self.part;
+        if part_next(
+            part,
+            &mut self.call,
+            &mut self.notes,
+            answer,
+            hand,
+            &mut heard,
+        ) {
             if self.call.next(&heard, &mut self.list, &mut self.says) {
                 Some(())
             } else {

@@ -7,6 +7,7 @@ ghost use Rattle.hands.specs.declared.hand.Hand.{Hand as HandState};
 ghost use Rattle.inode_machine.specs.World.{Op as OpAbove};
 ghost use Rattle.inode_machine.specs.World.Op.{Take};
 ghost use Rattle.whole_calls.specs.Asks.{op_in as above_op, query_in};
+ghost use Rattle.inode_parts.specs.Expecting.{BeginsWith};
 ghost use Rattle.inode_parts.specs.Carries.{carry_in, handed};
 ghost use Rattle.inode_parts.specs.Holding.{Having};
 ghost use Rattle.inode_parts.specs.Leaving.{having, heard_if};
@@ -15,7 +16,7 @@ ghost use Rattle.inode_parts.specs.Parts.{IsPart};
 ghost use Rattle.inode_parts.specs.Sizes.{IsSized};
 ghost use Rattle.inode_parts.specs.Enters.{AskStands};
 ghost use Rattle.inode_parts.specs.Takes.{IsTold};
-ghost use Rattle.inode_parts.specs.InodeParts.{part_for, part_left, part_left_after, part_asked, AskTold, ChangesNone, MayGoOn, PartBegins, PartReady, PartTold};
+ghost use Rattle.inode_parts.specs.InodeParts.{part_for, part_left, part_left_after, part_asked, AskTold, ChangesNone, FillsAs, MayGoOn, PartReady, PartTold, ReadsInto};
 ghost use Rattle.inode_parts.specs.UnderWay.{GoesOrLeaves, UnderWay};
 ghost use Rattle.inode_parts.specs.declared.note.Notes.{Notes as NotesState};
 
@@ -30,10 +31,12 @@ use crate::lock_open_part::LockOpenPart;
 use crate::note::Notes;
 use crate::one_step::OneStep;
 use crate::places::{reference_seat, refers_at};
+use crate::read_file_part::ReadFilePart;
 use crate::relock_part::RelockPart;
 use crate::stat_file_part::StatFilePart;
 use crate::store_part::StorePart;
 use crate::take_part::TakePart;
+use crate::write_file_part::WriteFilePart;
 use fs_layout::Super;
 use hand_controls::Finish;
 use hands::{Answer, Control, Hand, Op};
@@ -69,6 +72,10 @@ pub enum InodePart {
     Take(TakePart),
     /// The first listed one is.
     Relock(RelockPart),
+    /// A part of an open file is read.
+    ReadFile(ReadFilePart),
+    /// A piece is written to one.
+    WriteFile(WriteFilePart),
 }
 
 impl InodePart {
@@ -82,12 +89,13 @@ impl InodePart {
     #[tactic(auto, using(crate::proofs::Begins::is_part, crate::proofs::Begins::is_ready))]
     pub fn begin(&mut self, ask: Ask, sizes: &Super, path: &[u8], notes: &Notes, hand: &mut Hand)
         requires sizes { IsSized sizes.now }
-        requires begins { PartBegins path.now (above_op path.now ask) (having hand.old notes.now) }
+        requires begins { BeginsWith path.now (above_op path.now ask) (having hand.old notes.now) }
         requires stands { AskStands path.now ask }
         requires told { AskTold path.now ask }
         ensures part { IsPart sizes.now (carry_in path.now notes.now hand.old) (above_op path.now ask) (part_left path.now notes.now self.new hand.new) }
         ensures ready { PartReady self.new hand.new }
         ensures told { PartTold path.now self.new }
+        ensures fills { FillsAs ask path.now (part_left path.now notes.now self.new hand.new) }
         ensures known { Begins (above_op path.now ask) hand.old → (self.new ≡ part_for (above_op path.now ask) hand.old) × (hand.new ≡ hand.old) }
         ensures under { UnderWay path.now (above_op path.now ask) (having hand.old notes.now) self.new (having hand.new notes.now) }
         ensures hand { bare hand.new ≡ bare hand.old }
@@ -115,15 +123,23 @@ impl InodePart {
             Ask::LockFile(fd) => *self = InodePart::LockFile(LockFilePart::begin(fd, sizes, hand)),
             Ask::StatFile(fd) => *self = InodePart::StatFile(StatFilePart::begin(fd, sizes, hand)),
             Ask::Take(number, query) => *self = take(number, query, sizes, hand),
+            Ask::ReadFile(fd, number, _, count) => {
+                *self = InodePart::ReadFile(ReadFilePart::begin(fd, number, count, notes, hand));
+            }
+            Ask::WriteFile(fd, number, _, index) => {
+                let part = WriteFilePart::begin(fd, number, index, path, sizes, notes, hand);
+                *self = InodePart::WriteFile(part);
+            }
             _ => *self = one_or_leave(ask, hand),
         }
     }
 
-    /// The next operation. Bytes to be recorded are written in their buffer.
-    pub fn op(&self, hand: &mut Hand) -> Op
+    /// The next operation in a call with this text. Bytes to be recorded are written in their buffer.
+    pub fn op(&self, text: &[u8], hand: &mut Hand) -> Op
         requires ready { PartReady self.now hand.old }
+        requires told { PartTold text.now self.now }
         ensures op { result ≡ part_asked self.now }
-        ensures asks { (path : List ℕ) (notes : NotesState) → asks (part_left path notes self.now hand.old) ≡ Some (op_in hand.new result) }
+        ensures asks { (notes : NotesState) → asks (part_left text.now notes self.now hand.old) ≡ Some (op_in hand.new result) }
         ensures can { CanDo result hand.new }
         ensures prepared { Prepared result hand.old hand.new }
     {
@@ -142,11 +158,13 @@ impl InodePart {
             InodePart::StatFile(part) => part.op(hand),
             InodePart::Take(part) => part.op(hand),
             InodePart::Relock(part) => part.op(hand),
+            InodePart::ReadFile(part) => part.op(hand),
+            InodePart::WriteFile(part) => part.op(text, hand),
         }
     }
 
-    /// How it goes on in a call with this path: true where it is over, with what is heard left in `heard`. The record of a locked inode may
-    /// change in hand.
+    /// How it goes on in a call with this path, where it reads nothing into that: true where it is over, with what is heard left in `heard`.
+    /// The record of a locked inode may change in hand.
     #[tactic(auto, using(crate::proofs::Goings::leave_on))]
     pub fn next(
         &mut self,
@@ -156,6 +174,7 @@ impl InodePart {
         hand: &mut Hand,
         heard: &mut Heard,
     ) -> bool
+        requires stays { ReadsInto self.old → ⊥ }
         requires told { PartTold path.now self.old }
         requires came { (before : HandState) × PartReady self.old before × IsAfter (part_asked self.old) before answer.now hand.old }
         ensures goes { (before : HandState) → PartReady self.old before → IsAfter (part_asked self.old) before answer.now hand.old
@@ -165,6 +184,7 @@ impl InodePart {
             → GoesOrLeaves path.now op start (heard_if result heard.new) self.new (having hand.new notes.new) }
         ensures ready { IfNone (heard_if result heard.new) (PartReady self.new hand.new) }
         ensures told { IfNone (heard_if result heard.new) (PartTold path.now self.new) }
+        ensures stays { IfNone (heard_if result heard.new) (ReadsInto self.new → ⊥) }
         ensures on { IfNone (heard_if result heard.new) (MayGoOn self.old) }
         ensures same { ChangesNone self.old → hand.new ≡ hand.old }
         ensures hand { bare hand.new ≡ bare hand.old }
@@ -193,6 +213,8 @@ impl InodePart {
             InodePart::StatFile(part) => part.next(notes, answer, hand, heard),
             InodePart::Take(part) => part.next(path, notes, answer, hand, heard),
             InodePart::Relock(part) => part.next(notes, answer, hand, heard),
+            InodePart::ReadFile(_) => unreachable!(),
+            InodePart::WriteFile(part) => part.next(path, answer, hand, heard),
         }
     }
 }
@@ -200,12 +222,12 @@ impl InodePart {
 // An inode is locked by the reference at a seat, or where none is there by the first listed one.
 fn take(number: u32, query: Query, sizes: &Super, hand: &Hand) -> InodePart
     requires sizes { IsSized sizes.now }
-    requires begins { (path : List ℕ) × (notes : NotesState) × PartBegins path (Take number (query_in path query)) (having hand.now notes) }
-    ensures part { (path : List ℕ) (notes : NotesState) → PartBegins path (Take number (query_in path query)) (having hand.now notes)
+    requires begins { (path : List ℕ) × (notes : NotesState) × BeginsWith path (Take number (query_in path query)) (having hand.now notes) }
+    ensures part { (path : List ℕ) (notes : NotesState) → BeginsWith path (Take number (query_in path query)) (having hand.now notes)
         → IsPart sizes.now (carry_in path notes hand.now) (Take number (query_in path query)) (part_left path notes result hand.now) }
     ensures ready { PartReady result hand.now }
     ensures told { (path : List ℕ) → IsTold path query → PartTold path result }
-    ensures under { (path : List ℕ) (notes : NotesState) → PartBegins path (Take number (query_in path query)) (having hand.now notes)
+    ensures under { (path : List ℕ) (notes : NotesState) → BeginsWith path (Take number (query_in path query)) (having hand.now notes)
         → UnderWay path (Take number (query_in path query)) (having hand.now notes) result (having hand.now notes) }
 {
     let seat = reference_seat(hand, number);

@@ -3,15 +3,16 @@ use Rattle.std.specs.Prelude.{◌<◌, ◌^◌}
 use Rattle.whole_calls.specs.Asks.{op_in}
 use Rattle.whole_calls.specs.Elements.{name_in}
 use Rattle.whole_calls.specs.declared.asks.Ask.{Ask}
+use Rattle.inode_parts.specs.Expecting.{BeginsWith}
 use Rattle.inode_parts.specs.Carries.{carry_in}
-use Rattle.inode_parts.specs.InodeParts.{part_left, AskTold, PartBegins, PartReady, PartTold}
+use Rattle.inode_parts.specs.InodeParts.{part_left, AskTold, PartReady, PartTold}
 use Rattle.inode_parts.specs.Leaving.{having}
 use Rattle.inode_parts.specs.OneSteps.{step_for}
 use Rattle.inode_parts.specs.Parts.{IsPart}
 use Rattle.inode_parts.specs.declared.part.InodePart.{InodePart}
 use Rattle.inode_parts.specs.UnderWay.{UnderWay}
-use Rattle.inode_parts.proofs.Beginning.{may_change, may_claim, may_free, may_lock}
-use Rattle.inode_parts.proofs.Begins.{is_part, is_ready, short_begins, told_for}
+use Rattle.inode_parts.proofs.Beginning.{may_change, may_claim, may_free, may_lock, may_write}
+use Rattle.inode_parts.proofs.Begins.{is_part, is_ready, other_fills, short_begins, told_for}
 use Rattle.inode_parts.proofs.StepLeaves.{under_way}
 use Rattle.inode_parts.proofs.part.InodePart.begin.Goals as goal
 
@@ -88,7 +89,7 @@ begin-requires-in-Clear c =
     let path = c.args.path.now in
     let n = c.in-Clear.number in
     let few : n < 2 ^ 32 = search rules in
-    let begins = subst (λ (a : Ask). PartBegins path (op_in path a) (having c.args.hand.now c.args.notes.now)) c.in-Clear.is c.requires.begins in
+    let begins = subst (λ (a : Ask). BeginsWith path (op_in path a) (having c.args.hand.now c.args.notes.now)) c.in-Clear.is c.requires.begins in
     record { begins = (path, name_in path c.in-Clear.field-1, (may_change c.args.sizes.now c.requires.sizes n c.args.hand.now few begins.0, begins.1)) }
 
 pub returns-in-Enter-clause-part : goal.returns-in-Enter-clause-part
@@ -99,7 +100,7 @@ returns-in-Clear-clause-part c =
     let path = c.args.path.now in
     let n = c.in-Clear.number in
     let few : n < 2 ^ 32 = search rules in
-    let begins = subst (λ (a : Ask). PartBegins path (op_in path a) (having c.args.hand.now c.args.notes.now)) c.in-Clear.is c.requires.begins in
+    let begins = subst (λ (a : Ask). BeginsWith path (op_in path a) (having c.args.hand.now c.args.notes.now)) c.in-Clear.is c.requires.begins in
     rw c.in-Clear.is (c.begin-in-Clear.ensures.part path (name_in path c.in-Clear.field-1) (may_change c.args.sizes.now c.requires.sizes n c.args.hand.now few begins.0, begins.1))
 
 pub returns-in-Fill-clause-part : goal.returns-in-Fill-clause-part
@@ -124,14 +125,14 @@ pub take-requires : goal.take-requires
 take-requires c =
     let path = c.args.path.now in
     let m = c.args.notes.now in
-    record { sizes = c.requires.sizes; begins = (path, m, subst (λ (a : Ask). PartBegins path (op_in path a) (having c.args.hand.now m)) c.in-Take.is c.requires.begins) }
+    record { sizes = c.requires.sizes; begins = (path, m, subst (λ (a : Ask). BeginsWith path (op_in path a) (having c.args.hand.now m)) c.in-Take.is c.requires.begins) }
 
 pub returns-in-Take-clause-part : goal.returns-in-Take-clause-part
 returns-in-Take-clause-part c =
     let path = c.args.path.now in
     let m = c.args.notes.now in
     let h = c.args.hand.now in
-    subst (λ (a : Ask). PartBegins path (op_in path a) (having h m) → IsPart c.args.sizes.now (carry_in path m h) (op_in path a) (part_left path m c.take.result h)) (sym c.in-Take.is)
+    subst (λ (a : Ask). BeginsWith path (op_in path a) (having h m) → IsPart c.args.sizes.now (carry_in path m h) (op_in path a) (part_left path m c.take.result h)) (sym c.in-Take.is)
     (λ begins. c.take.ensures.part path m begins) c.requires.begins
 
 pub returns-in-Take-clause-under : goal.returns-in-Take-clause-under
@@ -139,7 +140,7 @@ returns-in-Take-clause-under c =
     let path = c.args.path.now in
     let m = c.args.notes.now in
     let h = c.args.hand.now in
-    subst (λ (a : Ask). PartBegins path (op_in path a) (having h m) → UnderWay path (op_in path a) (having h m) c.take.result (having h m)) (sym c.in-Take.is)
+    subst (λ (a : Ask). BeginsWith path (op_in path a) (having h m) → UnderWay path (op_in path a) (having h m) c.take.result (having h m)) (sym c.in-Take.is)
     (λ begins. c.take.ensures.under path m begins) c.requires.begins
 
 pub returns-in-Take-clause-told : goal.returns-in-Take-clause-told
@@ -153,13 +154,40 @@ returns-in_default c =
     let h = c.args.hand.now in
     let op = op_in path c.args.ask in
     let no = c.in_default in
-    let has = short_begins path m c.args.ask h c.requires.begins no.not-Store no.not-Empty no.not-Enter no.not-Clear no.not-Fill no.not-Free no.not-Claim no.not-LockOpen no.not-LockFile no.not-StatFile no.not-Take in
+    let has = short_begins path m c.args.ask h c.requires.begins no.not-Store no.not-Empty no.not-Enter no.not-Clear no.not-Fill no.not-Free no.not-Claim no.not-LockOpen no.not-LockFile no.not-StatFile no.not-Take no.not-ReadFile no.not-WriteFile in
     let is = c.one_or_leave.ensures.is path in
     record {
       part = subst (λ (p : InodePart). IsPart sizes (carry_in path m h) op (part_left path m p h)) (sym is) (is_part sizes path m h op has);
       ready = subst (λ (p : InodePart). PartReady p h) (sym is) (is_ready op h has);
       told = subst (λ (p : InodePart). PartTold path p) (sym is) (told_for path (step_for op h));
+      fills = other_fills path c.args.ask _ no.not-ReadFile;
       known = λ begins. (is, refl);
       under = subst (λ (p : InodePart). UnderWay path op (having h m) p (having h m)) (sym is) (under_way path op h m has);
       hand = refl;
     }
+
+pub begin-requires-in-ReadFile : goal.begin-requires-in-ReadFile
+begin-requires-in-ReadFile c =
+    let begins = rw c.in-ReadFile.is at c.requires.begins in
+    let stands = rw c.in-ReadFile.is at c.requires.stands in
+    record { count = stands.1; begins = (c.in-ReadFile.field-2, begins) }
+
+pub returns-in-ReadFile-clause-part : goal.returns-in-ReadFile-clause-part
+returns-in-ReadFile-clause-part c =
+    let begins = rw c.in-ReadFile.is at c.requires.begins in
+    rw c.in-ReadFile.is (c.begin-in-ReadFile.ensures.part c.args.sizes.now c.args.path.now c.in-ReadFile.field-2 begins)
+
+pub begin-part-requires : goal.begin-part-requires
+begin-part-requires c =
+    let n = c.in-WriteFile.number in
+    let few : n < 2 ^ 32 = search rules in
+    let begins = rw c.in-WriteFile.is at c.requires.begins in
+    let stands = rw c.in-WriteFile.is at c.requires.stands in
+    record { stands = stands; begins = (c.in-WriteFile.field-2, may_write c.args.sizes.now c.requires.sizes n c.in-WriteFile.fd c.in-WriteFile.field-2 (having c.args.hand.now c.args.notes.now) few begins) }
+
+pub returns-in-WriteFile-clause-part : goal.returns-in-WriteFile-clause-part
+returns-in-WriteFile-clause-part c =
+    let n = c.in-WriteFile.number in
+    let few : n < 2 ^ 32 = search rules in
+    let begins = rw c.in-WriteFile.is at c.requires.begins in
+    rw c.in-WriteFile.is (c.begin-part.ensures.part c.in-WriteFile.field-2 (may_write c.args.sizes.now c.requires.sizes n c.in-WriteFile.fd c.in-WriteFile.field-2 (having c.args.hand.now c.args.notes.now) few begins))

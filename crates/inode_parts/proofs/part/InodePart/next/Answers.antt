@@ -3,11 +3,12 @@ use Rattle.hands.specs.Controls.{Goes}
 use Rattle.hands.specs.Ops.{answer_in}
 use Rattle.inode_parts.specs.FileLocks.{lock_file_left, lock_file_asked}
 use Rattle.inode_parts.specs.FileStats.{stat_left, stat_asked}
+use Rattle.inode_parts.specs.FileWrites.{write_file_left, write_file_asked}
 use Rattle.inode_parts.specs.Leaving.{heard_if}
 use Rattle.inode_parts.specs.Parts.{Part}
-use Rattle.inode_parts.proofs.Lefts.{lock_file_after, stat_after}
+use Rattle.inode_parts.proofs.Lefts.{lock_file_after, stat_after, write_after}
 use Rattle.inode_parts.proofs.StepLeaves.{step_leaves}
-use Rattle.inode_parts.proofs.UnderWay.{claims, clears, empties, enters, fills, frees, leave_leaves, leave_stays, lock_files, lock_opens, relocks, stats, stores, takes}
+use Rattle.inode_parts.proofs.UnderWay.{claims, clears, empties, enters, fills, frees, leave_leaves, leave_stays, lock_files, lock_opens, relocks, stats, stores, takes, writes}
 use Rattle.inode_parts.proofs.part.InodePart.next.Goals as goal
 
 pub returns-in-LockFile-clause-goes : goal.returns-in-LockFile-clause-goes
@@ -117,3 +118,21 @@ returns-in-StatFile-clause-goes c before =
     rw c.in-StatFile.is (λ ready after.
     subst (λ (q : Part). Goes (stat_left path c.args.notes.now p before) (answer_in (stat_asked p) c.args.answer.now c.args.hand.now) q)
     (stat_after path did.new.notes (heard_if did.result did.new.heard) did.new.self did.new.hand) (did.ensures.goes path before ready after))
+
+pub returns-in-WriteFile-clause-under : goal.returns-in-WriteFile-clause-under
+returns-in-WriteFile-clause-under c op start before =
+    let path = c.args.path.now in
+    let m = c.args.notes.now in
+    let did = c.next-in-WriteFile in
+    rw c.in-WriteFile.is (λ under ready after.
+    writes path start before did.new.hand m m (heard_if did.result did.new.heard) c.in-WriteFile.part did.new.self (λ fd n offset bytes amid. did.ensures.leaves path m fd n offset bytes start.hand before amid ready after) op under)
+
+pub returns-in-WriteFile-clause-goes : goal.returns-in-WriteFile-clause-goes
+returns-in-WriteFile-clause-goes c before =
+    let text = c.args.path.now in
+    let m = c.args.notes.now in
+    let p = c.in-WriteFile.part in
+    let did = c.next-in-WriteFile in
+    rw c.in-WriteFile.is (λ ready after.
+    subst (λ (q : Part). Goes (write_file_left text p before) (answer_in (write_file_asked p) c.args.answer.now c.args.hand.now) q)
+    (write_after text m (heard_if did.result did.new.heard) did.new.self did.new.hand) (did.ensures.goes m before ready after))

@@ -1,0 +1,181 @@
+-- The text of a call, into which a read's part comes.
+use Rattle.std.proofs.Common.{◌≡◌, ℕ, List, ◌++◌, length, take, drop, Some, refl, sym, ap, subst, ◌∙◌, inl, inr}
+use Rattle.std.specs.Prelude.{◌<◌, ◌^◌, ◌⊎◌}
+use Rattle.std.proofs.Math.Seq.{drop-append_seam, take-append_seam}
+use Rattle.plain_tree.specs.declared.answer.Reply.{Reply}
+use Rattle.plain_tree.specs.declared.call.Call.TheVariants as calls
+use Rattle.fs_layout.specs.declared.superblock.Super.{Super}
+use Rattle.atomic_programs.specs.Prog as progs
+use Rattle.fs_machine.specs.Machines.{P}
+use Rattle.inode_machine.specs.Descriptors.{read_on, read_reply}
+use Rattle.inode_machine.specs.Parts.{say}
+use Rattle.inode_machine.specs.Parts as above_programs
+use Rattle.inode_machine.specs.World as above
+use Rattle.inode_machine.specs.World.{LocksIt}
+use Rattle.inodes_on_blocks.specs.Lowering.{Carry}
+use Rattle.whole_calls.specs.Asks.{asks, hears, op_in}
+use Rattle.whole_calls.specs.Reads.{read_of}
+use Rattle.whole_calls.specs.Wholes.{HasRoomFor, WholeAsks, WholeFits, call_in, text_in, whole_of}
+use Rattle.whole_calls.specs.declared.asks.Ask.{Ask}
+use Rattle.whole_calls.specs.declared.asks.Ask.TheVariants as ask
+use Rattle.whole_calls.specs.declared.asks.Heard.{Heard}
+use Rattle.whole_calls.specs.declared.reading.Read.TheVariants as reading
+use Rattle.whole_calls.specs.declared.whole.Whole.{Whole}
+use Rattle.whole_calls.specs.declared.whole.Whole.TheVariants as whole
+use Rattle.inode_parts.specs.Calls.{whole_with, with_text, FillsOrStays, HasOnePath, IsFilled, IsOnWay, IsReading}
+use Rattle.inode_parts.specs.Expecting.{BeginsWith}
+use Rattle.inode_parts.specs.FileReads.{FillsFrom}
+use Rattle.inode_parts.specs.Holding.{Having, Runs}
+use Rattle.inode_parts.specs.InodeParts.{FillsAs, ReadsInto}
+use Rattle.inode_parts.specs.Parts.{hears_in, lowered, with_part, Part}
+use Rattle.inode_parts.specs.UnderWay.{UnderWay}
+use Rattle.inode_parts.specs.declared.part.InodePart.{InodePart}
+use Rattle.inode_parts.specs.declared.part.InodePart.TheVariants as part
+
+-- ---- what is left, by the text that a part hands over
+
+-- the reply has what was read, and behind it what stood there
+reply_so : (fd : ℕ) (text b : List ℕ) → let new : List ℕ = b ++ drop (length b) text in read_reply fd text (take (length b) new) ≡ read_reply fd new (take (length b) new)
+reply_so fd text b =
+    let new : List ℕ = b ++ drop (length b) text in
+    let read : take (length b) new ≡ b = take-append_seam b (drop (length b) text) in
+    let behind : drop (length b) new ≡ drop (length b) text = drop-append_seam b (drop (length b) text) in
+    ap (read_reply fd text) read ∙ (λ i. record (read_reply fd text b) { call = calls.Read fd (b ++ sym behind i) }) ∙ ap (read_reply fd new) (sym read)
+
+pub on_text : (sizes : Super) (ns : List ℕ) (w : Whole) (q : Part) → (IsReading w → FillsFrom (text_in w) q) → with_part sizes q (whole_of ns w) ≡ with_text sizes q (whole_with ns w)
+on_text sizes ns (whole.Read fd buf (reading.Part n offset)) q fills =
+    fills tt (λ r. lowered sizes r.carry (hears_in sizes (read_of fd buf.items (reading.Part n offset)) r.answer)) (λ r. lowered sizes r.carry (hears_in sizes (read_of fd r.answer.0 (reading.Part n offset)) r.answer))
+    (λ b c i. lowered sizes c (say (reply_so fd buf.items b i)))
+on_text sizes ns w q fills = refl
+
+-- it has its own text
+pub its_own : (ns : List ℕ) (w : Whole) → whole_with ns w (text_in w) ≡ whole_of ns w
+its_own ns (whole.Read fd buf (reading.Part n offset)) = refl
+its_own ns w = refl
+
+-- ---- a read alone asks to read
+
+fills_asked : (text : List ℕ) (a : Ask) (q : Part) (fd n offset count : ℕ) → op_in text a ≡ above.ReadFile fd n offset count → FillsAs a text q → FillsFrom text q
+fills_asked text (ask.ReadFile f i at k) q fd n offset count e fills = fills
+fills_asked text a q fd n offset count e fills = absurd (cc e)
+
+pub fills_now : (ns : List ℕ) (w : Whole) (a : Ask) (q : Part) → asks (whole_of ns w) ≡ Some (op_in (text_in w) a) → FillsAs a (text_in w) q → IsReading w → FillsFrom (text_in w) q
+fills_now ns (whole.Read fd buf (reading.Part n offset)) a q asked fills is = fills_asked buf.items a q fd n offset (length buf.items) (let e : above.ReadFile fd n offset (length buf.items) ≡ op_in buf.items a = cc in sym e) fills
+fills_now ns w a q asked fills is = absurd is
+
+reads_alone : (w : Whole) (fd n offset count : ℕ) → WholeAsks w (ask.ReadFile fd n offset count) → IsReading w
+reads_alone (whole.Read fd buf (reading.Part n offset)) f i at count named = tt
+reads_alone w f i at count named = absurd named
+
+asked_reads : (path : List ℕ) (w : Whole) (a : Ask) (s t : Having) (q : InodePart) → WholeAsks w a → UnderWay path (op_in path a) s q t → ReadsInto q → IsReading w
+asked_reads path w (ask.ReadFile fd n offset count) s t q named under is = reads_alone w fd n offset count named
+asked_reads path w a s t (part.ReadFile p) named under is = absurd under.0
+asked_reads path w a s t q named under is = absurd is
+
+pub reads_now : (path : List ℕ) (w : Whole) (a : Ask) (s t : Having) (q : InodePart) → WholeAsks w a → UnderWay path (op_in path a) s q t → ReadsInto q → IsReading w
+reads_now path w a s t q named under is = asked_reads path w a s t q named under is
+
+-- while it is to read, its part does
+reads_so : (path : List ℕ) (fd n offset count : ℕ) (s t : Having) (q : InodePart) → UnderWay path (above.ReadFile fd n offset count) s q t → ReadsInto q
+reads_so path fd n offset count s t (part.ReadFile p) under = tt
+reads_so path fd n offset count s t q under = absurd under.0
+
+pub part_reads : (ns : List ℕ) (w : Whole) (q : InodePart) (t : Having) → IsOnWay (text_in w) (whole_of ns w) q t → IsReading w → ReadsInto q
+part_reads ns (whole.Read fd buf (reading.Part n offset)) q t way is =
+    let e : above.ReadFile fd n offset (length buf.items) ≡ way.op = let asked = way.asked in cc in
+    reads_so buf.items fd n offset (length buf.items) way.start t q (subst (λ (op : above.Op). UnderWay buf.items op way.start q t) (sym e) way.under)
+part_reads ns w q t way is = absurd is
+
+-- ---- a buffer that was filled
+
+pub filled_with : (ns : List ℕ) (w v : Whole) → IsFilled w v → whole_with ns w ≡ whole_with ns v
+filled_with ns (whole.Read fd buf (reading.Part n offset)) (whole.Read gd new (reading.Part k at)) filled = λ i text. read_of (sym filled.0 i) text (reading.Part (sym filled.1 i) (sym filled.2 i))
+filled_with ns w v filled = absurd filled
+
+pub filled_fits : (ns : List ℕ) (w v : Whole) → IsFilled w v → WholeFits ns w → WholeFits ns v
+filled_fits ns (whole.Read fd buf (reading.Part n offset)) (whole.Read gd new (reading.Part k at)) filled fits = (subst (λ (k : ℕ). k < 2 ^ 31) (sym filled.3) fits.0, tt)
+filled_fits ns w v filled fits = absurd filled
+
+pub filled_one : (w v : Whole) → IsFilled w v → HasOnePath (call_in v)
+filled_one (whole.Read fd buf (reading.Part n offset)) (whole.Read gd new (reading.Part k at)) filled = tt
+filled_one w v filled = absurd filled
+
+pub filled_reads : (w v : Whole) → IsFilled w v → IsReading v
+filled_reads (whole.Read fd buf (reading.Part n offset)) (whole.Read gd new (reading.Part k at)) filled = tt
+filled_reads w v filled = absurd filled
+
+was_reading : (w v : Whole) → IsFilled w v → IsReading w
+was_reading (whole.Read fd buf (reading.Part n offset)) v filled = tt
+was_reading w v filled = absurd filled
+
+filled_runs : (ns : List ℕ) (w v : Whole) (x : Heard) (t : Having) → IsFilled w v → Runs (text_in w) (BeginsWith (text_in w)) (hears (text_in v) (whole_of ns w) x) t → Runs (text_in v) (BeginsWith (text_in v)) (hears (text_in v) (whole_of ns v) x) t
+unfolding Runs
+filled_runs ns (whole.Read fd buf (reading.Part n offset)) (whole.Read gd new (reading.Part k at)) x t filled runs = (runs.0, λ a u left. runs.1 a u left)
+filled_runs ns w v x t filled runs = absurd filled
+
+-- .. is on its way as before
+under_same : (path new : List ℕ) (fd n offset count : ℕ) (op : above.Op) (s t : Having) (q : InodePart) → above.ReadFile fd n offset count ≡ op → UnderWay path op s q t → UnderWay new op s q t
+under_same path new fd n offset count op s t q e under =
+    subst (λ (op : above.Op). UnderWay path op s q t → UnderWay new op s q t) e (at q) under
+  where
+    at : (q : InodePart) → UnderWay path (above.ReadFile fd n offset count) s q t → UnderWay new (above.ReadFile fd n offset count) s q t
+    at (part.One x) under = under
+    at (part.ReadFile p) under = under
+    at q under = absurd under.0
+
+same_read : (fd n offset : ℕ) (old new : List ℕ) (q : InodePart) (t : Having) → length new ≡ length old → IsOnWay old (read_on fd old (LocksIt n offset)) q t → IsOnWay new (read_on fd new (LocksIt n offset)) q t
+unfolding Runs
+same_read fd n offset old new q t same way =
+    let e : above.ReadFile fd n offset (length old) ≡ way.op = let asked = way.asked in cc in
+    record {
+      op = way.op;
+      start = way.start;
+      asked = ap (λ (count : ℕ). Some (above.ReadFile fd n offset count)) same ∙ way.asked;
+      runs = (way.runs.0, λ a u leaves. ((way.runs.1 a u leaves).0, λ b v left. (way.runs.1 a u leaves).1 b v left));
+      under = under_same old new fd n offset (length old) way.op way.start t q e way.under;
+    }
+
+pub filled_way : (ns : List ℕ) (w v : Whole) (q : InodePart) (t : Having) → IsFilled w v → IsOnWay (text_in w) (whole_of ns w) q t → IsOnWay (text_in v) (whole_of ns v) q t
+filled_way ns (whole.Read fd buf (reading.Part n offset)) (whole.Read gd new (reading.Part k at)) q t filled way =
+    subst (λ (fd : ℕ). IsOnWay new.items (read_on fd new.items (LocksIt k at)) q t) (sym filled.0)
+    (subst (λ (n : ℕ). IsOnWay new.items (read_on fd new.items (LocksIt n at)) q t) (sym filled.1)
+    (subst (λ (offset : ℕ). IsOnWay new.items (read_on fd new.items (LocksIt n offset)) q t) (sym filled.2)
+    (same_read fd n offset buf.items new.items q t filled.3 way)))
+filled_way ns w v q t filled way = absurd filled
+
+-- ---- a call whose part went on
+
+module _ (ns : List ℕ) (w u : Whole) where
+  pub same_with : FillsOrStays w u → whole_with ns w ≡ whole_with ns u
+  same_with (inl e) = ap (whole_with ns) (sym e)
+  same_with (inr filled) = filled_with ns w u filled
+
+  pub fits_with : FillsOrStays w u → WholeFits ns w → WholeFits ns u
+  fits_with (inl e) fits = subst (λ (w : Whole). WholeFits ns w) (sym e) fits
+  fits_with (inr filled) fits = filled_fits ns w u filled fits
+
+  pub one_with : FillsOrStays w u → HasOnePath (call_in w) → HasOnePath (call_in u)
+  one_with (inl e) one = subst (λ (w : Whole). HasOnePath (call_in w)) (sym e) one
+  one_with (inr filled) one = filled_one w u filled
+
+  pub reads_with : FillsOrStays w u → IsReading w → IsReading u
+  reads_with (inl e) is = subst IsReading (sym e) is
+  reads_with (inr filled) is = filled_reads w u filled
+
+  pub read_before : FillsOrStays w u → IsReading u → IsReading w
+  read_before (inl e) is = subst IsReading e is
+  read_before (inr filled) is = was_reading w u filled
+
+  pub way_with : (q : InodePart) (t : Having) → FillsOrStays w u → IsOnWay (text_in w) (whole_of ns w) q t → IsOnWay (text_in u) (whole_of ns u) q t
+  way_with q t (inl e) way = subst (λ (w : Whole). IsOnWay (text_in w) (whole_of ns w) q t) (sym e) way
+  way_with q t (inr filled) way = filled_way ns w u q t filled way
+
+  -- what it hears then
+  pub heard_runs : (x : Heard) (t : Having) → FillsOrStays w u → Runs (text_in w) (BeginsWith (text_in w)) (hears (text_in u) (whole_of ns w) x) t → Runs (text_in u) (BeginsWith (text_in u)) (hears (text_in u) (whole_of ns u) x) t
+  heard_runs x t (inl e) runs = subst (λ (v : Whole). Runs (text_in v) (BeginsWith (text_in v)) (hears (text_in u) (whole_of ns v) x) t) (sym e) runs
+  heard_runs x t (inr filled) runs = filled_runs ns w u x t filled runs
+
+-- there is room for what it read
+pub room_now : (w : Whole) (x : Heard) → (IsReading w → HasRoomFor x w) → HasRoomFor x w
+room_now (whole.Read fd buf (reading.Part n offset)) x room = room tt
+room_now w x room = tt
