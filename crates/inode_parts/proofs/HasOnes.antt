@@ -1,5 +1,6 @@
 -- A part that is ready has an operation to make, and so has a call with it.
 use Rattle.std.proofs.Common.{ℕ, List}
+use Rattle.plain_tree.specs.Calls.{piece}
 use Rattle.hands.proofs.HasOnes.{HasOne, first}
 use Rattle.hands.specs.declared.hand.Hand.{Hand}
 use Rattle.hand_controls.proofs.HasOnes.{file_has, finish_has, freeing_has, lock_has, new_has, open_has, record_has, truncate_has}
@@ -10,13 +11,17 @@ use Rattle.hand_controls.specs.LockingFiles.{file_left, open_left}
 use Rattle.hand_controls.specs.LockingInodes.{lock_left}
 use Rattle.hand_controls.specs.Making.{new_left}
 use Rattle.hand_controls.specs.StoringRecords.{record_left}
-use Rattle.content_parts.proofs.HasOnes.{clear_has, enter_has, fill_has, search_has}
+use Rattle.content_parts.proofs.HasOnes.{clear_has, enter_has, fill_has, read_has, search_has, write_has}
 use Rattle.content_parts.specs.Clearing.{clear_left}
 use Rattle.content_parts.specs.Entering.{enter_left}
 use Rattle.content_parts.specs.Filling.{fill_left}
+use Rattle.content_parts.specs.PartReading.{read_left}
+use Rattle.content_parts.specs.PartWriting.{write_left}
 use Rattle.content_parts.specs.Searching.{search_left}
 use Rattle.whole_calls.specs.Wholes.{text_in}
 use Rattle.inode_parts.specs.Calls.{lowered_left, LoweredReady}
+use Rattle.inode_parts.specs.FileReads.{read_file_left}
+use Rattle.inode_parts.specs.FileWrites.{write_file_left}
 use Rattle.inode_parts.specs.InodeParts.{part_left, PartReady}
 use Rattle.inode_parts.specs.OneSteps.{step_left}
 use Rattle.inode_parts.specs.Relocks.{relock_left}
@@ -27,10 +32,14 @@ use Rattle.inode_parts.specs.declared.one_step.OneStep.{OneStep}
 use Rattle.inode_parts.specs.declared.one_step.OneStep.TheVariants as step
 use Rattle.inode_parts.specs.declared.part.InodePart.{InodePart}
 use Rattle.inode_parts.specs.declared.part.InodePart.TheVariants as part
+use Rattle.inode_parts.specs.declared.read_file_part.ReadFilePart.{ReadFilePart}
+use Rattle.inode_parts.specs.declared.read_file_part.ReadFilePart.TheVariants as reads
 use Rattle.inode_parts.specs.declared.relock_part.RelockPart.{RelockPart}
 use Rattle.inode_parts.specs.declared.relock_part.RelockPart.TheVariants as relock
 use Rattle.inode_parts.specs.declared.take_part.TakePart.{TakePart}
 use Rattle.inode_parts.specs.declared.take_part.TakePart.TheVariants as take
+use Rattle.inode_parts.specs.declared.write_file_part.WriteFilePart.{WriteFilePart}
+use Rattle.inode_parts.specs.declared.write_file_part.WriteFilePart.TheVariants as writes
 
 step_has : (path : List ℕ) (m : Notes) (s : OneStep) (h : Hand) → HasOne (step_left path m s h)
 step_has path m (step.Give k) h = tt
@@ -62,6 +71,15 @@ relock_has : (path : List ℕ) (m : Notes) (p : RelockPart) (h : Hand) → HasOn
 relock_has path m (relock.Locking k i) h = tt
 relock_has path m (relock.Loading r) h = first (lock_left r h) _ (lock_has r h)
 
+read_file_has : (text : List ℕ) (p : ReadFilePart) (h : Hand) → HasOne (read_file_left text p h)
+read_file_has text (reads.Reading f p) h = first (read_left _ text p h) _ (read_has _ text p h)
+read_file_has text (reads.Ending f count) h = tt
+
+write_file_has : (text : List ℕ) (p : WriteFilePart) (h : Hand) → HasOne (write_file_left text p h)
+write_file_has text (writes.Denied k why) h = tt
+write_file_has text (writes.Writing f at p) h = first (write_left (piece text at) p h) _ (write_has (piece text at) p h)
+write_file_has text (writes.Ending f upto w) h = tt
+
 pub part_has : (path : List ℕ) (m : Notes) (p : InodePart) (h : Hand) → PartReady p h → HasOne (part_left path m p h)
 part_has path m (part.One s) h ready = step_has path m s h
 part_has path m (part.Leave f) h ready = first (finish_left f h) _ (finish_has f h ready)
@@ -77,6 +95,8 @@ part_has path m (part.LockFile p) h ready = first (file_left p.lock h) _ (file_h
 part_has path m (part.StatFile p) h ready = first (file_left p.lock h) _ (file_has p.lock h)
 part_has path m (part.Take p) h ready = take_has path m p h
 part_has path m (part.Relock p) h ready = relock_has path m p h
+part_has path m (part.ReadFile p) h ready = read_file_has path p h
+part_has path m (part.WriteFile p) h ready = write_file_has path p h
 
 pub lowered_has : (l : Lowered) (h : Hand) → LoweredReady l h → HasOne (lowered_left l h)
 lowered_has l h ready = first (part_left (text_in l.call) l.notes l.part h) _ (part_has (text_in l.call) l.notes l.part h ready.ready)

@@ -55,7 +55,8 @@ impl WriteFilePart {
         requires stands { piece_len * index ≤ length text.now }
         requires begins { (offset : ℕ) × WriteBegins sizes.now fd number offset (having hand.now notes.now) }
         ensures part { (offset : ℕ) → WriteBegins sizes.now fd number offset (having hand.now notes.now)
-            → IsPart sizes.now (carry_in text.now notes.now hand.now) (Writes fd number offset (piece text.now index)) (write_file_left text.now result hand.now) }
+            → IsPart sizes.now (carry_in text.now notes.now hand.now) (Writes fd number offset (piece text.now index))
+            (write_file_left text.now result hand.now) }
         ensures ready { WriteFileReady result hand.now }
         ensures told { WriteFileTold text.now result }
         ensures amid { WriteFileAmid number hand.now result hand.now }
@@ -72,8 +73,8 @@ impl WriteFilePart {
         }
     }
 
-    /// The next operation. The next block's part of the bytes is written in its buffer. The file moves in the same step in which its lock is
-    /// given up.
+    /// The next operation. The next block's part of the bytes is written in its buffer. The file moves in the same step in which its lock
+    /// is given up.
     pub fn op(&self, text: &[u8], hand: &mut Hand) -> Op
         requires ready { WriteFileReady self.now hand.old }
         requires told { WriteFileTold text.now self.now }
