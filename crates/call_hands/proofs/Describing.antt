@@ -27,7 +27,7 @@ module _ (path : List ℕ) where
 
   -- with nothing in hand
   abbrev From0 : P Reply → Type 0
-  From0 p = From (false, []) Nothing Nothing p
+  From0 p = From (false, [], None) Nothing Nothing p
 
   -- ---- dup
 
@@ -38,7 +38,7 @@ module _ (path : List ℕ) where
 
   doubles : (fd : ℕ) → From0 (dup_program fd)
   unfolding Runs
-  doubles fd s held = (tt, λ a u e. doubles_on fd a u (stays (false, []) Nothing Nothing s u held e.0 e.1))
+  doubles fd s held = (tt, λ a u e. doubles_on fd a u (stays (false, [], None) Nothing Nothing s u held e.0 e.1))
 
   -- ---- a descriptor's inode locked
 
@@ -58,16 +58,16 @@ module _ (path : List ℕ) where
 
   -- ---- read
 
-  reads : (fd : ℕ) (buffer : List ℕ) (s u : Having) → InHand (false, []) Nothing Nothing s → (a : above.LockResult) → Leaves path (above.LockFile fd) a s u → R (read_on fd buffer a) u
+  reads : (fd : ℕ) (buffer : List ℕ) (s u : Having) → InHand (false, [], None) Nothing Nothing s → (a : above.LockResult) → Leaves path (above.LockFile fd) a s u → R (read_on fd buffer a) u
   unfolding Runs
-  reads fd buffer s u held (above.NotLocked c) e = ends path (failed (calls.Read fd buffer) c) u (unlearned (false, []) s u held e.0)
+  reads fd buffer s u held (above.NotLocked c) e = ends path (failed (calls.Read fd buffer) c) u (unlearned (false, [], None) s u held e.0)
   reads fd buffer s u held (above.LocksIt n offset) e =
-      let is = opened (false, []) s u held n e.0 in
-      (has_opened (false, []) fd n offset u is e.1, λ b v left. say_ends path (read_reply fd buffer b) v (gives (false, []) n u v is left))
+      let is = opened (false, [], None) s u held n e.0 in
+      (has_opened (false, [], None) fd n offset u is e.1, λ b v left. say_ends path (read_reply fd buffer b) v (gives (false, [], None) n u v is left))
 
   reads_all : (fd : ℕ) (buffer : List ℕ) → From0 (read_program fd buffer)
   unfolding Runs
-  reads_all fd buffer s held = (may_open (false, []) s s held, λ a u e. reads fd buffer s u held a e)
+  reads_all fd buffer s held = (may_open (false, [], None) s s held, λ a u e. reads fd buffer s u held a e)
 
   -- ---- write
 
@@ -77,31 +77,31 @@ module _ (path : List ℕ) where
     wrote (above.Refused c) = say_ends path (failed (calls.Write fd bytes) c)
     wrote (above.Short k) = say_ends path (full (calls.Write fd bytes) Blocks)
 
-    writes_piece : (n i : ℕ) → From (true, []) Nothing Nothing (write_piece fd n bytes i more)
+    writes_piece : (n i : ℕ) → From (true, [], None) Nothing Nothing (write_piece fd n bytes i more)
     unfolding Runs
     writes_piece n i s held = (
-      may_open (true, []) s s held,
+      may_open (true, [], None) s s held,
       λ at u e. (
-          let is = opened (true, []) s u held at.0 e.0 in (
-            (has_opened (true, []) fd at.0 at.1 u is e.1, is.1.txn),
-            λ a v left. leave_runs path unmarked (λ _. wrote_on fd bytes more a) [] Nothing Nothing (wrote a) v (gives (true, []) at.0 u v is left),
+          let is = opened (true, [], None) s u held at.0 e.0 in (
+            (has_opened (true, [], None) fd at.0 at.1 u is e.1, is.1.txn),
+            λ a v left. leave_runs path unmarked (λ _. wrote_on fd bytes more a) [] Nothing Nothing (wrote a) v (gives (true, [], None) at.0 u v is left),
           )),
     )
 
   module _ (fd n : ℕ) (bytes : List ℕ) where
-    writes_from : (left i : ℕ) → From (true, []) Nothing Nothing (write_from fd n bytes left i)
+    writes_from : (left i : ℕ) → From (true, [], None) Nothing Nothing (write_from fd n bytes left i)
     writes_from zero i = writes_piece fd bytes (say (write_reply fd bytes)) (say_ends path (write_reply fd bytes)) n i
     writes_from (suc left) i =
         let more : P Reply = Do above.Join unmarked (λ _. write_from fd n bytes left (i + 1)) in
         writes_piece fd bytes more (join_runs path unmarked (λ _. write_from fd n bytes left (i + 1)) [] Nothing Nothing (writes_from left (i + 1))) n i
 
-  joins_on : (fd : ℕ) (bytes : List ℕ) (s u : Having) → InHand (false, []) Nothing Nothing s → (a : above.JoinResult) → Leaves path (above.JoinFile fd) a s u → R (joined_on fd bytes a) u
-  joins_on fd bytes s u held (above.NotJoined c) e = ends path (failed (calls.Write fd bytes) c) u (stays (false, []) Nothing Nothing s u held e.0 e.1)
+  joins_on : (fd : ℕ) (bytes : List ℕ) (s u : Having) → InHand (false, [], None) Nothing Nothing s → (a : above.JoinResult) → Leaves path (above.JoinFile fd) a s u → R (joined_on fd bytes a) u
+  joins_on fd bytes s u held (above.NotJoined c) e = ends path (failed (calls.Write fd bytes) c) u (stays (false, [], None) Nothing Nothing s u held e.0 e.1)
   joins_on fd bytes s u held (above.Joined n) e = writes_from fd n bytes (piece_count bytes - 1) 0 u (txn_joined [] Nothing Nothing s u held e.0 e.1)
 
   writes_all : (fd : ℕ) (bytes : List ℕ) → From0 (write_program fd bytes)
   unfolding Runs
-  writes_all fd [] s held = (tt, λ o u e. ends path (checked_reply fd o) u (stays (false, []) Nothing Nothing s u held e.0 e.1))
+  writes_all fd [] s held = (tt, λ o u e. ends path (checked_reply fd o) u (stays (false, [], None) Nothing Nothing s u held e.0 e.1))
   writes_all fd (b ∷ bs) s held = (no_txn [] Nothing Nothing s held, λ a u e. joins_on fd (b ∷ bs) s u held a e)
 
   -- ---- from an empty hand

@@ -8,19 +8,19 @@ use Rattle.fs_tables.specs.declared.inodes.Inode.{Inode}
 use Rattle.hands.specs.declared.hand.Hand.{Hand}
 use Rattle.hands.specs.declared.hand.Seat.{Seat}
 use Rattle.hands.specs.declared.hand.Seat.TheVariants.{One, Two}
-use Rattle.hands.specs.Hands.{first_in, inode_at, reference_at, with_first, with_inode, with_listed, with_reference, with_txn}
+use Rattle.hands.specs.Hands.{first_in, inode_at, reference_at, with_aside, with_first, with_inode, with_listed, with_reference, with_seated, with_txn}
 use Rattle.hand_controls.specs.HeldInodes.{unloaded}
 use Rattle.inode_machine.specs.Parts.{with_last}
 use Rattle.inode_machine.specs.World as above
 use Rattle.inode_parts.specs.Carries.{note_at}
 use Rattle.inode_parts.specs.Clears.{HasFound}
-use Rattle.inode_parts.specs.OneSteps.{HasFreeSeat, HasLock, HasReference, IsAlone, free_seat, locks, other, seat_of_lock, seat_of_reference}
+use Rattle.inode_parts.specs.OneSteps.{HasFreeSeat, HasLock, HasReference, IsAlone, MayRefer, free_seat, locks, other, seat_of_lock, seat_of_reference}
 use Rattle.inode_parts.specs.declared.note.Note.{Note}
 use Rattle.inode_parts.specs.declared.note.Notes.{Notes}
 use Rattle.inode_parts.specs.Expecting.{MayLock}
 use Rattle.inode_parts.specs.Relocks.{MayRelock}
-use Rattle.inode_parts.specs.Holding.{CameTo, Having, Joined, Leaves, Opened, Relocked, Stand}
-use Rattle.call_hands.proofs.Seats.{Around, Apart, Finds, Held, HeldAt, InHand, IsClosed, IsHeld, IsLoaded, Locks, Nothing, Opens, Refers, alone, at_free, at_lock, at_reference, beside_both, beside_lock, beside_record, beside_reference, lock_at, lock_kept, lock_seat, lock_stays, lock_there, none_is, reference_kept, reference_stays, reference_there, reference_with, is_first, only_reference, swapped, updated, with_other_list, with_other_txn}
+use Rattle.inode_parts.specs.Holding.{CameTo, Having, Joined, Leaves, Opened, ReferredOrAside, Relocked, Stand}
+use Rattle.call_hands.proofs.Seats.{Around, Apart, Finds, Held, HeldAt, InHand, IsClosed, IsHeld, IsLoaded, Locks, Nothing, Opens, Refers, seated, alone, at_free, at_lock, at_reference, beside_both, beside_lock, beside_record, beside_reference, lock_at, lock_kept, lock_seat, lock_stays, lock_there, none_is, reference_kept, reference_stays, reference_there, reference_with, is_first, none_free, only_reference, seated_held, swapped, updated, with_other_aside, with_other_list, with_other_txn}
 
 -- the same hand
 pub stays : (t : Around) (x y : Held) (s u : Having) → InHand t x y s → u.hand ≡ s.hand → u.notes ≡ s.notes → InHand t x y u
@@ -31,7 +31,7 @@ stays t x y s u held e noted =
 pub unlearned : (t : Around) (s u : Having) → InHand t Nothing Nothing s → u.hand ≡ s.hand → InHand t Nothing Nothing u
 unlearned t s u held e =
     let kept = stays t Nothing Nothing s (record { hand = u.hand; notes = s.notes }) held e refl in
-    (kept.0, record { here = kept.1.here; there = kept.1.there; txn = kept.1.txn; listed = kept.1.listed; buffers = kept.1.buffers })
+    (kept.0, record { here = kept.1.here; there = kept.1.there; txn = kept.1.txn; listed = kept.1.listed; buffers = kept.1.buffers; aside = kept.1.aside })
 
 -- a lock of inode n
 lock_here : (n : ℕ) (g : GuardState Inode) → g.value.number ≡ n → locks n (Some g) ≡ true
@@ -64,6 +64,16 @@ module _ (t : Around) (y : Held) (s u : Having) where
 
     pub unreferred : u.hand ≡ with_reference (free_seat s.hand) None s.hand → u.notes ≡ s.notes → InHand t Nothing y u
     unreferred e noted = refer Nothing None e noted (reference_there (free_seat s.hand) None s.hand u.hand e, unlocked None e)
+
+    -- .. to what was found: no seat but this is sought
+    pub may_refer : MayRefer s.hand
+    may_refer = inl free_found
+
+    pub upped : (r : Option ℕ) → ReferredOrAside r s.hand u.hand → u.notes ≡ s.notes → InHand t (seated r) y u
+    upped r e noted =
+        let k = free_seat s.hand in
+        let at = e.0 free_found in
+        refer (seated r) r at noted (seated_held r (reference_at k u.hand) (inode_at k u.hand) (note_at k u.notes) (reference_there k r s.hand u.hand at) (unlocked r at))
 
   module _ (n : ℕ) (apart : Apart n y) where
     alone_at : (x : Held) (k : Seat) → HeldAt k t x y s.hand s.notes → IsAlone n k s.hand
@@ -188,12 +198,12 @@ module _ (t : Around) (s u : Having) (held : InHand t Nothing Nothing s) where
     where
       -- of neither anything was learned
       with_any : (k : Seat) → HeldAt k t (Opens n) Nothing u.hand s.notes → HeldAt k t (Opens n) Nothing u.hand u.notes
-      with_any k held = record { here = held.here; there = held.there; txn = held.txn; listed = held.listed; buffers = held.buffers }
+      with_any k held = record { here = held.here; there = held.there; txn = held.txn; listed = held.listed; buffers = held.buffers; aside = held.aside }
 
       either : (k : Seat) → InHand t Nothing Nothing s → HeldAt k t Nothing Nothing s.hand s.notes
       either One (One, held) = held
-      either One (Two, held) = record { here = held.there; there = held.here; txn = held.txn; listed = held.listed; buffers = held.buffers }
-      either Two (One, held) = record { here = held.there; there = held.here; txn = held.txn; listed = held.listed; buffers = held.buffers }
+      either One (Two, held) = record { here = held.there; there = held.here; txn = held.txn; listed = held.listed; buffers = held.buffers; aside = held.aside }
+      either Two (One, held) = record { here = held.there; there = held.here; txn = held.txn; listed = held.listed; buffers = held.buffers; aside = held.aside }
       either Two (Two, held) = held
 
   -- an inode of a list, with its reference
@@ -214,7 +224,7 @@ module _ (t : Around) (s u : Having) (held : InHand t Nothing Nothing s) where
         let k = free_seat s.hand in
         (no_reference n, (ns, held.1.listed ∙ first), at.here.0, at.here.1, alone n Nothing (reference_at (other k) s.hand) (inode_at (other k) s.hand) (note_at (other k) s.notes) tt at.there, at.buffers)
 
-    pub relocked : Relocked n s.hand u.hand → InHand (t.0, ns) (Locks n) Nothing u
+    pub relocked : Relocked n s.hand u.hand → InHand (t.0, ns, t.2) (Locks n) Nothing u
     relocked came =
         let k = free_seat s.hand in
         let rest = with_listed ns s.hand in
@@ -222,13 +232,13 @@ module _ (t : Around) (s u : Having) (held : InHand t Nothing Nothing s) where
         let moved : with_first k s.hand ≡ h = ap (λ (ms : List ℕ). with_reference k (Some (first_in ms)) (with_listed (drop 1 ms) s.hand)) (held.1.listed ∙ first) in
         let to : CameTo k n h u.hand = subst (λ (h : Hand). CameTo k n h u.hand) moved came in (
           k,
-          forget k (updated (t.0, ns) Nothing (Locks n) Nothing rest u.hand s.notes s.notes k (beside_both k rest u.hand s.notes s.notes refl (Some n) (Some to.0) to.1)
+          forget k (updated (t.0, ns, t.2) Nothing (Locks n) Nothing rest u.hand s.notes s.notes k (beside_both k rest u.hand s.notes s.notes refl (Some n) (Some to.0) to.1)
               (with_other_list t Nothing Nothing s.hand s.notes k ns (at_free t Nothing s tt held))
               (reference_with k (Some n) (Some to.0) rest u.hand to.1, locks_at n k h u.hand to, loaded_at n k h u.hand to)),
         )
       where
-        forget : (k : Seat) → HeldAt k (t.0, ns) (Locks n) Nothing u.hand s.notes → HeldAt k (t.0, ns) (Locks n) Nothing u.hand u.notes
-        forget k held = record { here = held.here; there = held.there; txn = held.txn; listed = held.listed; buffers = held.buffers }
+        forget : (k : Seat) → HeldAt k (t.0, ns, t.2) (Locks n) Nothing u.hand s.notes → HeldAt k (t.0, ns, t.2) (Locks n) Nothing u.hand u.notes
+        forget k held = record { here = held.here; there = held.there; txn = held.txn; listed = held.listed; buffers = held.buffers; aside = held.aside }
 
 -- ---- a reference gone, where its lock stays
 
@@ -271,39 +281,67 @@ module _ (t : Around) (n : ℕ) (s u : Having) where
             (reference_there One None s.hand u.hand e, lock_kept One None s.hand u.hand e ∙ held.here.1) in
             inl (swapped t Nothing (Locks n) u (One, left))
         at (Two, held) e =
-            let turned : HeldAt One t (Locks n) (Refers n) s.hand s.notes = record { here = held.there; there = held.here; txn = held.txn; listed = held.listed; buffers = held.buffers } in
+            let turned : HeldAt One t (Locks n) (Refers n) s.hand s.notes = record { here = held.there; there = held.here; txn = held.txn; listed = held.listed; buffers = held.buffers; aside = held.aside } in
             inr (One, stays_locked One (Refers n) turned e noted)
 
--- ---- within a walk the last reference to a dead inode is listed
+-- ---- a reference aside, where both seats have one
 
-pub walked_down : (t : Around) (n : ℕ) (y : Held) (s u : Having) → Apart n y → InHand t (Refers n) y s → (a : Bool) → Leaves [] (above.WalkDown n) a s u → InHand (t.0, with_last t.1 n a) Nothing y u
-walked_down t n y s u apart held false e = dropped t y s u n apart held e.0 (ap (note_at (other (seat_of_reference n s.hand))) e.1)
-walked_down t n y s u apart held true e =
-    let ms = s.hand.listed ++ n ∷ [] in
-    let gone : Having = record { hand = with_reference (seat_of_reference n s.hand) None s.hand; notes = u.notes } in
-    let at = dropped t y s gone n apart held refl (ap (note_at (other (seat_of_reference n s.hand))) e.1) in (
-      at.0,
-      subst (λ (h : Hand). HeldAt at.0 (t.0, t.1 ++ n ∷ []) Nothing y h u.notes) (sym e.0)
-          (subst (λ (ns : List ℕ). HeldAt at.0 (t.0, ns ++ n ∷ []) Nothing y (with_listed ms gone.hand) u.notes) held.1.listed (with_other_list t Nothing y gone.hand u.notes at.0 ms at.1)),
-    )
+module _ (t : Around) (n d : ℕ) (s u : Having) (held : InHand t (Locks d) (Refers n) s) where
+  both_taken : HasFreeSeat s.hand → ⊥
+  both_taken = at held
+    where
+      at : InHand t (Locks d) (Refers n) s → HasFreeSeat s.hand → ⊥
+      at (One, held) = none_free s.hand d n held.here.0 held.there.0
+      at (Two, held) = none_free s.hand n d held.there.0 held.here.0
+
+  pub put_aside : (r : Option ℕ) → ReferredOrAside r s.hand u.hand → u.notes ≡ s.notes → InHand (t.0, t.1, r) (Locks d) (Refers n) u
+  put_aside r e noted = (
+    held.0,
+    subst (λ (h : Hand). HeldAt held.0 (t.0, t.1, r) (Locks d) (Refers n) h u.notes) (sym (e.1 both_taken))
+        (subst (λ (m : Notes). HeldAt held.0 (t.0, t.1, r) (Locks d) (Refers n) (with_aside r s.hand) m) (sym noted) (with_other_aside t (Locks d) (Refers n) s.hand s.notes held.0 r held.1)),
+  )
+
+-- ---- within a walk the last reference to a dead inode is listed, and one that is aside comes to its seat
+
+module _ (t : Around) (n : ℕ) (y : Held) (s : Having) (apart : Apart n y) (held : InHand t (Refers n) y s) where
+  replaced : (u : Having) → u.hand ≡ with_seated (seat_of_reference n s.hand) s.hand → u.notes ≡ s.notes → InHand (t.0, t.1, None) (seated t.2) y u
+  replaced u e noted =
+      let k = seat_of_reference n s.hand in
+      let h = with_aside None s.hand in
+      let at = with_other_aside t (Refers n) y s.hand s.notes k None (at_reference t n y s apart held) in (
+        k,
+        updated (t.0, t.1, None) (Refers n) (seated t.2) y h u.hand s.notes u.notes k (beside_reference k h u.hand s.notes u.notes (ap (note_at (other k)) noted) s.hand.aside e) at
+            (seated_held t.2 (reference_at k u.hand) (inode_at k u.hand) (note_at k u.notes) (reference_there k s.hand.aside h u.hand e ∙ held.1.aside) (lock_kept k s.hand.aside h u.hand e ∙ at.here.1)),
+      )
+
+  pub walked_down : (u : Having) (a : Bool) → Leaves [] (above.WalkDown n) a s u → InHand (t.0, with_last t.1 n a, None) (seated t.2) y u
+  walked_down u false e = replaced u e.0 e.1
+  walked_down u true e =
+      let ms = s.hand.listed ++ n ∷ [] in
+      let gone : Having = record { hand = with_seated (seat_of_reference n s.hand) s.hand; notes = u.notes } in
+      let at = replaced gone refl e.1 in (
+        at.0,
+        subst (λ (h : Hand). HeldAt at.0 (t.0, t.1 ++ n ∷ [], None) (seated t.2) y h u.notes) (sym e.0)
+            (subst (λ (ns : List ℕ). HeldAt at.0 (t.0, ns ++ n ∷ [], None) (seated t.2) y (with_listed ms gone.hand) u.notes) held.1.listed (with_other_list (t.0, t.1, None) (seated t.2) y gone.hand u.notes at.0 ms at.1)),
+      )
 
 -- ---- a transaction
 
-pub no_txn : (ns : List ℕ) (x y : Held) (s : Having) → InHand (false, ns) x y s → s.hand.txn ≡ None
+pub no_txn : (ns : List ℕ) (x y : Held) (s : Having) → InHand (false, ns, None) x y s → s.hand.txn ≡ None
 no_txn ns x y s held = none_is s.hand.txn held.1.txn
 
-txn_is : (t : Around) (x y : Held) (s u : Having) (o : Option ℕ) → InHand t x y s → u.hand ≡ with_txn o s.hand → u.notes ≡ s.notes → InHand (is_some o, t.1) x y u
+txn_is : (t : Around) (x y : Held) (s u : Having) (o : Option ℕ) → InHand t x y s → u.hand ≡ with_txn o s.hand → u.notes ≡ s.notes → InHand (is_some o, t.1, t.2) x y u
 txn_is t x y s u o held e noted = (
   held.0,
-  subst (λ (h : Hand). HeldAt held.0 (is_some o, t.1) x y h u.notes) (sym e)
-      (subst (λ (m : Notes). HeldAt held.0 (is_some o, t.1) x y (with_txn o s.hand) m) (sym noted) (with_other_txn t x y s.hand s.notes held.0 o held.1)),
+  subst (λ (h : Hand). HeldAt held.0 (is_some o, t.1, t.2) x y h u.notes) (sym e)
+      (subst (λ (m : Notes). HeldAt held.0 (is_some o, t.1, t.2) x y (with_txn o s.hand) m) (sym noted) (with_other_txn t x y s.hand s.notes held.0 o held.1)),
 )
 
-pub txn_joined : (ns : List ℕ) (x y : Held) (s u : Having) → InHand (false, ns) x y s → Joined s.hand u.hand → u.notes ≡ s.notes → InHand (true, ns) x y u
-txn_joined ns x y s u held e noted = txn_is (false, ns) x y s u (Some e.0) held e.1 noted
+pub txn_joined : (ns : List ℕ) (x y : Held) (s u : Having) → InHand (false, ns, None) x y s → Joined s.hand u.hand → u.notes ≡ s.notes → InHand (true, ns, None) x y u
+txn_joined ns x y s u held e noted = txn_is (false, ns, None) x y s u (Some e.0) held e.1 noted
 
-pub joined : (ns : List ℕ) (x y : Held) (s u : Having) → InHand (false, ns) x y s → Leaves [] above.Join tt s u → InHand (true, ns) x y u
+pub joined : (ns : List ℕ) (x y : Held) (s u : Having) → InHand (false, ns, None) x y s → Leaves [] above.Join tt s u → InHand (true, ns, None) x y u
 joined ns x y s u held e = txn_joined ns x y s u held e.0 e.1
 
-pub left : (ns : List ℕ) (x y : Held) (s u : Having) → InHand (true, ns) x y s → Leaves [] above.Leave tt s u → InHand (false, ns) x y u
-left ns x y s u held e = txn_is (true, ns) x y s u None held e.0 e.1
+pub left : (ns : List ℕ) (x y : Held) (s u : Having) → InHand (true, ns, None) x y s → Leaves [] above.Leave tt s u → InHand (false, ns, None) x y u
+left ns x y s u held e = txn_is (true, ns, None) x y s u None held e.0 e.1

@@ -9,3 +9,4 @@ pub mod Unlinking
 pub mod Describing
 pub mod Making
 pub mod Opening
+pub mod Linking

@@ -9,7 +9,7 @@ use Rattle.fs_tables.specs.declared.inodes.Inode.{Inode}
 use Rattle.hands.specs.declared.hand.Hand.{Hand}
 use Rattle.hands.specs.declared.hand.Seat.{Seat}
 use Rattle.hands.specs.declared.hand.Seat.TheVariants.{One, Two}
-use Rattle.hands.specs.Hands.{inode_at, reference_at, with_inode, with_listed, with_reference, with_txn}
+use Rattle.hands.specs.Hands.{inode_at, reference_at, with_aside, with_inode, with_listed, with_reference, with_txn}
 use Rattle.hand_controls.specs.Calling.{IsEmpty}
 use Rattle.hand_controls.specs.Emptying.{HasNoBuffer}
 use Rattle.hand_controls.specs.HeldInodes.{unloaded, without_content}
@@ -40,9 +40,14 @@ IsHeld (Finds n path e) r o m = (r ≡ Some n) × (locks n o ≡ true) × IsLoad
 IsHeld (Freed n) r o m = (r ≡ Some n) × (locks n o ≡ true)
 IsHeld (Opens n) r o m = (r ≡ None) × (locks n o ≡ true) × IsLoaded o
 
--- whether there is a transaction, and what is listed
+-- a reference, or none
+abbrev pub seated : Option ℕ → Held
+seated None = Nothing
+seated (Some n) = Refers n
+
+-- whether there is a transaction, what is listed, and to which inode a reference is aside
 abbrev pub Around : Type 0
-Around = Bool × List ℕ
+Around = Bool × List ℕ × Option ℕ
 
 -- that at a seat and that at the other, what is around them, and no buffer
 pub record HeldAt (k : Seat) (t : Around) (x y : Held) (h : Hand) (m : Notes) : Type 0 where
@@ -50,6 +55,7 @@ pub record HeldAt (k : Seat) (t : Around) (x y : Held) (h : Hand) (m : Notes) : 
   pub there : IsHeld y (reference_at (other k) h) (inode_at (other k) h) (note_at (other k) m)
   pub txn : is_some h.txn ≡ t.0
   pub listed : h.listed ≡ t.1
+  pub aside : h.aside ≡ t.2
   pub buffers : HasNoBuffer h
 
 -- at whichever seats
@@ -70,13 +76,25 @@ abbrev pub IsClosed : Held → Type 0
 IsClosed (Opens n) = ⊥
 IsClosed x = Unit {0}
 
+pub seated_apart : (n : ℕ) (r : Option ℕ) → Apart n (seated r)
+seated_apart n None = tt
+seated_apart n (Some m) = tt
+
+pub seated_closed : (r : Option ℕ) → IsClosed (seated r)
+seated_closed None = tt
+seated_closed (Some m) = tt
+
+pub seated_held : (r q : Option ℕ) (o : Option (GuardState Inode)) (m : Note) → q ≡ r → o ≡ None → IsHeld (seated r) q o m
+seated_held None q o m is none = (is, none)
+seated_held (Some n) q o m is none = (is, none)
+
 -- ---- nothing
 
 pub none_is : {A : Type 0} (o : Option A) → is_some o ≡ false → o ≡ None
 none_is None e = refl
 none_is (Some x) e = absurd (cc e)
 
-pub empty_in : (s : Having) → IsEmpty s.hand → InHand (false, []) Nothing Nothing s
+pub empty_in : (s : Having) → IsEmpty s.hand → InHand (false, [], None) Nothing Nothing s
 empty_in s e = (
   One,
   record {
@@ -85,17 +103,18 @@ empty_in s e = (
     txn = ap (λ (h : Hand). is_some h.txn) e;
     listed = ap (λ (h : Hand). h.listed) e;
     buffers = (ap (λ (h : Hand). h.first) e, ap (λ (h : Hand). h.second) e);
+    aside = ap (λ (h : Hand). h.aside) e;
   },
 )
 
-pub in_empty : (s : Having) → InHand (false, []) Nothing Nothing s → IsEmpty s.hand
-in_empty s (One, held) = let h = s.hand in λ i. record h { txn = none_is h.txn held.txn i; listed = held.listed i; first = held.buffers.0 i; second = held.buffers.1 i; one = held.here.1 i; two = held.there.1 i; to_one = held.here.0 i; to_two = held.there.0 i }
-in_empty s (Two, held) = let h = s.hand in λ i. record h { txn = none_is h.txn held.txn i; listed = held.listed i; first = held.buffers.0 i; second = held.buffers.1 i; one = held.there.1 i; two = held.here.1 i; to_one = held.there.0 i; to_two = held.here.0 i }
+pub in_empty : (s : Having) → InHand (false, [], None) Nothing Nothing s → IsEmpty s.hand
+in_empty s (One, held) = let h = s.hand in λ i. record h { txn = none_is h.txn held.txn i; aside = held.aside i; listed = held.listed i; first = held.buffers.0 i; second = held.buffers.1 i; one = held.here.1 i; two = held.there.1 i; to_one = held.here.0 i; to_two = held.there.0 i }
+in_empty s (Two, held) = let h = s.hand in λ i. record h { txn = none_is h.txn held.txn i; aside = held.aside i; listed = held.listed i; first = held.buffers.0 i; second = held.buffers.1 i; one = held.there.1 i; two = held.here.1 i; to_one = held.there.0 i; to_two = held.here.0 i }
 
 module _ (t : Around) (x y : Held) (s : Having) where
   pub swapped : InHand t x y s → InHand t y x s
-  swapped (One, held) = (Two, record { here = held.there; there = held.here; txn = held.txn; listed = held.listed; buffers = held.buffers })
-  swapped (Two, held) = (One, record { here = held.there; there = held.here; txn = held.txn; listed = held.listed; buffers = held.buffers })
+  swapped (One, held) = (Two, record { here = held.there; there = held.here; txn = held.txn; listed = held.listed; buffers = held.buffers; aside = held.aside })
+  swapped (Two, held) = (One, record { here = held.there; there = held.here; txn = held.txn; listed = held.listed; buffers = held.buffers; aside = held.aside })
 
 -- ---- which seat an operation finds
 
@@ -154,7 +173,7 @@ module _ (t : Around) (n : ℕ) (h : Hand) (m : Notes) where
   both Nothing apart e held = absurd (let clash : Some n ≡ None = sym e ∙ held.there.0 in cc clash)
   both (Refers j) apart e held =
       let same : n ≡ j = let both : Some n ≡ Some j = sym e ∙ held.there.0 in cc both in
-      record { here = (e, held.there.1); there = (held.here.0 ∙ ap (λ (j : ℕ). Some j) same, held.here.1); txn = held.txn; listed = held.listed; buffers = held.buffers }
+      record { here = (e, held.there.1); there = (held.here.0 ∙ ap (λ (j : ℕ). Some j) same, held.here.1); txn = held.txn; listed = held.listed; buffers = held.buffers; aside = held.aside }
   both (Locks j) apart e held = absurd (apart (let both : Some n ≡ Some j = sym e ∙ held.there.0 in cc both))
   both (Finds j path x) apart e held = absurd (apart (let both : Some n ≡ Some j = sym e ∙ held.there.0 in cc both))
   both (Freed j) apart e held = absurd (apart (let both : Some n ≡ Some j = sym e ∙ held.there.0 in cc both))
@@ -178,12 +197,19 @@ free_by o = if is_some o then Two else One
 pub at_free : (t : Around) (y : Held) (s : Having) → IsClosed y → InHand t Nothing y s → HeldAt (free_seat s.hand) t Nothing y s.hand s.notes
 at_free t y s closed (One, held) = subst (λ (k : Seat). HeldAt k t Nothing y s.hand s.notes) (sym (ap free_by held.here.0)) held
 at_free t Nothing s closed (Two, held) =
-    subst (λ (k : Seat). HeldAt k t Nothing Nothing s.hand s.notes) (sym (ap free_by held.there.0)) (record { here = held.there; there = held.here; txn = held.txn; listed = held.listed; buffers = held.buffers })
+    subst (λ (k : Seat). HeldAt k t Nothing Nothing s.hand s.notes) (sym (ap free_by held.there.0)) (record { here = held.there; there = held.here; txn = held.txn; listed = held.listed; buffers = held.buffers; aside = held.aside })
 at_free t (Refers j) s closed (Two, held) = subst (λ (k : Seat). HeldAt k t Nothing (Refers j) s.hand s.notes) (sym (ap free_by held.there.0)) held
 at_free t (Locks j) s closed (Two, held) = subst (λ (k : Seat). HeldAt k t Nothing (Locks j) s.hand s.notes) (sym (ap free_by held.there.0)) held
 at_free t (Finds j path e) s closed (Two, held) = subst (λ (k : Seat). HeldAt k t Nothing (Finds j path e) s.hand s.notes) (sym (ap free_by held.there.0)) held
 at_free t (Freed j) s closed (Two, held) = subst (λ (k : Seat). HeldAt k t Nothing (Freed j) s.hand s.notes) (sym (ap free_by held.there.0)) held
 at_free t (Opens j) s closed (Two, held) = absurd closed
+
+-- none is
+pub none_free : (h : Hand) (n m : ℕ) → h.to_one ≡ Some n → h.to_two ≡ Some m → reference_at (free_seat h) h ≡ None → ⊥
+none_free h n m one two free =
+    let gone : h.to_two ≡ None = subst (λ (k : Seat). reference_at k h ≡ None) (ap free_by one) free in
+    let clash : Some m ≡ None = sym two ∙ gone in
+    cc clash
 
 -- ---- what changes at a seat
 
@@ -232,6 +258,7 @@ module _ (t : Around) (x z y : Held) (h g : Hand) (m n : Notes) where
     txn = ap (λ (p : Hand × Note). is_some p.0.txn) e ∙ held.txn;
     listed = ap (λ (p : Hand × Note). p.0.listed) e ∙ held.listed;
     buffers = (ap (λ (p : Hand × Note). p.0.first) e ∙ held.buffers.0, ap (λ (p : Hand × Note). p.0.second) e ∙ held.buffers.1);
+    aside = ap (λ (p : Hand × Note). p.0.aside) e ∙ held.aside;
   }
   updated Two e held new = record {
     here = new;
@@ -239,6 +266,7 @@ module _ (t : Around) (x z y : Held) (h g : Hand) (m n : Notes) where
     txn = ap (λ (p : Hand × Note). is_some p.0.txn) e ∙ held.txn;
     listed = ap (λ (p : Hand × Note). p.0.listed) e ∙ held.listed;
     buffers = (ap (λ (p : Hand × Note). p.0.first) e ∙ held.buffers.0, ap (λ (p : Hand × Note). p.0.second) e ∙ held.buffers.1);
+    aside = ap (λ (p : Hand × Note). p.0.aside) e ∙ held.aside;
   }
 
 -- ---- what is at it then
@@ -279,11 +307,16 @@ reference_stays One h g e = ap (λ (h : Hand). h.to_one) e
 reference_stays Two h g e = ap (λ (h : Hand). h.to_two) e
 
 -- a transaction, or none
-pub with_other_txn : (t : Around) (x y : Held) (h : Hand) (m : Notes) (k : Seat) (o : Option ℕ) → HeldAt k t x y h m → HeldAt k (is_some o, t.1) x y (with_txn o h) m
-with_other_txn t x y h m One o held = record { here = held.here; there = held.there; txn = refl; listed = held.listed; buffers = held.buffers }
-with_other_txn t x y h m Two o held = record { here = held.here; there = held.there; txn = refl; listed = held.listed; buffers = held.buffers }
+pub with_other_txn : (t : Around) (x y : Held) (h : Hand) (m : Notes) (k : Seat) (o : Option ℕ) → HeldAt k t x y h m → HeldAt k (is_some o, t.1, t.2) x y (with_txn o h) m
+with_other_txn t x y h m One o held = record { here = held.here; there = held.there; txn = refl; listed = held.listed; buffers = held.buffers; aside = held.aside }
+with_other_txn t x y h m Two o held = record { here = held.here; there = held.there; txn = refl; listed = held.listed; buffers = held.buffers; aside = held.aside }
+
+-- another reference aside
+pub with_other_aside : (t : Around) (x y : Held) (h : Hand) (m : Notes) (k : Seat) (r : Option ℕ) → HeldAt k t x y h m → HeldAt k (t.0, t.1, r) x y (with_aside r h) m
+with_other_aside t x y h m One r held = record { here = held.here; there = held.there; txn = held.txn; listed = held.listed; buffers = held.buffers; aside = refl }
+with_other_aside t x y h m Two r held = record { here = held.here; there = held.there; txn = held.txn; listed = held.listed; buffers = held.buffers; aside = refl }
 
 -- another list
-pub with_other_list : (t : Around) (x y : Held) (h : Hand) (m : Notes) (k : Seat) (ns : List ℕ) → HeldAt k t x y h m → HeldAt k (t.0, ns) x y (with_listed ns h) m
-with_other_list t x y h m One ns held = record { here = held.here; there = held.there; txn = held.txn; listed = refl; buffers = held.buffers }
-with_other_list t x y h m Two ns held = record { here = held.here; there = held.there; txn = held.txn; listed = refl; buffers = held.buffers }
+pub with_other_list : (t : Around) (x y : Held) (h : Hand) (m : Notes) (k : Seat) (ns : List ℕ) → HeldAt k t x y h m → HeldAt k (t.0, ns, t.2) x y (with_listed ns h) m
+with_other_list t x y h m One ns held = record { here = held.here; there = held.there; txn = held.txn; listed = refl; buffers = held.buffers; aside = held.aside }
+with_other_list t x y h m Two ns held = record { here = held.here; there = held.there; txn = held.txn; listed = refl; buffers = held.buffers; aside = held.aside }

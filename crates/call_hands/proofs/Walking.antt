@@ -1,5 +1,5 @@
 -- A walk, and the end of a call with a list, run with what they need in hand; so does chdir.
-use Rattle.std.proofs.Common.{◌<◌, ◌≤◌, ℕ, suc, ◌+◌, List, [], ◌∷◌, length, length-append, Bool, true, false, Option, Some, None, refl, sym, subst, inl, inr, arith}
+use Rattle.std.proofs.Common.{◌≡◌, ◌<◌, ◌≤◌, ℕ, suc, ◌+◌, List, [], ◌∷◌, length, length-append, Bool, true, false, Option, Some, None, refl, sym, subst, inl, inr, arith}
 use Rattle.std.specs.Prelude.{if◌then◌else◌}
 use Rattle.plain_tree.specs.Tree.{Name, elements, is_absolute}
 use Rattle.plain_tree.specs.declared.answer.Cause.TheVariants.{NoEntry, NotDirectory}
@@ -20,13 +20,13 @@ use Rattle.inode_machine.specs.World as above
 use Rattle.inode_machine.specs.World.Mark.{Frees}
 use Rattle.fs_tables.specs.Limits.{listed_places}
 use Rattle.whole_calls.specs.Wholes.{IsCall}
-use Rattle.inode_parts.specs.OneSteps.{seat_of_lock, seat_of_reference}
+use Rattle.inode_parts.specs.OneSteps.{MayRefer, seat_of_lock, seat_of_reference}
 use Rattle.inode_parts.specs.Expecting.{BeginsWith}
-use Rattle.inode_parts.specs.Holding.{CameTo, Having, IsCounted, Leaves, Runs, Stand}
+use Rattle.inode_parts.specs.Holding.{CameTo, Having, IsCounted, Leaves, ReferredOrAside, Runs, Stand}
 use Rattle.fs_layout.specs.Name.{IsName}
 use Rattle.call_hands.proofs.Names.{AllNames}
-use Rattle.call_hands.proofs.Seats.{Apart, Around, Held, InHand, Locks, Nothing, Refers, empty_in, swapped}
-use Rattle.call_hands.proofs.Holdings.{at_its_lock, found, free_found, locked, locked_seat, lock_found, reference_found, referred, relocked, relocking, settled, take_found, unreferred, walked_down}
+use Rattle.call_hands.proofs.Seats.{Apart, Around, Held, InHand, Locks, Nothing, Refers, empty_in, seated, seated_apart, seated_closed, swapped}
+use Rattle.call_hands.proofs.Holdings.{at_its_lock, found, free_found, locked, locked_seat, lock_found, may_refer, put_aside, reference_found, referred, relocked, relocking, settled, take_found, unreferred, upped, walked_down}
 use Rattle.call_hands.proofs.Running as running
 use Rattle.call_hands.proofs.Running.{drop_runs, free_all_runs, give_runs, give_up_runs, join_runs, leave_runs, say_ends}
 
@@ -95,132 +95,141 @@ module _ (path : List ℕ) where
 
   -- ---- a directory left
 
-  module _ (d : ℕ) (y : Held) (apart : Apart d y) (ns : List ℕ) (room : length ns < listed_places) (k : List ℕ → P Reply) (on : (ms : List ℕ) → length ms ≤ length ns + 1 → From (true, ms) Nothing y (k ms)) where
-    walks_down : From (true, ns) (Refers d) y (Do (above.WalkDown d) unmarked (λ last. k (with_last ns d last)))
+  module _ (d : ℕ) (y : Held) (apart : Apart d y) (ns : List ℕ) (r : Option ℕ) (room : length ns < listed_places) (k : List ℕ → P Reply) (on : (ms : List ℕ) → length ms ≤ length ns + 1 → From (true, ms, None) (seated r) y (k ms)) where
+    walks_down : From (true, ns, r) (Refers d) y (Do (above.WalkDown d) unmarked (λ last. k (with_last ns d last)))
     unfolding Runs
     walks_down s held = (
-      (reference_found (true, ns) y s s d apart held, subst (λ (ns : List ℕ). length ns < listed_places) (sym held.1.listed) room),
-      λ a u e. on (with_last ns d a) (grows ns d a) u (walked_down (true, ns) d y s u apart held a e),
+      (reference_found (true, ns, r) y s s d apart held, subst (λ (ns : List ℕ). length ns < listed_places) (sym held.1.listed) room),
+      λ a u e. on (with_last ns d a) (grows ns d a) u (walked_down (true, ns, r) d y s apart held u a e),
     )
 
-    pub leaves_directory : From (true, ns) (Locks d) y (leave_directory d ns k)
-    leaves_directory = give_runs path unmarked (λ _. Do (above.WalkDown d) unmarked (λ last. k (with_last ns d last))) (true, ns) d y apart walks_down
+    pub leaves_directory : From (true, ns, r) (Locks d) y (leave_directory d ns k)
+    leaves_directory = give_runs path unmarked (λ _. Do (above.WalkDown d) unmarked (λ last. k (with_last ns d last))) (true, ns, r) d y apart walks_down
+
+  -- .. for what was found in it, where a reference is kept beside the walk's, or none
+  may_up : (kept : Option ℕ) (d : ℕ) (ns : List ℕ) (v : Having) → InHand (true, ns, None) (Locks d) (seated kept) v → MayRefer v.hand
+  may_up None d ns v held = may_refer (true, ns, None) (Locks d) v v tt (swapped (true, ns, None) (Locks d) Nothing v held)
+  may_up (Some n) d ns v held = inr held.1.aside
+
+  leaves_up : (kept r : Option ℕ) (d : ℕ) (ns : List ℕ) → length ns < listed_places → (k : List ℕ → P Reply) → ((ms : List ℕ) → length ms ≤ length ns + 1 → From (true, ms, None) (seated r) (seated kept) (k ms))
+      → (v u : Having) → InHand (true, ns, None) (Locks d) (seated kept) v → ReferredOrAside r v.hand u.hand → u.notes ≡ v.notes → R (leave_directory d ns k) u
+  leaves_up None r d ns room k on v u held e noted =
+      leaves_directory d (seated r) (seated_apart d r) ns None room k (λ ms grown. turned (true, ms, None) (seated r) Nothing (k ms) (on ms grown)) u
+      (swapped (true, ns, None) (seated r) (Locks d) u (upped (true, ns, None) (Locks d) v u tt (swapped (true, ns, None) (Locks d) Nothing v held) r e noted))
+  leaves_up (Some n) r d ns room k on v u held e noted = leaves_directory d (Refers n) tt ns r room k on u (put_aside (true, ns, None) n d v u held r e noted)
 
   -- ---- a walk
 
-  module _ (s : Action) (lost : Stop → List ℕ → P Reply) (most : ℕ) (few : most ≤ listed_places) (is_lost : (why : Stop) (ms : List ℕ) → length ms ≤ most → From (true, ms) Nothing Nothing (lost why ms)) where
+  module _ (kept : Option ℕ) (s : Action) (lost : Stop → List ℕ → P Reply) (most : ℕ) (few : most ≤ listed_places) (is_lost : (why : Stop) (ms : List ℕ) → length ms ≤ most → From (true, ms, None) Nothing (seated kept) (lost why ms)) where
     module _ (d : ℕ) (ns : List ℕ) (room : length ns + 1 ≤ most) where
-      leaves_lost : (why : Stop) → From (true, ns) (Locks d) Nothing (leave_directory d ns (lost why))
-      leaves_lost why = leaves_directory d Nothing tt ns (is_below (length ns) most room few) (lost why) (λ ms grown. is_lost why ms (at_most (length ms) (length ns) most grown room))
+      leaves_lost : (why : Stop) → From (true, ns, None) (Locks d) (seated kept) (leave_directory d ns (lost why))
+      leaves_lost why = leaves_directory d (seated kept) (seated_apart d kept) ns None (is_below (length ns) most room few) (lost why) (λ ms grown. is_lost why ms (at_most (length ms) (length ns) most grown room))
 
-      module _ (go : ℕ → List ℕ → P Reply) (goes : (j : ℕ) (ms : List ℕ) → length ms ≤ length ns + 1 → From (true, ms) (Refers j) Nothing (go j ms)) where
-        ups : (j : ℕ) (v u : Having) → InHand (true, ns) (Locks d) Nothing v → (a : Bool) → Leaves path (above.Up j) a v u → R (leave_directory d ns (if a then go j else lost NoMemory)) u
-        ups j v u held true e =
-            leaves_directory d (Refers j) tt ns (is_below (length ns) most room few) (go j) (λ ms grown. turned (true, ms) (Refers j) Nothing (go j ms) (goes j ms grown)) u
-            (swapped (true, ns) (Refers j) (Locks d) u (referred (true, ns) (Locks d) v u tt (swapped (true, ns) (Locks d) Nothing v held) j e.0 e.1))
-        ups j v u held false e =
-            leaves_lost NoMemory u
-            (swapped (true, ns) Nothing (Locks d) u (unreferred (true, ns) (Locks d) v u tt (swapped (true, ns) (Locks d) Nothing v held) e.0 e.1))
+      module _ (go : ℕ → List ℕ → P Reply) (goes : (j : ℕ) (ms : List ℕ) → length ms ≤ length ns + 1 → From (true, ms, None) (Refers j) (seated kept) (go j ms)) where
+        ups : (j : ℕ) (v u : Having) → InHand (true, ns, None) (Locks d) (seated kept) v → (a : Bool) → Leaves path (above.Up j) a v u → R (leave_directory d ns (if a then go j else lost NoMemory)) u
+        ups j v u held true e = leaves_up kept (Some j) d ns (is_below (length ns) most room few) (go j) (goes j) v u held e.0 e.1
+        ups j v u held false e = leaves_up kept None d ns (is_below (length ns) most room few) (lost NoMemory) (λ ms grown. is_lost NoMemory ms (at_most (length ms) (length ns) most grown room)) v u held e.0 e.1
 
-        pub steps_on : (found : Option ℕ) → From (true, ns) (Locks d) Nothing (walk_step d ns go lost found)
+        pub steps_on : (found : Option ℕ) → From (true, ns, None) (Locks d) (seated kept) (walk_step d ns go lost found)
         unfolding Runs
         steps_on None = leaves_lost NotThere
-        steps_on (Some j) = λ v held. (free_found (true, ns) (Locks d) v v tt (swapped (true, ns) (Locks d) Nothing v held), λ a u e. ups j v u held a e)
+        steps_on (Some j) = λ v held. (may_up kept d ns v held, λ a u e. ups j v u held a e)
 
-    pub walk_runs : (es : List Name) (d : ℕ) (ns : List ℕ) → length ns + length es ≤ most → (found : ℕ → List ℕ → P Reply) → ((d : ℕ) (ms : List ℕ) → length ms ≤ most → From (true, ms) (Refers d) Nothing (found d ms))
-        → From (true, ns) (Refers d) Nothing (walk s d es ns found lost)
+    pub walk_runs : (es : List Name) (d : ℕ) (ns : List ℕ) → length ns + length es ≤ most → (found : ℕ → List ℕ → P Reply) → ((d : ℕ) (ms : List ℕ) → length ms ≤ most → From (true, ms, None) (Refers d) (seated kept) (found d ms))
+        → From (true, ns, None) (Refers d) (seated kept) (walk s d es ns found lost)
     walk_runs [] d ns room found is_found = is_found d ns (none_left (length ns) most room)
     walk_runs (e ∷ es) d ns room found is_found =
-        look_runs (true, ns) d Nothing tt (looks_or_quits s) (λ a. walk_step d ns (λ j ms. walk s j es ms found lost) lost a.found) e
+        look_runs (true, ns, None) d (seated kept) (seated_apart d kept) (looks_or_quits s) (λ a. walk_step d ns (λ j ms. walk s j es ms found lost) lost a.found) e
         (λ a counted. steps_on d ns (now_room (length ns) (length es) most room) (λ j ms. walk s j es ms found lost)
         (λ j ms grown. walk_runs es j ms (next_room (length ns) (length ms) (length es) most room grown) found is_found) a.found)
 
-    sees : (d : ℕ) (ns : List ℕ) → length ns + 1 ≤ most → (found : List ℕ → P Reply) → From (true, ns) (Refers d) Nothing (found ns) → (b : Bool)
-        → From (true, ns) (Locks d) Nothing (if b then Do (above.Give d) unmarked (λ _. found ns) else leave_directory d ns (lost NotThere))
-    sees d ns room found is_found true = give_runs path unmarked (λ _. found ns) (true, ns) d Nothing tt is_found
+    sees : (d : ℕ) (ns : List ℕ) → length ns + 1 ≤ most → (found : List ℕ → P Reply) → From (true, ns, None) (Refers d) (seated kept) (found ns) → (b : Bool)
+        → From (true, ns, None) (Locks d) (seated kept) (if b then Do (above.Give d) unmarked (λ _. found ns) else leave_directory d ns (lost NotThere))
+    sees d ns room found is_found true = give_runs path unmarked (λ _. found ns) (true, ns, None) d (seated kept) (seated_apart d kept) is_found
     sees d ns room found is_found false = leaves_lost d ns room NotThere
 
     -- past it there is room for what the last directory may leave
     pub walk_parent_runs : (es : List Name) (e : Name) → AllNames (e ∷ es) → (d : ℕ) (ns : List ℕ) → length ns + suc (length es) ≤ most → (found : ℕ → Name → List ℕ → P Reply)
-        → ((d : ℕ) (e : Name) (ms : List ℕ) → IsName e → length ms + 1 ≤ most → From (true, ms) (Refers d) Nothing (found d e ms)) → From (true, ns) (Refers d) Nothing (walk_parent s d e es ns found lost)
+        → ((d : ℕ) (e : Name) (ms : List ℕ) → IsName e → length ms + 1 ≤ most → From (true, ms, None) (Refers d) (seated kept) (found d e ms)) → From (true, ns, None) (Refers d) (seated kept) (walk_parent s d e es ns found lost)
     walk_parent_runs [] e are d ns room found is_found =
-        take_runs (true, ns) d Nothing tt (λ a. quits_unless s (is_directory_face a.face)) (λ a. if is_directory_face a.face then Do (above.Give d) unmarked (λ _. found d e ns) else leave_directory d ns (lost NotThere))
+        take_runs (true, ns, None) d (seated kept) (seated_apart d kept) (λ a. quits_unless s (is_directory_face a.face)) (λ a. if is_directory_face a.face then Do (above.Give d) unmarked (λ _. found d e ns) else leave_directory d ns (lost NotThere))
         (λ a counted. sees d ns (now_room (length ns) 0 most room) (found d e) (is_found d e ns are.0 (now_room (length ns) 0 most room)) (is_directory_face a.face))
     walk_parent_runs (e' ∷ es) e are d ns room found is_found =
-        look_runs (true, ns) d Nothing tt (looks_or_quits s) (λ a. walk_step d ns (λ j ms. walk_parent s j e' es ms found lost) lost a.found) e
+        look_runs (true, ns, None) d (seated kept) (seated_apart d kept) (looks_or_quits s) (λ a. walk_step d ns (λ j ms. walk_parent s j e' es ms found lost) lost a.found) e
         (λ a counted. steps_on d ns (now_room (length ns) (suc (length es)) most room) (λ j ms. walk_parent s j e' es ms found lost)
         (λ j ms grown. walk_parent_runs es e' are.1 j ms (next_room (length ns) (length ms) (suc (length es)) most room grown) found is_found) a.found)
 
-    starts : (go : ℕ → P Reply) (ns : List ℕ) → length ns ≤ most → ((d : ℕ) → From (true, ns) (Refers d) Nothing (go d)) → (v u : Having) → InHand (true, ns) Nothing Nothing v → (a : Option ℕ) → Leaves path (above.UpStart (is_absolute path)) a v u → R (start_on go lost ns a) u
-    starts go ns room goes v u held None e = is_lost NoMemory ns room u (unreferred (true, ns) Nothing v u tt held e.0 e.1)
-    starts go ns room goes v u held (Some d) e = goes d u (referred (true, ns) Nothing v u tt held d e.0 e.1)
+    module _ (way : List ℕ) (go : ℕ → P Reply) (ns : List ℕ) (room : length ns ≤ most) (goes : (d : ℕ) → From (true, ns, None) (Refers d) (seated kept) (go d)) where
+      starts : (v u : Having) → InHand (true, ns, None) Nothing (seated kept) v → (a : Option ℕ) → Leaves path (above.UpStart (is_absolute way)) a v u → R (start_on go lost ns a) u
+      starts v u held None e = is_lost NoMemory ns room u (unreferred (true, ns, None) (seated kept) v u (seated_closed kept) held e.0 e.1)
+      starts v u held (Some d) e = goes d u (referred (true, ns, None) (seated kept) v u (seated_closed kept) held d e.0 e.1)
 
-    pub start_runs : (go : ℕ → P Reply) (ns : List ℕ) → length ns ≤ most → ((d : ℕ) → From (true, ns) (Refers d) Nothing (go d)) → From (true, ns) Nothing Nothing (start s path ns go lost)
-    unfolding Runs
-    start_runs go ns room goes v held = (free_found (true, ns) Nothing v v tt held, λ a u e. starts go ns room goes v u held a e)
+      pub start_runs : From (true, ns, None) Nothing (seated kept) (start s way ns go lost)
+      unfolding Runs
+      start_runs v held = (free_found (true, ns, None) (seated kept) v v (seated_closed kept) held, λ a u e. starts v u held a e)
 
   -- ---- the end of a call with a list
 
   -- the first inode of it comes with its reference
-  relocks : (n : ℕ) (ns : List ℕ) (k : P Reply) → From (true, ns) (Locks n) Nothing k → From (true, n ∷ ns) Nothing Nothing (Do (above.Take n AtNothing) unmarked (λ _. k))
+  relocks : (n : ℕ) (ns : List ℕ) (k : P Reply) → From (true, ns, None) (Locks n) Nothing k → From (true, n ∷ ns, None) Nothing Nothing (Do (above.Take n AtNothing) unmarked (λ _. k))
   unfolding Runs
   relocks n ns k on s held =
-      let may = relocking (true, n ∷ ns) s s held n ns refl in
-      (inr (may, refl), λ a u e. on u (relocked (true, n ∷ ns) s u held n ns refl (e.0.0.1 may.0)))
+      let may = relocking (true, n ∷ ns, None) s s held n ns refl in
+      (inr (may, refl), λ a u e. on u (relocked (true, n ∷ ns, None) s u held n ns refl (e.0.0.1 may.0)))
 
-  frees_listed : (n : ℕ) (ns : List ℕ) (k : P Reply) → From (false, ns) Nothing Nothing k → From (false, n ∷ ns) Nothing Nothing (free_listed n k)
+  frees_listed : (n : ℕ) (ns : List ℕ) (k : P Reply) → From (false, ns, None) Nothing Nothing k → From (false, n ∷ ns, None) Nothing Nothing (free_listed n k)
   frees_listed n ns k on =
       let leave : P Reply = Do above.Leave unmarked (λ _. k) in
       let freed : P Reply = Do (above.Free n) (λ _. Some (Frees n)) (λ _. Do (above.Give n) unmarked (λ _. Do (above.Forget n) unmarked (λ _. leave))) in
       join_runs path unmarked (λ _. Do (above.Take n AtNothing) unmarked (λ _. freed)) (n ∷ ns) Nothing Nothing
       (relocks n ns freed (free_all_runs path ns n Nothing tt leave (leave_runs path unmarked (λ _. k) ns Nothing Nothing on)))
 
-  frees_all : (ns : List ℕ) (k : P Reply) → From (false, []) Nothing Nothing k → From (false, ns) Nothing Nothing (free_all ns k)
+  frees_all : (ns : List ℕ) (k : P Reply) → From (false, [], None) Nothing Nothing k → From (false, ns, None) Nothing Nothing (free_all ns k)
   frees_all [] k on = on
   frees_all (n ∷ ns) k on = frees_listed n ns (free_all ns k) (frees_all ns k on)
 
-  pub tail_runs : (ns : List ℕ) (r : Reply) → From (true, ns) Nothing Nothing (tail ns r)
+  pub tail_runs : (ns : List ℕ) (r : Reply) → From (true, ns, None) Nothing Nothing (tail ns r)
   tail_runs ns r = leave_runs path unmarked (λ _. free_all ns (say r)) ns Nothing Nothing (frees_all ns (say r) (say_ends path r))
 
   -- ---- a call for which a last name is looked for
 
-  module _ (c : Call) (s : Action) (k : ℕ → Name → List ℕ → P Reply) (most : ℕ) (few : most ≤ listed_places) (k_runs : (d : ℕ) (e : Name) (ms : List ℕ) → IsName e → From (true, ms) (Refers d) Nothing (k d e ms)) where
-    pub in_parent_runs : (es : List Name) → AllNames es → length es ≤ most → From (false, []) Nothing Nothing (in_parent c s path k es)
+  module _ (c : Call) (s : Action) (k : ℕ → Name → List ℕ → P Reply) (most : ℕ) (few : most ≤ listed_places) (k_runs : (d : ℕ) (e : Name) (ms : List ℕ) → IsName e → From (true, ms, None) (Refers d) Nothing (k d e ms)) where
+    pub in_parent_runs : (es : List Name) → AllNames es → length es ≤ most → From (false, [], None) Nothing Nothing (in_parent c s path k es)
     in_parent_runs [] are short = join_runs path (λ _. makes (Begin s 0)) (λ _. tail [] (failed c NoEntry)) [] Nothing Nothing (tail_runs [] (failed c NoEntry))
     in_parent_runs (e ∷ es) are short =
         let lost : Stop → List ℕ → P Reply = λ why ns. tail ns (stopped c why) in
-        let is_lost : (why : Stop) (ms : List ℕ) → length ms ≤ most → From (true, ms) Nothing Nothing (lost why ms) = λ why ms short. tail_runs ms (stopped c why) in
+        let is_lost : (why : Stop) (ms : List ℕ) → length ms ≤ most → From (true, ms, None) Nothing Nothing (lost why ms) = λ why ms short. tail_runs ms (stopped c why) in
         let go : ℕ → P Reply = λ d. walk_parent s d e es [] k lost in
         join_runs path unmarked (λ _. start s path [] go lost) [] Nothing Nothing
-        (start_runs s lost most few is_lost go [] (fresh most)
-        (λ d. walk_parent_runs s lost most few is_lost es e are d [] (from_none (suc (length es)) most short) k (λ d e ms is room. k_runs d e ms is)))
+        (start_runs None s lost most few is_lost path go [] (fresh most)
+        (λ d. walk_parent_runs None s lost most few is_lost es e are d [] (from_none (suc (length es)) most short) k (λ d e ms is room. k_runs d e ms is)))
 
   -- ---- chdir
 
-  settles : (n : ℕ) (ns : List ℕ) (k : P Reply) → From (true, ns) Nothing Nothing k → From (true, ns) (Locks n) Nothing (Do (above.Settle n) unmarked (λ old. drop old k))
+  settles : (n : ℕ) (ns : List ℕ) (k : P Reply) → From (true, ns, None) Nothing Nothing k → From (true, ns, None) (Locks n) Nothing (Do (above.Settle n) unmarked (λ old. drop old k))
   unfolding Runs
   settles n ns k on s held =
-      let at = at_its_lock (true, ns) Nothing s s n tt (Locks n) held.0 held.1 held.1.here.1 in (
-        (lock_found (true, ns) Nothing s s n tt (Locks n) held.0 held.1 held.1.here.1, at.here.0),
-        λ a u e. drop_runs path ns a Nothing tt k on u (settled (true, ns) Nothing s u n tt (Locks n) held.0 held.1 held.1.here.1 a e.0 e.1),
+      let at = at_its_lock (true, ns, None) Nothing s s n tt (Locks n) held.0 held.1 held.1.here.1 in (
+        (lock_found (true, ns, None) Nothing s s n tt (Locks n) held.0 held.1 held.1.here.1, at.here.0),
+        λ a u e. drop_runs path ns a Nothing tt k on u (settled (true, ns, None) Nothing s u n tt (Locks n) held.0 held.1 held.1.here.1 a e.0 e.1),
       )
 
-  chdirs_if : (n : ℕ) (ns : List ℕ) (b : Bool) → From (true, ns) (Locks n) Nothing (if b then Do (above.Settle n) unmarked (λ old. drop old (tail ns (done (calls.Chdir path)))) else give_up n (tail ns (failed (calls.Chdir path) NotDirectory)))
+  chdirs_if : (n : ℕ) (ns : List ℕ) (b : Bool) → From (true, ns, None) (Locks n) Nothing (if b then Do (above.Settle n) unmarked (λ old. drop old (tail ns (done (calls.Chdir path)))) else give_up n (tail ns (failed (calls.Chdir path) NotDirectory)))
   chdirs_if n ns true = settles n ns (tail ns (done (calls.Chdir path))) (tail_runs ns (done (calls.Chdir path)))
   chdirs_if n ns false = give_up_runs path ns n Nothing tt (tail ns (failed (calls.Chdir path) NotDirectory)) (tail_runs ns (failed (calls.Chdir path) NotDirectory))
 
-  chdirs_at : (n : ℕ) (ns : List ℕ) → From (true, ns) (Refers n) Nothing (chdir_at path n ns)
+  chdirs_at : (n : ℕ) (ns : List ℕ) → From (true, ns, None) (Refers n) Nothing (chdir_at path n ns)
   chdirs_at n ns =
-      take_runs (true, ns) n Nothing tt unmarked (λ a. if is_directory_face a.face then Do (above.Settle n) unmarked (λ old. drop old (tail ns (done (calls.Chdir path)))) else give_up n (tail ns (failed (calls.Chdir path) NotDirectory)))
+      take_runs (true, ns, None) n Nothing tt unmarked (λ a. if is_directory_face a.face then Do (above.Settle n) unmarked (λ old. drop old (tail ns (done (calls.Chdir path)))) else give_up n (tail ns (failed (calls.Chdir path) NotDirectory)))
       (λ a counted. chdirs_if n ns (is_directory_face a.face))
 
   pub chdir_runs : IsCall (calls.Chdir path) → (s : Having) → IsEmpty s.hand → Runs path (BeginsWith path) (chdir_program path) s
   chdir_runs call s empty =
       let most : ℕ = length (elements path) in
       let lost : Stop → List ℕ → P Reply = λ why ns. tail ns (stopped (calls.Chdir path) why) in
-      let is_lost : (why : Stop) (ms : List ℕ) → length ms ≤ most → From (true, ms) Nothing Nothing (lost why ms) = λ why ms short. tail_runs ms (stopped (calls.Chdir path) why) in
+      let is_lost : (why : Stop) (ms : List ℕ) → length ms ≤ most → From (true, ms, None) Nothing Nothing (lost why ms) = λ why ms short. tail_runs ms (stopped (calls.Chdir path) why) in
       let go : ℕ → P Reply = λ d. walk (steps.Chdir path) d (elements path) [] (chdir_at path) lost in
       join_runs path unmarked (λ _. start (steps.Chdir path) path [] go lost) [] Nothing Nothing
-      (start_runs (steps.Chdir path) lost most call.1 is_lost go [] (fresh most)
-      (λ d. walk_runs (steps.Chdir path) lost most call.1 is_lost (elements path) d [] (from_none most most (all_of most)) (chdir_at path) (λ d ms short. chdirs_at d ms)))
+      (start_runs None (steps.Chdir path) lost most call.1 is_lost path go [] (fresh most)
+      (λ d. walk_runs None (steps.Chdir path) lost most call.1 is_lost (elements path) d [] (from_none most most (all_of most)) (chdir_at path) (λ d ms short. chdirs_at d ms)))
       s (empty_in s empty)

@@ -14,5 +14,6 @@ pub fn calls_find_what_they_ask()
     ensures chdir { (path : List ℕ) → RunsAlone path (calls.Chdir path) }
     ensures opens { (path : List ℕ) (flags : ℕ) → RunsAlone path (calls.Open path flags) }
     ensures mkdir { (path : List ℕ) → RunsAlone path (calls.Mkdir path) }
+    ensures link { (text old new : List ℕ) → RunsAlone text (calls.Link old new) }
     ensures unlink { (path : List ℕ) → RunsAlone path (calls.Unlink path) }
 {}

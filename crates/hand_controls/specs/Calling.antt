@@ -26,7 +26,7 @@ abbrev pub call : (inodestart n : ℕ) → Dinode → P (Unit {0})
 call inodestart n d = Do steps.Join unmarked (λ _. bind (store inodestart n d) ends)
 
 abbrev pub emptied : Hand → Hand
-emptied h = record h { txn = None; first = None; second = None; one = None; two = None; to_one = None; to_two = None; listed = [] }
+emptied h = record h { txn = None; first = None; second = None; one = None; two = None; to_one = None; to_two = None; aside = None; listed = [] }
 
 -- nothing is in hand
 abbrev pub IsEmpty : Hand → Type 0

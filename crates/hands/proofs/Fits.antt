@@ -12,7 +12,7 @@ use Rattle.hands.specs.declared.hand.Place.{Place}
 use Rattle.hands.specs.declared.hand.Place.TheVariants.{First, Second}
 use Rattle.hands.specs.declared.hand.Seat.{Seat}
 use Rattle.hands.specs.declared.hand.Seat.TheVariants.{One, Two}
-use Rattle.hands.specs.Hands.{AreOwn, HandFits, buffer_at, with_buffer, inode_at, with_inode, reference_at, with_listed, with_reference, with_txn, block_at, bytes_at, inode_in, no_inode, number_at, with_content, with_bytes}
+use Rattle.hands.specs.Hands.{AreOwn, HandFits, buffer_at, with_buffer, inode_at, with_aside, with_inode, reference_at, with_listed, with_reference, with_seated, with_txn, block_at, bytes_at, inode_in, no_inode, number_at, with_content, with_bytes}
 use Rattle.hands.specs.Ops.{content_at}
 use Rattle.std.specs.Option.{option_map, option_map_or, unwrap_or, MatchOption}
 use Rattle.std.specs.Prelude.{IsSome}
@@ -236,6 +236,14 @@ inode-beside_listed : (ns : List ℕ) (h : Hand) (k : Seat) → inode_at k (with
 inode-beside_listed ns h One = refl
 inode-beside_listed ns h Two = refl
 
+buffer-beside_aside : (r : Option ℕ) (h : Hand) (p : Place) → buffer_at p (with_aside r h) ≡ buffer_at p h
+buffer-beside_aside r h First = refl
+buffer-beside_aside r h Second = refl
+
+inode-beside_aside : (r : Option ℕ) (h : Hand) (k : Seat) → inode_at k (with_aside r h) ≡ inode_at k h
+inode-beside_aside r h One = refl
+inode-beside_aside r h Two = refl
+
 inode-beside_txn : (t : Option ℕ) (h : Hand) (k : Seat) → inode_at k (with_txn t h) ≡ inode_at k h
 inode-beside_txn t h One = refl
 inode-beside_txn t h Two = refl
@@ -255,12 +263,23 @@ module _ (hart : ℕ) (s : State) (h : Hand) (f : HandFits hart s h) where
     inodes = stay (λ v. v.number) (IsOwnInode hart) (λ q. inode_at q h) (λ q. inode_at q (with_listed ns h)) s s f.inodes (inode-beside_listed ns h) (λ _ _ own. own);
   }
 
+  pub puts-aside : (r : Option ℕ) → HandFits hart s (with_aside r h)
+  puts-aside r = record {
+    txn = f.txn;
+    buffers = stay (λ v. v.block) (IsOwn hart) (λ q. buffer_at q h) (λ q. buffer_at q (with_aside r h)) s s f.buffers (buffer-beside_aside r h) (λ _ _ own. own);
+    inodes = stay (λ v. v.number) (IsOwnInode hart) (λ q. inode_at q h) (λ q. inode_at q (with_aside r h)) s s f.inodes (inode-beside_aside r h) (λ _ _ own. own);
+  }
+
   pub has-txn : (t : Option ℕ) → IfSome t (λ k. k ≡ hart) → HandFits hart s (with_txn t h)
   has-txn t is = record {
     txn = is;
     buffers = stay (λ v. v.block) (IsOwn hart) (λ q. buffer_at q h) (λ q. buffer_at q (with_txn t h)) s s f.buffers (buffer-beside_txn t h) (λ _ _ own. own);
     inodes = stay (λ v. v.number) (IsOwnInode hart) (λ q. inode_at q h) (λ q. inode_at q (with_txn t h)) s s f.inodes (inode-beside_txn t h) (λ _ _ own. own);
   }
+
+-- what is aside comes to a seat
+pub seats-aside : (hart : ℕ) (s : State) (h : Hand) → HandFits hart s h → (k : Seat) → HandFits hart s (with_seated k h)
+seats-aside hart s h f k = refers hart s (with_aside None h) (puts-aside hart s h f None) k h.aside
 
 module _ (hart : ℕ) (old new : State) (h : Hand) (f : HandFits hart old h) where
   -- an operation on the log that changes no buffer in hand, and one on the tables that changes no lock in hand
@@ -316,9 +335,16 @@ pub reference-none : (k : Seat) (h : Hand) → reference_at k h ≡ None → h �
 reference-none One h e = ap (λ (o : Option ℕ). record h { to_one = o }) e
 reference-none Two h e = ap (λ (o : Option ℕ). record h { to_two = o }) e
 
-pub listed-beside : (k : Seat) (r : Option ℕ) (h : Hand) → (with_reference k r h).listed ≡ h.listed
-listed-beside One r h = refl
-listed-beside Two r h = refl
+pub aside-none : (h : Hand) → h.aside ≡ None → h ≡ with_aside None h
+aside-none h e = ap (λ (o : Option ℕ). record h { aside = o }) e
+
+pub seated-again : (k : Seat) (r : Option ℕ) (h : Hand) → with_seated k (with_reference k r h) ≡ with_seated k h
+seated-again One r h = refl
+seated-again Two r h = refl
+
+pub seated-beside : (k : Seat) (h : Hand) → (with_seated k h).listed ≡ h.listed
+seated-beside One h = refl
+seated-beside Two h = refl
 
 pub txn-back : (n : ℕ) (h : Hand) → h.txn ≡ Some n → with_txn (Some n) h ≡ h
 txn-back n h e = ap (λ (o : Option ℕ). record h { txn = o }) (sym e)

@@ -19,7 +19,7 @@ use Rattle.hands.specs.declared.hand.Place.{Place}
 use Rattle.hands.specs.declared.hand.Seat.{Seat}
 use Rattle.hands.specs.declared.hand.Seat.TheVariants.{One, Two}
 use Rattle.hands.specs.declared.op.Op.{Op}
-use Rattle.hands.specs.declared.op.Op.TheVariants.{Join, JoinToWrite, Leave, Commit, Get, Read, Give, Record, Lock, LockFile, LockOpen, Unlock, UnlockMoving, Settle, Up, UpDirectory, Down, DownWalked, LockListed, DownFreed, CheckFile, TakePlace, TakeDescriptor, Double, Close, GiveTo, Claim, Reply}
+use Rattle.hands.specs.declared.op.Op.TheVariants.{Join, JoinToWrite, Leave, Commit, Get, Read, Give, Record, Lock, LockFile, LockOpen, Unlock, UnlockMoving, Settle, Up, UpAside, UpDirectory, Down, DownWalked, LockListed, DownFreed, CheckFile, TakePlace, TakeDescriptor, Double, Close, GiveTo, Claim, Reply}
 use Rattle.hands.specs.declared.op.Answer.{Answer}
 use Rattle.hands.specs.Hands.{HandFits, buffer_at, with_buffer, inode_at, with_content}
 use Rattle.hands.specs.Ops.{op_in, Prepared, IsAfter}
@@ -68,6 +68,7 @@ after-prepared (Record p) before h k a same after = after ∙ ap (with_buffer p 
 after-prepared (Lock s) before h k a same after = subst (λ (b : Hand). IsAfter (Lock s) b a k) same after
 after-prepared (Unlock s) before h k a same after = subst (λ (b : Hand). IsAfter (Unlock s) b a k) same after
 after-prepared (Up s n) before h k a same after = subst (λ (b : Hand). IsAfter (Up s n) b a k) same after
+after-prepared (UpAside n) before h k a same after = subst (λ (b : Hand). IsAfter (UpAside n) b a k) same after
 after-prepared (Down s) before h k a same after = subst (λ (b : Hand). IsAfter (Down s) b a k) same after
 after-prepared (JoinToWrite fd) before h k' a same after = subst (λ (b : Hand). IsAfter (JoinToWrite fd) b a k') same after
 after-prepared (LockFile k w fd) before h k' a same after = subst (λ (b : Hand). IsAfter (LockFile k w fd) b a k') same after
@@ -100,6 +101,7 @@ prepared-waits (Record p) hart x s before h same did = absurd (cc did)
 prepared-waits (Lock k) hart x s before h same did = same
 prepared-waits (Unlock k) hart x s before h same did = same
 prepared-waits (Up k n) hart x s before h same did = same
+prepared-waits (UpAside n) hart x s before h same did = same
 prepared-waits (Down k) hart x s before h same did = same
 prepared-waits (JoinToWrite fd) hart x s before h same did = same
 prepared-waits (LockFile k w fd) hart x s before h same did = same
@@ -131,6 +133,7 @@ prepared-stops (Record p) hart x s t before h same did = absurd (cc did)
 prepared-stops (Lock k) hart x s t before h same did = same
 prepared-stops (Unlock k) hart x s t before h same did = same
 prepared-stops (Up k n) hart x s t before h same did = same
+prepared-stops (UpAside n) hart x s t before h same did = same
 prepared-stops (Down k) hart x s t before h same did = same
 prepared-stops (JoinToWrite fd) hart x s t before h same did = same
 prepared-stops (LockFile k w fd) hart x s t before h same did = same

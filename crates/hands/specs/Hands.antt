@@ -15,7 +15,7 @@ use Rattle.hands.specs.declared.hand.Seat.TheVariants.{One, Two}
 
 -- nothing
 abbrev pub empty_hand : Hand
-empty_hand = record { txn = None; first = None; second = None; one = None; two = None; to_one = None; to_two = None; listed = []; numbers = replicate 16 0; count = 0 }
+empty_hand = record { txn = None; first = None; second = None; one = None; two = None; to_one = None; to_two = None; aside = None; listed = []; numbers = replicate 16 0; count = 0 }
 
 -- its numbers to be claimed don't count
 pub record HasNothing (h : Hand) : Type 0 where
@@ -26,6 +26,7 @@ pub record HasNothing (h : Hand) : Type 0 where
   pub two : h.two ≡ None
   pub to_one : h.to_one ≡ None
   pub to_two : h.to_two ≡ None
+  pub aside : h.aside ≡ None
   pub listed : h.listed ≡ []
 
 abbrev pub buffer_at : Place → Hand → Option (GuardState BufferState)
@@ -51,6 +52,14 @@ reference_at Two h = h.to_two
 abbrev pub with_reference : Seat → Option ℕ → Hand → Hand
 with_reference One o h = record h { to_one = o }
 with_reference Two o h = record h { to_two = o }
+
+-- the reference for which no seat was free
+abbrev pub with_aside : Option ℕ → Hand → Hand
+with_aside r h = record h { aside = r }
+
+-- it comes to a seat
+abbrev pub with_seated : Seat → Hand → Hand
+with_seated k h = with_reference k h.aside (with_aside None h)
 
 -- the references that wait for the call's end, and the first of them
 abbrev pub with_listed : List ℕ → Hand → Hand

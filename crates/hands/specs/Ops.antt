@@ -24,10 +24,10 @@ use Rattle.hands.specs.declared.hand.Place.TheVariants.{First}
 use Rattle.hands.specs.declared.hand.Seat.{Seat}
 use Rattle.hands.specs.declared.hand.Seat.TheVariants.{One}
 use Rattle.hands.specs.declared.op.Op.{Op}
-use Rattle.hands.specs.declared.op.Op.TheVariants.{Join, JoinToWrite, Leave, Commit, Get, Read, Give, Record, Lock, LockFile, LockOpen, Unlock, UnlockMoving, Settle, Up, UpDirectory, Down, DownWalked, LockListed, DownFreed, CheckFile, TakePlace, TakeDescriptor, Double, Close, GiveTo, Claim, Reply}
+use Rattle.hands.specs.declared.op.Op.TheVariants.{Join, JoinToWrite, Leave, Commit, Get, Read, Give, Record, Lock, LockFile, LockOpen, Unlock, UnlockMoving, Settle, Up, UpAside, UpDirectory, Down, DownWalked, LockListed, DownFreed, CheckFile, TakePlace, TakeDescriptor, Double, Close, GiveTo, Claim, Reply}
 use Rattle.hands.specs.declared.op.Answer.{Answer}
 use Rattle.hands.specs.declared.op.Answer.TheVariants.{Nothing, Is, Refused, Number, File, Doubled, Given}
-use Rattle.hands.specs.Hands.{buffer_at, with_buffer, inode_at, with_inode, reference_at, with_first, with_listed, with_reference, with_txn, first_listed, block_at, bytes_at, inode_in, number_at, with_bytes}
+use Rattle.hands.specs.Hands.{buffer_at, with_buffer, inode_at, with_inode, reference_at, with_first, with_aside, with_listed, with_reference, with_seated, with_txn, first_listed, block_at, bytes_at, inode_in, number_at, with_bytes}
 
 -- the operation, by what is in hand
 abbrev pub op_in : Hand → Op → steps.Op
@@ -41,6 +41,7 @@ op_in h (Record p) = steps.Put (block_at p h) (Some (bytes_at p h))
 op_in h (Lock k) = steps.Lock (number_at k h)
 op_in h (Unlock k) = steps.Unlock (inode_in k h) None
 op_in h (Up k n) = steps.Up (steps.Number n)
+op_in h (UpAside n) = steps.Up (steps.Number n)
 op_in h (Down k) = steps.Down (steps.Held (number_at k h))
 op_in h (JoinToWrite fd) = steps.JoinToWrite fd
 op_in h (LockFile k w fd) = steps.LockFile w fd
@@ -72,6 +73,7 @@ CanDo (Record p) h = IsSome h.txn × MatchOption (buffer_at p h) ⊥ (λ g. IsSo
 CanDo (Lock k) h = IsSome (reference_at k h) × (inode_at k h ≡ None)
 CanDo (Unlock k) h = IsSome (inode_at k h)
 CanDo (Up k n) h = reference_at k h ≡ None
+CanDo (UpAside n) h = h.aside ≡ None
 CanDo (Down k) h = IsSome (reference_at k h) × (inode_at k h ≡ None)
 CanDo (JoinToWrite fd) h = h.txn ≡ None
 CanDo (LockFile k w fd) h = inode_at k h ≡ None
@@ -118,10 +120,10 @@ abbrev pub IsOpenLocked : Seat → Answer → Hand → Hand → Type 0
 IsOpenLocked k (File f) before h = IsLocked k (File f) before h
 IsOpenLocked k a before h = ⊥
 
--- the last reference to a dead inode is listed
+-- the last reference to a dead inode is listed; one that is aside comes to the seat
 abbrev pub IsKept : Seat → Answer → Hand → Hand → Type 0
-IsKept k (Is true) before h = h ≡ with_listed (before.listed ++ number_at k before ∷ []) (with_reference k None before)
-IsKept k a before h = h ≡ with_reference k None before
+IsKept k (Is true) before h = h ≡ with_listed (before.listed ++ number_at k before ∷ []) (with_seated k before)
+IsKept k a before h = h ≡ with_seated k before
 
 abbrev pub IsClaimed : Place → Seat → Answer → Hand → Hand → Type 0
 IsClaimed p k (Number n) before h = h ≡ with_reference k (Some n) before
@@ -154,6 +156,7 @@ IsAfter (Record p) before a h = h ≡ with_buffer p None before
 IsAfter (Lock k) before a h = (g : GuardState Inode) × (h ≡ with_inode k (Some g) before) × (g.value.number ≡ number_at k before)
 IsAfter (Unlock k) before a h = h ≡ with_inode k None before
 IsAfter (Up k n) before a h = (r : Option ℕ) × (h ≡ with_reference k r before) × IfSome r (λ m. m ≡ n)
+IsAfter (UpAside n) before a h = (r : Option ℕ) × (h ≡ with_aside r before) × IfSome r (λ m. m ≡ n)
 IsAfter (Down k) before a h = IsDown k a before h
 IsAfter (JoinToWrite fd) before a h = IsJoined a before h
 IsAfter (LockFile k w fd) before a h = IsLocked k a before h
@@ -192,6 +195,11 @@ seat_of (UpDirectory k) = k
 seat_of (Close k fd) = k
 seat_of (GiveTo k child from) = k
 seat_of _ = One
+
+-- the reference that came
+abbrev pub referred_in : Op → Hand → Option ℕ
+referred_in (UpAside n) h = h.aside
+referred_in op h = reference_at (seat_of op) h
 
 abbrev pub yes_in : Answer → Bool
 yes_in (Is b) = b
@@ -274,7 +282,7 @@ answer_in op a h (steps.LockFile w fd) = locked_by a (inode_in (seat_of op) h)
 answer_in op a h (steps.LockOpen fd) = (file_by a, (inode_in (seat_of op) h).content)
 answer_in op a h (steps.Unlock v moved) = tt
 answer_in op a h (steps.Settle v) = number_at (seat_of op) h
-answer_in op a h (steps.Up whom) = reference_at (seat_of op) h
+answer_in op a h (steps.Up whom) = referred_in op h
 answer_in op a h (steps.Claim b candidates) = claimed_by a
 answer_in op a h (steps.Down drop) = drop_by drop a (inode_in (seat_of op) h)
 answer_in op a h (steps.CheckFile w fd) = refused_by a

@@ -2,7 +2,7 @@
 ghost use Rattle.std.specs.Prelude.{◌≡◌, ◌≢◌, [], Some, None, IfOk, IsSome, is_some};
 ghost use Rattle.std.specs.Option.{MatchOption, option_map, option_map_or};
 ghost use Rattle.hands.specs.Ops.{content_at};
-ghost use Rattle.hands.specs.Hands.{empty_hand, HasNothing, buffer_at, with_buffer, inode_at, with_inode, reference_at, with_first, with_reference, with_txn, inode_in, no_inode, recorded, with_record};
+ghost use Rattle.hands.specs.Hands.{empty_hand, HasNothing, buffer_at, with_buffer, inode_at, with_inode, reference_at, with_aside, with_first, with_reference, with_seated, with_txn, inode_in, no_inode, recorded, with_record};
 
 use crate::queue::Queue;
 use atomic_programs::machines::put;
@@ -38,6 +38,8 @@ pub struct Hand {
     pub two: Option<Guard<Inode>>,
     pub to_one: Option<Reference>,
     pub to_two: Option<Reference>,
+    /// A reference that came when no seat was free, until one is.
+    pub aside: Option<Reference>,
     /// References that a walk keeps: each is the last one to a dead inode, and the call frees the inode at its end.
     pub listed: Queue,
     /// The numbers of inodes of which one is to be claimed, and how many these are.
@@ -59,6 +61,7 @@ impl Hand {
             two: None,
             to_one: None,
             to_two: None,
+            aside: None,
             listed,
             numbers: [0; 16],
             count: 0,
@@ -160,6 +163,25 @@ impl Hand {
         }
     }
 
+    /// A reference that no seat is free for.
+    pub(crate) fn hold_aside(&mut self, reference: Reference)
+        requires { self.old.aside ≡ None }
+        ensures { self.new ≡ with_aside (Some reference) self.old }
+    {
+        put(&mut self.aside, reference);
+    }
+
+    /// What is aside comes to a seat that is empty.
+    pub(crate) fn seat_aside(&mut self, seat: Seat)
+        requires { reference_at seat self.old ≡ None }
+        ensures { self.new ≡ with_seated seat self.old }
+    {
+        match mem::replace(&mut self.aside, None) {
+            Some(reference) => self.hold_reference(seat, reference),
+            None => {}
+        }
+    }
+
     /// The first listed reference for a seat that is empty.
     pub(crate) fn hold_first(&mut self, seat: Seat)
         requires listed { self.old.listed ≢ [] }
@@ -216,6 +238,7 @@ impl Hand {
             two,
             to_one,
             to_two,
+            aside,
             listed,
             numbers: _,
             count: _,
@@ -227,6 +250,7 @@ impl Hand {
         end_none(two);
         end_none(to_one);
         end_none(to_two);
+        end_none(aside);
         listed.end();
     }
 
@@ -240,6 +264,7 @@ impl Hand {
             two,
             to_one,
             to_two,
+            aside,
             listed,
             numbers: _,
             count: _,
@@ -254,6 +279,7 @@ impl Hand {
         retire_inode(two, retired);
         retire_reference(to_one, retired);
         retire_reference(to_two, retired);
+        retire_reference(aside, retired);
         listed.retire(retired);
     }
 }

@@ -29,6 +29,8 @@ pub enum Op {
     Unlock(Seat),
     /// A reference to the inode of this number.
     Up(Seat, u32),
+    /// The same where no seat is free: it is aside.
+    UpAside(u32),
     /// Drops it; where it is the last one to a dead inode the inode's lock is taken in its place.
     Down(Seat),
     /// The same where this descriptor may be written.
@@ -44,7 +46,8 @@ pub enum Op {
     Settle(Seat),
     /// A reference to the hart's current directory.
     UpDirectory(Seat),
-    /// Drops a reference within a walk; the last one to a dead inode is listed, behind the others.
+    /// Drops a reference within a walk; the last one to a dead inode is listed, behind the others. A reference that is aside comes to the
+    /// seat.
     DownWalked(Seat),
     /// Takes the first listed reference, and the lock of its inode.
     LockListed(Seat),

@@ -215,6 +215,20 @@ impl Hand {
         Did::Ran(Kind::Up)
     }
 
+    // The same where no seat is free.
+    pub(crate) fn up_aside<D: Device>(&mut self, hart: u8, core: &mut Core<D>, number: u32) -> Did
+        requires fits { HandFits hart (state_of D.contents D.failures core.old) self.old }
+        requires can { CanDo (Op.UpAside number) self.old }
+        requires may { May hart (op_in self.old (Op.UpAside number)) (state_of D.contents D.failures core.old) }
+        ensures { (told : AnswerState) → Performs D.contents D.failures D.Called hart (Op.UpAside number) self.old self.new told result core.old core.new }
+    {
+        match core.up(hart, number) {
+            None => {}
+            Some(reference) => self.hold_aside(reference),
+        }
+        Did::Ran(Kind::Up)
+    }
+
     // Drops it.
     pub(crate) fn down<D: Device>(
         &mut self,
@@ -388,7 +402,7 @@ impl Hand {
         Did::Ran(Kind::Up)
     }
 
-    // Drops a reference within a walk.
+    // Drops a reference within a walk; the one aside comes in its place.
     pub(crate) fn down_walked<D: Device>(
         &mut self,
         hart: u8,
@@ -403,17 +417,20 @@ impl Hand {
     {
         match self.take_reference(seat) {
             None => unreachable!(),
-            Some(reference) => match core.drop_walked(hart, reference) {
-                None => {
-                    *told = Answer::Is(false);
-                    Did::Ran(Kind::Down)
+            Some(reference) => {
+                self.seat_aside(seat);
+                match core.drop_walked(hart, reference) {
+                    None => {
+                        *told = Answer::Is(false);
+                        Did::Ran(Kind::Down)
+                    }
+                    Some(kept) => {
+                        self.listed.push(kept);
+                        *told = Answer::Is(true);
+                        Did::Ran(Kind::Down)
+                    }
                 }
-                Some(kept) => {
-                    self.listed.push(kept);
-                    *told = Answer::Is(true);
-                    Did::Ran(Kind::Down)
-                }
-            },
+            }
         }
     }
 
@@ -689,6 +706,7 @@ impl Hand {
             Op::Lock(seat) => self.lock(hart, core, seat),
             Op::Unlock(seat) => self.unlock(hart, core, seat),
             Op::Up(seat, number) => self.up(hart, core, seat, number),
+            Op::UpAside(number) => self.up_aside(hart, core, number),
             Op::Down(seat) => self.down(hart, core, seat, told),
             Op::JoinToWrite(fd) => self.join_to_write(hart, core, fd, told),
             Op::LockFile(seat, want, fd) => self.lock_file(hart, core, seat, want, fd, told),

@@ -1,5 +1,5 @@
 -- What an operation on whole inodes is below, where it is one operation.
-use Rattle.std.proofs.Common.{◌≡◌, ◌≢◌, ℕ, zero, suc, List, Bool, true, false, Option, Some, None, refl, sym, ap, ◌∙◌, subst}
+use Rattle.std.proofs.Common.{◌≡◌, ◌≢◌, ℕ, zero, suc, List, Bool, true, false, Option, Some, None, refl, sym, ap, ◌∙◌, subst, inl, inr}
 use Rattle.std.specs.Prelude.{if◌then◌else◌, is_some, IsSome}
 use Rattle.std.specs.Option.{MatchOption, option_map_or, unwrap_or}
 use Rattle.plain_tree.specs.Tree.{put}
@@ -35,13 +35,15 @@ use Rattle.whole_calls.specs.declared.asks.Heard.TheVariants as heard
 use Rattle.inode_parts.specs.Expecting.{BeginsWith}
 use Rattle.inode_parts.specs.Carries.{carry_in, had_at, had_of}
 use Rattle.inode_parts.specs.Parts.{IsPart, Part, one}
-use Rattle.inode_parts.specs.OneSteps.{Begins, HasReference, IsAlone, joining_heard, loan_heard, locks, seat_of_lock, seat_of_reference, still}
+use Rattle.inode_parts.specs.OneSteps.{Begins, HasReference, IsAlone, MayRefer, StepReady, free_seat, joining_heard, loan_heard, locks, seat_of_lock, seat_of_reference, still}
 use Rattle.inode_parts.specs.Leaving.{having}
 use Rattle.inode_parts.specs.InodeParts.{ends_with, part_for, part_left, PartReady, one_or_leave, PartTold, FillsAs}
 use Rattle.inode_parts.specs.declared.note.Note.{Note}
 use Rattle.inode_parts.specs.declared.note.Note.TheVariants as note
 use Rattle.inode_parts.specs.declared.note.Notes.{Notes}
 use Rattle.inode_parts.specs.declared.one_step.OneStep.{OneStep}
+use Rattle.inode_parts.specs.declared.one_step.OneStep.TheVariants as step
+use Rattle.inode_parts.specs.declared.part.InodePart.TheVariants as part
 
 joins_so : (a : steps.JoinResult) → joining_to a ≡ joined_in (joining_heard a)
 joins_so (steps.RefusesJoin why) = refl
@@ -105,6 +107,10 @@ module _ (path : List ℕ) (m : Notes) (h : Hand) where
   leaves_so Commits = commits_so most_writes
 
 module _ (sizes : Super) (path : List ℕ) (m : Notes) (h : Hand) where
+  up_is_part : (n : ℕ) (b : Bool) → IsPart sizes (carry_in path m h) (above.Up n) (part_left path m (part.One (if b then step.UpAside n else step.Up (free_seat h) n)) h)
+  up_is_part n true = λ mark. refl
+  up_is_part n false = λ mark. refl
+
   pub is_part : (op : above.Op) → Begins op h → IsPart sizes (carry_in path m h) op (part_left path m (part_for op h) h)
   is_part (above.Give n) has =
       let c : Carry = carry_in path m h in
@@ -114,7 +120,7 @@ module _ (sizes : Super) (path : List ℕ) (m : Notes) (h : Hand) where
       subst (λ (v : Inode). IsPart sizes c (above.Settle n) (one path (steps.Settle v) heard.Old (λ a. put c v.number Apart))) (lock_is path m n h has.0.0) (λ mark. refl)
   is_part (above.UpStart true) has = λ mark. refl
   is_part (above.UpStart false) has = λ mark. refl
-  is_part (above.Up n) has = λ mark. refl
+  is_part (above.Up n) has = up_is_part n (is_some (reference_at (free_seat h) h))
   is_part (above.WalkDown n) has =
       let c : Carry = carry_in path m h in
       subst (λ (k : ℕ). IsPart sizes c (above.WalkDown n) (one path (steps.Down (steps.Walked k)) (λ a. heard.Is (is_listed a)) (λ a. c))) (sym (reference_is n h has.0)) (λ mark. refl)
@@ -199,13 +205,18 @@ settles_there : (n : ℕ) (o : Option (GuardState Inode)) (r : Option ℕ) → l
 settles_there n None r e is = absurd (cc e)
 settles_there n (Some g) r e is = is ∙ ap (λ (n : ℕ). Some n) (eq_is n g.value.number e)
 
+up_ready : (n : ℕ) (h : Hand) (o : Option ℕ) → reference_at (free_seat h) h ≡ o → MayRefer h → StepReady (if is_some o then step.UpAside n else step.Up (free_seat h) n) h
+up_ready n h None is may = is
+up_ready n h (Some j) is (inl free) = absurd (let clash : None ≡ Some j = sym free ∙ is in cc clash)
+up_ready n h (Some j) is (inr none) = none
+
 pub is_ready : (op : above.Op) (h : Hand) → Begins op h → PartReady (part_for op h) h
 is_ready (above.Give n) h has = gives_ready n (seat_of_lock n h) h has.0 has.1
 is_ready (above.Settle n) h has =
     (settles_there n (inode_at (seat_of_lock n h) h) (reference_at (seat_of_lock n h) h) has.0.0 has.1, (gives_ready n (seat_of_lock n h) h has.0.0 has.0.1).1)
 is_ready (above.UpStart true) h has = has
 is_ready (above.UpStart false) h has = has
-is_ready (above.Up n) h has = has
+is_ready (above.Up n) h has = up_ready n h (reference_at (free_seat h) h) refl has
 is_ready (above.WalkDown n) h has = (some_reference n (seat_of_reference n h) h has.0, has.1)
 is_ready (above.Down n) h has =
     (some_reference n (seat_of_reference n h) h has.0, has.1, subst (λ (k : ℕ). IsAlone k (seat_of_reference n h) h) (sym (reference_is n h has.0)) has.2)

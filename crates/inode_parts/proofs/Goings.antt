@@ -29,7 +29,7 @@ use Rattle.whole_calls.specs.declared.asks.Joined.{Joined}
 use Rattle.whole_calls.specs.declared.asks.Loan.{Loan}
 use Rattle.inode_parts.specs.Carries.{carry_in, handed, had_of, with_note}
 use Rattle.inode_parts.specs.OneSteps.{IsAlone, StepReady, joining_heard, loan_heard, step_left, still}
-use Rattle.hands.specs.Hands.{with_reference, with_txn}
+use Rattle.hands.specs.Hands.{with_seated, with_txn}
 use Rattle.hand_controls.specs.Finishing.{finish_left}
 use Rattle.hand_controls.specs.declared.finish.Finish.{Finish}
 use Rattle.hand_controls.proofs.Goings.{goes_with}
@@ -38,7 +38,7 @@ use Rattle.inode_parts.specs.declared.part.InodePart.TheVariants as part
 use Rattle.inode_parts.specs.declared.note.Note.TheVariants as note
 use Rattle.inode_parts.specs.declared.note.Notes.{Notes}
 use Rattle.inode_parts.specs.declared.one_step.OneStep.TheVariants as step
-use Rattle.inode_parts.proofs.Handing.{beside_reference, beside_txn, gave, held, listed_so, same_in}
+use Rattle.inode_parts.proofs.Handing.{beside_aside, beside_reference, beside_seated, beside_txn, gave, held, listed_so, same_in}
 
 there : (P : GuardState Inode → Type 0) (o : Option (GuardState Inode)) → MatchOption o ⊥ P → IsSome o
 there P None is = absurd is
@@ -59,14 +59,14 @@ module _ (path : List ℕ) (m : Notes) (before h : Hand) where
   still_goes lop heard answer x e f = λ i. Ret (record { answer = (path, e i); carry = f i })
 
   kept_in : (k : Seat) (a : Answer) → IsKept k a before h → carry_in path m before ≡ carry_in path m h
-  kept_in k (answers.Is true) e = beside_reference path m k None before (with_reference k None before) refl ∙ sym (ap (carry_in path m) e)
-  kept_in k (answers.Is false) e = beside_reference path m k None before h e
-  kept_in k answers.Nothing e = beside_reference path m k None before h e
-  kept_in k (answers.Refused why) e = beside_reference path m k None before h e
-  kept_in k (answers.Number n) e = beside_reference path m k None before h e
-  kept_in k (answers.File f) e = beside_reference path m k None before h e
-  kept_in k (answers.Doubled d) e = beside_reference path m k None before h e
-  kept_in k (answers.Given fd more) e = beside_reference path m k None before h e
+  kept_in k (answers.Is true) e = beside_seated path m k before (with_seated k before) refl ∙ sym (ap (carry_in path m) e)
+  kept_in k (answers.Is false) e = beside_seated path m k before h e
+  kept_in k answers.Nothing e = beside_seated path m k before h e
+  kept_in k (answers.Refused why) e = beside_seated path m k before h e
+  kept_in k (answers.Number n) e = beside_seated path m k before h e
+  kept_in k (answers.File f) e = beside_seated path m k before h e
+  kept_in k (answers.Doubled d) e = beside_seated path m k before h e
+  kept_in k (answers.Given fd more) e = beside_seated path m k before h e
 
   opened_in : (k : Seat) (a : Answer) → IsOpened k a before h → carry_in path m before ≡ carry_in path m h
   opened_in k (answers.Is b) e = same_in path m before h e
@@ -154,6 +154,10 @@ module _ (path : List ℕ) (m : Notes) (before h : Hand) where
         still_goes (steps.Give child descriptor_count) (λ a. heard.Old (old_directory a)) (answer_in (ops.GiveTo k child descriptor_count) a h) (heard.Old x) (ap heard.Old (ap (λ (n : ℕ). old_directory (given_by a n)) (sym named) ∙ sym e)) (lent_in k descriptor_count a after)
 
   module _ (a : Answer) where
+    pub aside_goes : (n : ℕ) (x : Bool) → x ≡ is_some h.aside → IsAfter (ops.UpAside n) before a h → Goes (step_left path m (step.UpAside n) before) (answer_in (ops.UpAside n) a h) (Ret (handed path m (heard.Is x) h))
+    unfolding answer_in
+    aside_goes n x e after = still_goes (steps.Up (steps.Number n)) (λ a. heard.Is (is_some a)) (answer_in (ops.UpAside n) a h) (heard.Is x) (ap heard.Is (sym e)) (beside_aside path m after.0 before h after.1)
+
     pub slot_goes : (x : Bool) → x ≡ yes_in a → IsAfter ops.TakePlace before a h → Goes (step_left path m step.Slot before) (answer_in ops.TakePlace a h) (Ret (handed path m (heard.Is x) h))
     unfolding answer_in
     slot_goes x e after = still_goes steps.TakePlace heard.Is (answer_in ops.TakePlace a h) (heard.Is x) (ap heard.Is (sym e)) (same_in path m before h after)

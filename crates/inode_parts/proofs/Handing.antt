@@ -1,5 +1,5 @@
 -- What is in hand after one operation.
-use Rattle.std.proofs.Common.{◌≡◌, ℕ, List, Bool, true, false, Option, Some, None, refl, sym, ap, subst}
+use Rattle.std.proofs.Common.{◌≡◌, ℕ, List, Bool, true, false, Option, Some, None, refl, sym, ap, ◌∙◌, subst}
 use Rattle.std.specs.Prelude.{◌==◌, if◌then◌else◌, IsSome}
 use Rattle.std.specs.Option.{option_map_or}
 use Rattle.plain_tree.specs.Tree.{put}
@@ -11,7 +11,7 @@ use Rattle.hands.specs.declared.hand.Place.{Place}
 use Rattle.hands.specs.declared.hand.Place.TheVariants.{First, Second}
 use Rattle.hands.specs.declared.hand.Seat.{Seat}
 use Rattle.hands.specs.declared.hand.Seat.TheVariants.{One, Two}
-use Rattle.hands.specs.Hands.{inode_at, inode_in, no_inode, with_buffer, with_inode, with_reference, with_txn}
+use Rattle.hands.specs.Hands.{inode_at, inode_in, no_inode, with_aside, with_buffer, with_inode, with_reference, with_seated, with_txn}
 use Rattle.hands.specs.Ops.{dropped_by, kept_by}
 use Rattle.inodes_on_blocks.specs.Handlers.{is_dying, is_listed}
 use Rattle.inodes_on_blocks.specs.Lowering.{Had, Apart}
@@ -30,6 +30,12 @@ same_in path m before h e = sym (ap (carry_in path m) e)
 pub beside_reference : (path : List ℕ) (m : Notes) (k : Seat) (r : Option ℕ) (before h : Hand) → h ≡ with_reference k r before → carry_in path m before ≡ carry_in path m h
 beside_reference path m One r before h e = still_in path m before h (sym (ap (λ (h : Hand). h.one) e)) (sym (ap (λ (h : Hand). h.two) e))
 beside_reference path m Two r before h e = still_in path m before h (sym (ap (λ (h : Hand). h.one) e)) (sym (ap (λ (h : Hand). h.two) e))
+
+pub beside_aside : (path : List ℕ) (m : Notes) (r : Option ℕ) (before h : Hand) → h ≡ with_aside r before → carry_in path m before ≡ carry_in path m h
+beside_aside path m r before h e = still_in path m before h (sym (ap (λ (h : Hand). h.one) e)) (sym (ap (λ (h : Hand). h.two) e))
+
+pub beside_seated : (path : List ℕ) (m : Notes) (k : Seat) (before h : Hand) → h ≡ with_seated k before → carry_in path m before ≡ carry_in path m h
+beside_seated path m k before h e = beside_aside path m None before (with_aside None before) refl ∙ beside_reference path m k before.aside (with_aside None before) h e
 
 pub beside_txn : (path : List ℕ) (m : Notes) (o : Option ℕ) (before h : Hand) → h ≡ with_txn o before → carry_in path m before ≡ carry_in path m h
 beside_txn path m o before h e = still_in path m before h (sym (ap (λ (h : Hand). h.one) e)) (sym (ap (λ (h : Hand). h.two) e))

@@ -47,6 +47,7 @@ step_has path m (step.Settle k) h = tt
 step_has path m (step.UpRoot k) h = tt
 step_has path m (step.UpDirectory k) h = tt
 step_has path m (step.Up k n) h = tt
+step_has path m (step.UpAside n) h = tt
 step_has path m (step.WalkDown k) h = tt
 step_has path m (step.Down k) h = tt
 step_has path m (step.Forget k) h = tt

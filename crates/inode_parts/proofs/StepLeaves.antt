@@ -7,7 +7,7 @@ use Rattle.atomic_programs.specs.Prog.{Ret, Do}
 use Rattle.fs_tables.specs.declared.inodes.Inode.{Inode}
 use Rattle.fs_machine.specs.Steps as steps
 use Rattle.hands.specs.Controls.{Goes}
-use Rattle.hands.specs.Hands.{inode_in, number_at, reference_at, with_inode, with_listed, with_reference}
+use Rattle.hands.specs.Hands.{inode_in, number_at, reference_at, with_inode, with_listed, with_reference, with_seated}
 use Rattle.hands.specs.Ops.{IsAfter, IsDown, IsHanded, IsJoined, IsKept, IsLent, IsOpened, answer_in, dropped_by, given_by, joined_by, kept_by, number_by, shut_by, yes_in}
 use Rattle.hands.specs.declared.hand.Hand.{Hand}
 use Rattle.hands.specs.declared.hand.Seat.{Seat}
@@ -20,15 +20,16 @@ use Rattle.whole_calls.specs.Asks.{answer_to, bool_in, joined_in, loan_in, numbe
 use Rattle.whole_calls.specs.declared.asks.Heard.{Heard}
 use Rattle.whole_calls.specs.declared.asks.Heard.TheVariants as heard
 use Rattle.inode_parts.specs.Carries.{handed, note_at, with_note}
-use Rattle.inode_parts.specs.Holding.{Having, Leaves, LeavesDown, LeavesInstall, LeavesJoinFile, LeavesLend, LeavesShut, LeavesUp, LeavesWalkDown}
+use Rattle.inode_parts.specs.Holding.{Having, Leaves, LeavesDown, LeavesInstall, LeavesJoinFile, LeavesLend, LeavesShut, LeavesUp, LeavesWalkDown, ReferredOrAside}
 use Rattle.inode_parts.specs.InodeParts.{part_for}
 use Rattle.inode_parts.specs.Leaving.{having}
-use Rattle.inode_parts.specs.OneSteps.{Begins, free_seat, joining_heard, loan_heard, other, seat_of_lock, seat_of_reference, step_asked, step_for, step_left, step_notes}
+use Rattle.inode_parts.specs.OneSteps.{Begins, HasFreeSeat, free_seat, joining_heard, loan_heard, other, seat_of_lock, seat_of_reference, step_asked, step_for, step_left, step_notes}
 use Rattle.inode_parts.specs.Parts.{Part}
 use Rattle.inode_parts.specs.UnderWay.{OneAmid, UnderWay}
 use Rattle.inode_parts.specs.declared.note.Note.TheVariants as note
 use Rattle.inode_parts.specs.declared.note.Notes.{Notes}
 use Rattle.inode_parts.specs.declared.one_step.OneStep.{OneStep}
+use Rattle.inode_parts.specs.declared.one_step.OneStep.TheVariants as step
 
 -- it begins so
 pub under_way : (path : List ℕ) (op : above.Op) (h : Hand) (m : Notes) → Begins op h → UnderWay path op (having h m) (part_for op h) (having h m)
@@ -77,9 +78,9 @@ noted_beside k false m = refl
 -- ---- by the answer below
 
 module _ (before h : Hand) (a : Answer) where
-  ups : (k : Seat) (n : ℕ) (r : Option ℕ) → referred (free_seat before) r before h → IfSome r (λ j. j ≡ n) → LeavesUp n (is_some r) before h
-  ups k n None e is = e
-  ups k n (Some j) e is = e ∙ ap (λ (j : ℕ). with_reference (free_seat before) (Some j) before) is
+  ups : (n : ℕ) (r : Option ℕ) → ReferredOrAside r before h → IfSome r (λ j. j ≡ n) → LeavesUp n (is_some r) before h
+  ups n None e is = e
+  ups n (Some j) e is = subst (λ (j : ℕ). ReferredOrAside (Some j) before h) is e
 
   downs : (n : ℕ) (v : Inode) (a : Answer) → number_at (seat_of_reference n before) before ≡ n → IsDown (seat_of_reference n before) a before h → LeavesDown n (is_dying (dropped_by (yes_in a) v)) before h
   downs n v (answers.Is true) named e = (e.0, e.1, e.2 ∙ named, e.3)
@@ -92,7 +93,7 @@ module _ (before h : Hand) (a : Answer) where
   downs n v (answers.Given fd more) named e = absurd e
 
   walks : (n : ℕ) (a : Answer) → number_at (seat_of_reference n before) before ≡ n → IsKept (seat_of_reference n before) a before h → LeavesWalkDown n (is_listed (kept_by (yes_in a))) before h
-  walks n (answers.Is true) named e = e ∙ ap (λ (n2 : ℕ). with_listed (before.listed ++ n2 ∷ []) (with_reference (seat_of_reference n before) None before)) named
+  walks n (answers.Is true) named e = e ∙ ap (λ (n2 : ℕ). with_listed (before.listed ++ n2 ∷ []) (with_seated (seat_of_reference n before) before)) named
   walks n (answers.Is false) named e = e
   walks n answers.Nothing named e = e
   walks n (answers.Refused why) named e = e
@@ -162,6 +163,17 @@ module _ (path : List ℕ) (m m2 : Notes) (before h : Hand) (a : Answer) (x : He
   abbrev Came : OneStep → Type 0
   Came s = IsAfter (step_asked s) before a h × Goes (step_left path m s before) (answer_in (step_asked s) a h) (Ret (handed path m2 x h)) × (m2 ≡ step_notes s (yes_in a) m)
 
+  -- at a seat, or aside
+  leaves_up : (n : ℕ) (o : Option ℕ) → reference_at (free_seat before) before ≡ o → Came (if is_some o then step.UpAside n else step.Up (free_seat before) n) → Leaves path (above.Up n) (answer_to [] (above.Up n) x) (having before m) (having h m2)
+  unfolding answer_in heard_of
+  leaves_up n None free came =
+      let there = ap (λ (r : Option ℕ). is_some r) (sym (reference_came (free_seat before) came.0.0 before h came.0.1)) ∙ ap (λ (q : Part). bool_in (heard_of q)) came.1 in
+      (subst (λ (b : Bool). LeavesUp n b before h) there (ups before h a n came.0.0 ((λ (may : HasFreeSeat before). came.0.1), (λ (full : HasFreeSeat before → ⊥). absurd (full free))) came.0.2), came.2)
+  leaves_up n (Some j) taken came =
+      let there = ap (λ (h : Hand). is_some h.aside) (sym came.0.1) ∙ ap (λ (q : Part). bool_in (heard_of q)) came.1 in
+      let clash : HasFreeSeat before → ⊥ = λ free. (let both : None ≡ Some j = sym free ∙ taken in cc both) in
+      (subst (λ (b : Bool). LeavesUp n b before h) there (ups before h a n came.0.0 ((λ (free : HasFreeSeat before). absurd (clash free)), (λ (full : HasFreeSeat before → ⊥). came.0.1)) came.0.2), came.2)
+
   leaves_by : (op : above.Op) → Begins op before → MatchOption (step_for op before) ⊥ Came → Leaves path op (answer_to [] op x) (having before m) (having h m2)
   unfolding answer_in heard_of
   leaves_by (above.Give n) has came = (came.0, came.2)
@@ -175,10 +187,7 @@ module _ (path : List ℕ) (m m2 : Notes) (before h : Hand) (a : Answer) (x : He
   leaves_by (above.UpStart false) has came =
       let k = free_seat before in
       (came.0.1 ∙ ap (λ (r : Option ℕ). with_reference k r before) (sym (reference_came k came.0.0 before h came.0.1) ∙ ap (λ (q : Part). start_in (heard_of q)) came.1), came.2)
-  leaves_by (above.Up n) has came =
-      let k = free_seat before in
-      let there = ap (λ (r : Option ℕ). is_some r) (sym (reference_came k came.0.0 before h came.0.1)) ∙ ap (λ (q : Part). bool_in (heard_of q)) came.1 in
-      (subst (λ (b : Bool). LeavesUp n b before h) there (ups before h a k n came.0.0 came.0.1 came.0.2), came.2)
+  leaves_by (above.Up n) has came = leaves_up n (reference_at (free_seat before) before) refl came
   leaves_by (above.WalkDown n) has came =
       let named = ap (λ (o : Option ℕ). unwrap_or o 0) has.0 in
       (subst (λ (b : Bool). LeavesWalkDown n b before h) (ap (λ (q : Part). bool_in (heard_of q)) came.1) (walks before h a n a named came.0), came.2)

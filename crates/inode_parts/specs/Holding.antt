@@ -6,7 +6,7 @@ use Rattle.sleep_lock.specs.SleepLock.{GuardState}
 use Rattle.fs_tables.specs.declared.inodes.Inode.{Inode}
 use Rattle.hands.specs.declared.hand.Hand.{Hand}
 use Rattle.hands.specs.declared.hand.Seat.{Seat}
-use Rattle.hands.specs.Hands.{inode_at, with_first, with_inode, with_listed, with_reference, with_txn}
+use Rattle.hands.specs.Hands.{inode_at, with_aside, with_first, with_inode, with_listed, with_reference, with_seated, with_txn}
 use Rattle.hand_controls.specs.Calling.{IsEmpty}
 use Rattle.hand_controls.specs.HeldInodes.{unloaded, IsLoadedAt}
 use Rattle.inode_machine.specs.Inodes.{AtEntries, AtName, AtNothing, Face, Query, Sight}
@@ -14,7 +14,7 @@ use Rattle.inode_machine.specs.Parts as programs
 use Rattle.inode_machine.specs.World as above
 use Rattle.inode_parts.specs.Carries.{note_at}
 use Rattle.inode_parts.specs.Clears.{HasFound}
-use Rattle.inode_parts.specs.OneSteps.{HasReference, free_seat, other, seat_of_lock, seat_of_reference}
+use Rattle.inode_parts.specs.OneSteps.{HasFreeSeat, HasReference, free_seat, other, seat_of_lock, seat_of_reference}
 use Rattle.inode_parts.specs.declared.note.Note.{Note}
 use Rattle.inode_parts.specs.declared.note.Note.TheVariants as note
 use Rattle.inode_parts.specs.declared.note.Notes.{Notes}
@@ -29,6 +29,10 @@ pub record Having : Type 0 where
 -- a reference more, or none, where there was none
 abbrev pub Referred : Option ℕ → Hand → Hand → Type 0
 Referred r before h = h ≡ with_reference (free_seat before) r before
+
+-- .. aside where no seat is free
+abbrev pub ReferredOrAside : Option ℕ → Hand → Hand → Type 0
+ReferredOrAside r before h = (HasFreeSeat before → Referred r before h) × ((HasFreeSeat before → ⊥) → h ≡ with_aside r before)
 
 -- the reference to inode n is gone
 abbrev pub Dropped : ℕ → Hand → Hand → Type 0
@@ -75,13 +79,13 @@ abbrev pub LeavesTake : ℕ → Hand → Hand → Type 0
 LeavesTake n before h = (HasReference n before → Locked n before h) × ((HasReference n before → ⊥) → Relocked n before h)
 
 abbrev pub LeavesUp : ℕ → Bool → Hand → Hand → Type 0
-LeavesUp n true before h = Referred (Some n) before h
-LeavesUp n false before h = Referred None before h
+LeavesUp n true before h = ReferredOrAside (Some n) before h
+LeavesUp n false before h = ReferredOrAside None before h
 
--- within a walk the last reference to a dead inode is listed, behind the others
+-- within a walk the last reference to a dead inode is listed, behind the others, and one that is aside comes to its seat
 abbrev pub LeavesWalkDown : ℕ → Bool → Hand → Hand → Type 0
-LeavesWalkDown n true before h = h ≡ with_listed (before.listed ++ n ∷ []) (with_reference (seat_of_reference n before) None before)
-LeavesWalkDown n false before h = Dropped n before h
+LeavesWalkDown n true before h = h ≡ with_listed (before.listed ++ n ∷ []) (with_seated (seat_of_reference n before) before)
+LeavesWalkDown n false before h = h ≡ with_seated (seat_of_reference n before) before
 
 -- the lock of a dead inode comes in its place
 abbrev pub LeavesDown : ℕ → Bool → Hand → Hand → Type 0

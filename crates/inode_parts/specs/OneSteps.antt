@@ -1,5 +1,5 @@
 -- Operations on whole inodes that are one operation below.
-use Rattle.std.specs.Prelude.{◌≡◌, ◌<◌, ℕ, List, length, Bool, false, Option, Some, None, IsSome, is_some, ◌==◌, if◌then◌else◌, true}
+use Rattle.std.specs.Prelude.{◌≡◌, ◌<◌, ◌⊎◌, ℕ, List, length, Bool, false, Option, Some, None, IsSome, is_some, ◌==◌, if◌then◌else◌, true}
 use Rattle.std.specs.Option.{MatchOption, option_map_or}
 use Rattle.plain_tree.specs.Tree.{put}
 use Rattle.plain_tree.specs.Widths.{root, descriptor_count}
@@ -50,6 +50,7 @@ step_left path m (step.Settle k) h = one path (steps.Settle (inode_in k h)) hear
 step_left path m (step.UpRoot k) h = still path (steps.Up (steps.Number root)) heard.Start (carry_in path m h)
 step_left path m (step.UpDirectory k) h = still path (steps.Up steps.Directory) heard.Start (carry_in path m h)
 step_left path m (step.Up k n) h = still path (steps.Up (steps.Number n)) (λ a. heard.Is (is_some a)) (carry_in path m h)
+step_left path m (step.UpAside n) h = still path (steps.Up (steps.Number n)) (λ a. heard.Is (is_some a)) (carry_in path m h)
 step_left path m (step.WalkDown k) h = still path (steps.Down (steps.Walked (number_at k h))) (λ a. heard.Is (is_listed a)) (carry_in path m h)
 step_left path m (step.Down k) h = one path (steps.Down (steps.Held (number_at k h))) (λ a. heard.Is (is_dying a)) (with_dying (number_at k h) (carry_in path m h))
 step_left path m (step.Forget k) h = still path (steps.Down (steps.Freed (number_at k h))) (λ a. heard.Did) (carry_in path m h)
@@ -71,6 +72,7 @@ step_asked (step.Settle k) = ops.Settle k
 step_asked (step.UpRoot k) = ops.Up k root
 step_asked (step.UpDirectory k) = ops.UpDirectory k
 step_asked (step.Up k n) = ops.Up k n
+step_asked (step.UpAside n) = ops.UpAside n
 step_asked (step.WalkDown k) = ops.DownWalked k
 step_asked (step.Down k) = ops.Down k
 step_asked (step.Forget k) = ops.DownFreed k
@@ -113,6 +115,7 @@ StepReady (step.Settle k) h = MatchOption (inode_at k h) ⊥ (λ g. reference_at
 StepReady (step.UpRoot k) h = reference_at k h ≡ None
 StepReady (step.UpDirectory k) h = reference_at k h ≡ None
 StepReady (step.Up k n) h = reference_at k h ≡ None
+StepReady (step.UpAside n) h = h.aside ≡ None
 StepReady (step.WalkDown k) h = IsSome (reference_at k h) × HasRoom h
 StepReady (step.Down k) h = IsSome (reference_at k h) × (inode_at k h ≡ None) × IsAlone (number_at k h) k h
 StepReady (step.Forget k) h = IsSome (reference_at k h)
@@ -147,11 +150,15 @@ abbrev pub start_for : Bool → Hand → OneStep
 start_for true h = step.UpRoot (free_seat h)
 start_for false h = step.UpDirectory (free_seat h)
 
+-- a reference to inode n, aside where no seat is free
+abbrev pub up_for : ℕ → Hand → OneStep
+up_for n h = if is_some (reference_at (free_seat h) h) then step.UpAside n else step.Up (free_seat h) n
+
 abbrev pub step_for : above.Op → Hand → Option OneStep
 step_for (above.Give n) h = Some (step.Give (seat_of_lock n h))
 step_for (above.Settle n) h = Some (step.Settle (seat_of_lock n h))
 step_for (above.UpStart absolute) h = Some (start_for absolute h)
-step_for (above.Up n) h = Some (step.Up (free_seat h) n)
+step_for (above.Up n) h = Some (up_for n h)
 step_for (above.WalkDown n) h = Some (step.WalkDown (seat_of_reference n h))
 step_for (above.Down n) h = Some (step.Down (seat_of_reference n h))
 step_for (above.Forget n) h = Some (step.Forget (seat_of_reference n h))
@@ -178,11 +185,15 @@ HasLock n h = (locks n (inode_at (seat_of_lock n h) h) ≡ true) × IsAlone n (s
 abbrev pub HasFreeSeat : Hand → Type 0
 HasFreeSeat h = reference_at (free_seat h) h ≡ None
 
+-- there is a place for a reference
+abbrev pub MayRefer : Hand → Type 0
+MayRefer h = HasFreeSeat h ⊎ (h.aside ≡ None)
+
 abbrev pub Begins : above.Op → Hand → Type 0
 Begins (above.Give n) h = HasLock n h
 Begins (above.Settle n) h = HasLock n h × (reference_at (seat_of_lock n h) h ≡ Some n)
 Begins (above.UpStart absolute) h = HasFreeSeat h
-Begins (above.Up n) h = HasFreeSeat h
+Begins (above.Up n) h = MayRefer h
 Begins (above.WalkDown n) h = HasReference n h × HasRoom h
 Begins (above.Down n) h = HasReference n h × (inode_at (seat_of_reference n h) h ≡ None) × IsAlone n (seat_of_reference n h) h
 Begins (above.Forget n) h = HasReference n h

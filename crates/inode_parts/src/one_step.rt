@@ -5,7 +5,7 @@ ghost use Rattle.hands.specs.Ops.{op_in, answer_in, CanDo, Prepared, IsAfter};
 ghost use Rattle.hands.specs.Controls.{Goes};
 ghost use Rattle.hands.specs.declared.hand.Hand.{Hand as HandState};
 ghost use Rattle.inode_parts.specs.Carries.{handed};
-ghost use Rattle.inode_parts.specs.OneSteps.{step_for, step_left, step_asked, step_notes, StepReady};
+ghost use Rattle.inode_parts.specs.OneSteps.{step_for, step_left, step_asked, step_notes, up_for, StepReady};
 ghost use Rattle.whole_calls.specs.Asks.{op_in as above_op};
 ghost use Rattle.inode_parts.specs.declared.note.Notes.{Notes as NotesState};
 ghost use Rattle.std.specs.Prelude.{if◌then◌else◌};
@@ -27,11 +27,12 @@ pub enum OneStep {
     /// An inode's lock is given up; so too where it is the hart's current directory from then on.
     Give(Seat),
     Settle(Seat),
-    /// A reference more: to the root, to the current directory, to this inode.
+    /// A reference more: to the root, to the current directory, to this inode; and to this one where no seat is free.
     UpRoot(Seat),
     UpDirectory(Seat),
     Up(Seat, u32),
-    /// A reference less: in a walk, elsewhere, and to an inode that was freed.
+    UpAside(u32),
+    /// A reference less: in a walk, where one that is aside comes to its seat; elsewhere; and to an inode that was freed.
     WalkDown(Seat),
     Down(Seat),
     Forget(Seat),
@@ -61,7 +62,7 @@ impl OneStep {
             Ask::Settle(number) => OneStep::Settle(lock_seat(hand, number)),
             Ask::UpStart(true) => OneStep::UpRoot(free_seat(hand)),
             Ask::UpStart(false) => OneStep::UpDirectory(free_seat(hand)),
-            Ask::Up(number) => OneStep::Up(free_seat(hand), number),
+            Ask::Up(number) => up(number, hand),
             Ask::WalkDown(number) => OneStep::WalkDown(reference_seat(hand, number)),
             Ask::Down(number) => OneStep::Down(reference_seat(hand, number)),
             Ask::Forget(number) => OneStep::Forget(reference_seat(hand, number)),
@@ -96,6 +97,7 @@ impl OneStep {
             OneStep::UpRoot(seat) => Op::Up(seat, ROOT),
             OneStep::UpDirectory(seat) => Op::UpDirectory(seat),
             OneStep::Up(seat, number) => Op::Up(seat, number),
+            OneStep::UpAside(number) => Op::UpAside(number),
             OneStep::WalkDown(seat) => Op::DownWalked(seat),
             OneStep::Down(seat) => Op::Down(seat),
             OneStep::Forget(seat) => Op::DownFreed(seat),
@@ -126,6 +128,7 @@ impl OneStep {
             OneStep::UpRoot(seat) => Heard::Start(number_to(hand, seat)),
             OneStep::UpDirectory(seat) => Heard::Start(number_to(hand, seat)),
             OneStep::Up(seat, _) => Heard::Is(number_to(hand, seat).is_some()),
+            OneStep::UpAside(_) => Heard::Is(hand.aside.is_some()),
             OneStep::WalkDown(_) => Heard::Is(answer.yes()),
             OneStep::Down(seat) => Heard::Is(dies(notes, seat, answer)),
             OneStep::Forget(_) => Heard::Did,
@@ -141,6 +144,17 @@ impl OneStep {
             OneStep::Join => Heard::Did,
             OneStep::Say => Heard::Did,
         }
+    }
+}
+
+// A reference to the inode of this number.
+fn up(number: u32, hand: &Hand) -> OneStep
+    ensures { result ≡ up_for number hand.now }
+{
+    let seat = free_seat(hand);
+    match number_to(hand, seat) {
+        Some(_) => OneStep::UpAside(number),
+        None => OneStep::Up(seat, number),
     }
 }
 

@@ -3,6 +3,7 @@ use Rattle.call_hands.proofs.Closing.{close_runs, inherit_runs, stat_runs}
 use Rattle.call_hands.proofs.Describing.{dup_runs, read_runs, write_runs}
 use Rattle.call_hands.proofs.Walking.{chdir_runs}
 use Rattle.call_hands.proofs.Opening.{open_runs}
+use Rattle.call_hands.proofs.Linking.{link_runs}
 use Rattle.call_hands.proofs.Making.{mkdir_runs}
 use Rattle.call_hands.proofs.Unlinking.{unlink_runs}
 use Rattle.call_hands.proofs.laws.calls_find_what_they_ask.Goals as goal
@@ -19,5 +20,6 @@ returns c =
       chdir = λ path call s empty. chdir_runs path call s empty;
       opens = λ path flags call s empty. open_runs path flags call s empty;
       mkdir = λ path call s empty. mkdir_runs path call s empty;
+      link = λ text old new call s empty. link_runs text old new call s empty;
       unlink = λ path call s empty. unlink_runs path call s empty;
     }

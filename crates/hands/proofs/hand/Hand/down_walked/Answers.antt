@@ -1,4 +1,4 @@
-use Rattle.std.proofs.Common.{◌≡◌, ℕ, List, [], ◌∷◌, ◌++◌, Some, None, refl, sym, ap, ◌∙◌, subst, inl}
+use Rattle.std.proofs.Common.{◌≡◌, ℕ, List, [], ◌∷◌, ◌++◌, None, refl, sym, ap, ◌∙◌, subst, inl}
 use Rattle.atomic_programs.specs.Prog.{Ran}
 use Rattle.fs_tables.specs.Inodes.{Counts, Keeps}
 use Rattle.fs_machine.specs.LogPart.{Passes, part_of}
@@ -6,9 +6,9 @@ use Rattle.fs_machine.specs.Steps as steps
 use Rattle.fs_machine.specs.Steps.{State, state_of, exec}
 use Rattle.fs_machine.specs.Premises.{Honest}
 use Rattle.hands.specs.declared.hand.Hand.{Hand}
-use Rattle.hands.specs.Hands.{HandFits, number_at, with_listed, with_reference}
+use Rattle.hands.specs.Hands.{HandFits, number_at, with_listed, with_seated}
 use Rattle.hands.specs.Ops.{answer_in}
-use Rattle.hands.proofs.Fits.{listed-beside, lists, tables-stay, refers, number-there}
+use Rattle.hands.proofs.Fits.{lists, number-there, seated-again, seated-beside, seats-aside, tables-stay}
 use Rattle.hands.proofs.hand.Hand.down_walked.Goals as goal
 
 pub returns-in-None-drop_walked : goal.returns-in-None-drop_walked
@@ -22,14 +22,14 @@ returns-in-None-drop_walked g c =
     let k = c.args.seat in
     let n = c.in-Some.reference in
     let was = sym c.take_reference.ensures.is ∙ c.in-Some.is in
-    let there = c.take_reference.ensures.left in
+    let there = c.seat_aside.ensures ∙ ap (with_seated k) c.take_reference.ensures.left ∙ seated-again k None hand in
     record {
       ran = subst (λ (m : ℕ). exec hart Passes (steps.Down (steps.Walked m)) old ≡ Ran Counts new) (sym (number-there k n hand was)) (did.ran Passes);
       kind = refl;
       honest = tt;
       still = tt;
       hand = there;
-      fits = subst (λ h. HandFits hart new h) (sym there) (refers hart new hand (tables-stay hart old new hand c.requires.fits (ap (part_of g.D.Device.contents g.D.Device.failures) did.log) did.rest) k None);
+      fits = subst (λ h. HandFits hart new h) (sym there) (seats-aside hart new hand (tables-stay hart old new hand c.requires.fits (ap (part_of g.D.Device.contents g.D.Device.failures) did.log) did.rest) k);
       others = did.others;
       called = inl (ap (λ l. l.cache.device) did.log);
     }
@@ -46,10 +46,10 @@ returns-in-Some-drop_walked g c =
     let n = c.in-Some.reference in
     let was = sym c.take_reference.ensures.is ∙ c.in-Some.is in
     let number = number-there k n hand was in
-    let gone = c.take_reference.ensures.left in
+    let gone = c.seat_aside.ensures ∙ ap (with_seated k) c.take_reference.ensures.left ∙ seated-again k None hand in
     let is : c.push.new.self ≡ hand.listed ++ number_at k hand ∷ [] = c.push.ensures ∙ ap (λ (h : Hand). h.listed ++ c.in-Some-drop_walked.kept ∷ []) gone
-    ∙ ap (λ (ns : List ℕ). ns ++ c.in-Some-drop_walked.kept ∷ []) (listed-beside k None hand) ∙ ap (λ (n : ℕ). hand.listed ++ n ∷ []) (did.kept ∙ sym number) in
-    let there = ap (with_listed c.push.new.self) gone ∙ ap (λ (ns : List ℕ). with_listed ns (with_reference k None hand)) is in
+    ∙ ap (λ (ns : List ℕ). ns ++ c.in-Some-drop_walked.kept ∷ []) (seated-beside k hand) ∙ ap (λ (n : ℕ). hand.listed ++ n ∷ []) (did.kept ∙ sym number) in
+    let there = ap (with_listed c.push.new.self) gone ∙ ap (λ (ns : List ℕ). with_listed ns (with_seated k hand)) is in
     record {
       ran = subst (λ (m : ℕ). exec hart Passes (steps.Down (steps.Walked m)) old ≡ Ran Keeps new) (sym number) (did.ran Passes);
       kind = refl;
@@ -57,7 +57,7 @@ returns-in-Some-drop_walked g c =
       still = tt;
       hand = there;
       fits = subst (λ h. HandFits hart new h) (sym there)
-          (lists hart new (with_reference k None hand) (refers hart new hand (tables-stay hart old new hand c.requires.fits (ap (part_of g.D.Device.contents g.D.Device.failures) did.log) did.rest) k None) (hand.listed ++ number_at k hand ∷ []));
+          (lists hart new (with_seated k hand) (seats-aside hart new hand (tables-stay hart old new hand c.requires.fits (ap (part_of g.D.Device.contents g.D.Device.failures) did.log) did.rest) k) (hand.listed ++ number_at k hand ∷ []));
       others = did.others;
       called = inl (ap (λ l. l.cache.device) did.log);
     }

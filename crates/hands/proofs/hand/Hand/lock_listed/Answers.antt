@@ -1,4 +1,4 @@
-use Rattle.std.proofs.Common.{◌≡◌, ℕ, List, drop, Some, refl, sym, ap, ◌∙◌, subst, inl}
+use Rattle.std.proofs.Common.{◌≡◌, ℕ, drop, Some, refl, sym, ap, ◌∙◌, subst, inl}
 use Rattle.atomic_programs.specs.Prog.{Ran, Waits as ItWaits}
 use Rattle.fs_machine.specs.LogPart.{Passes, part_of}
 use Rattle.fs_machine.specs.Steps as steps

@@ -24,6 +24,9 @@ returns-in-Unlock g c = rw c.in-Unlock.is (c.unlock.ensures c.args.told.now)
 pub returns-in-Up : goal.returns-in-Up
 returns-in-Up g c = rw c.in-Up.is (c.up.ensures c.args.told.now)
 
+pub returns-in-UpAside : goal.returns-in-UpAside
+returns-in-UpAside g c = rw c.in-UpAside.is (c.up_aside.ensures c.args.told.now)
+
 pub returns-in-UnlockMoving : goal.returns-in-UnlockMoving
 returns-in-UnlockMoving g c = rw c.in-UnlockMoving.is (c.unlock_moving.ensures c.args.told.now)
 

@@ -1,6 +1,6 @@
 use Rattle.std.proofs.Common.{ℕ, Option, ap, ◌∙◌}
 use Rattle.std.specs.Prelude.{is_some}
-use Rattle.inode_parts.proofs.Goings.{give_goes, settle_goes, root_goes, directory_goes, up_goes, walked_goes, down_goes, slot_goes, installed_goes, checked_goes, joined_goes, doubled_goes, shut_goes, lent_goes, moved_goes}
+use Rattle.inode_parts.proofs.Goings.{give_goes, settle_goes, root_goes, directory_goes, up_goes, aside_goes, walked_goes, down_goes, slot_goes, installed_goes, checked_goes, joined_goes, doubled_goes, shut_goes, lent_goes, moved_goes}
 use Rattle.inode_parts.proofs.one_step.OneStep.next.Goals as goal
 
 pub returns-in-Give-clause-goes : goal.returns-in-Give-clause-goes
@@ -17,6 +17,9 @@ returns-in-UpDirectory-clause-goes c = λ path before. rw c.in-UpDirectory.is (�
 
 pub returns-in-Up-clause-goes : goal.returns-in-Up-clause-goes
 returns-in-Up-clause-goes c = λ path before. rw c.in-Up.is (λ ready after. up_goes path c.args.notes.now before c.args.hand.now c.in-Up.seat c.args.answer.now c.in-Up.field-1 c.is_some.result (c.is_some.ensures ∙ ap (λ (o : Option ℕ). is_some o) c.number_to-in-Up.ensures) after)
+
+pub returns-in-UpAside-clause-goes : goal.returns-in-UpAside-clause-goes
+returns-in-UpAside-clause-goes c = λ path before. rw c.in-UpAside.is (λ ready after. aside_goes path c.args.notes.now before c.args.hand.now c.args.answer.now c.in-UpAside.field-0 c.is_some-in-UpAside.result c.is_some-in-UpAside.ensures after)
 
 pub returns-in-WalkDown-clause-goes : goal.returns-in-WalkDown-clause-goes
 returns-in-WalkDown-clause-goes c = λ path before. rw c.in-WalkDown.is (λ ready after. walked_goes path c.args.notes.now before c.args.hand.now c.in-WalkDown.field-0 c.args.answer.now c.yes.result c.yes.ensures after)
