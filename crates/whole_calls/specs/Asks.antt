@@ -1,17 +1,16 @@
 -- What a call in code asks and hears, in the words of the machine of whole inodes.
-use Rattle.std.specs.Prelude.{◌≤◌, ℕ, ◌*◌, Bool, true, false, List, [], length, take, Option, Some, None}
+use Rattle.std.specs.Prelude.{ℕ, Bool, true, false, List, [], ◌++◌, take, Option, Some, None}
 use Rattle.std.specs.Option.{option_map}
 use Rattle.plain_tree.specs.declared.step.Action.{Action}
 use Rattle.plain_tree.specs.declared.step.Action.TheVariants as steps
 use Rattle.plain_tree.specs.declared.answer.Cause.{Cause}
 use Rattle.plain_tree.specs.declared.answer.Cause.TheVariants.{BadDescriptor}
 use Rattle.plain_tree.specs.Calls.{piece}
-use Rattle.plain_tree.specs.Widths.{piece_len}
 use Rattle.plain_tree.specs.declared.answer.Reply.{Reply}
 use Rattle.plain_tree.specs.declared.answer.Answer.{Answer as CallAnswer}
 use Rattle.plain_tree.specs.declared.call.Call.{Call}
 use Rattle.atomic_programs.specs.Prog.{Ret, Do}
-use Rattle.whole_calls.specs.Elements.{name_in, IsElement}
+use Rattle.whole_calls.specs.Elements.{name_in, IsElement, IsInOne}
 use Rattle.inode_machine.specs.Inodes as whole
 use Rattle.tree_moves.specs.Moves as moves
 use Rattle.inode_machine.specs.World as world
@@ -97,13 +96,34 @@ IsSought path query.Nothing = Unit {0}
 IsSought path (query.Name e) = IsElement path e
 IsSought path query.Entries = Unit {0}
 
--- .. a piece begins within the bytes, and nothing is read into them
+-- .. and no bytes are read or written
 abbrev pub IsNamed : List ℕ → Ask → Type 0
 IsNamed path (ask.Take n q) = IsSought path q
 IsNamed path (ask.Enter d e n) = IsElement path e
 IsNamed path (ask.ReadFile fd n offset count) = ⊥
-IsNamed path (ask.WriteFile fd n offset i) = piece_len * i ≤ length path
+IsNamed path (ask.WriteFile fd n offset i) = ⊥
 IsNamed path a = Unit {0}
+
+-- of two texts, the first of which is this, such a name stands in one
+abbrev pub IsSoughtInOne : List ℕ → Query → Type 0
+IsSoughtInOne first query.Nothing = Unit {0}
+IsSoughtInOne first (query.Name e) = IsInOne first e
+IsSoughtInOne first query.Entries = Unit {0}
+
+abbrev pub AsksInOne : List ℕ → Ask → Type 0
+AsksInOne first (ask.Take n q) = IsSoughtInOne first q
+AsksInOne first (ask.Enter d e n) = IsInOne first e
+AsksInOne first a = Unit {0}
+
+-- one text stands behind the other
+abbrev pub IsNamedInTwo : List ℕ → List ℕ → Ask → Type 0
+IsNamedInTwo first second a = IsNamed (first ++ second) a × AsksInOne first a
+
+-- a name is sought at most
+abbrev pub OnlySeeks : Ask → Type 0
+OnlySeeks (ask.Enter d e n) = ⊥
+OnlySeeks (ask.Clear d e) = ⊥
+OnlySeeks a = Unit {0}
 
 -- ---- what is heard
 

@@ -1,5 +1,5 @@
 -- The elements of a path, where they stand in it.
-use Rattle.std.specs.Prelude.{ℕ, ◌≤◌, List, [], ◌∷◌, length, slice_range, Option, Some, None}
+use Rattle.std.specs.Prelude.{ℕ, ◌+◌, ◌≤◌, ◌⊎◌, List, [], ◌∷◌, length, slice_range, Option, Some, None}
 use Rattle.whole_calls.specs.Names.{IsName}
 use Rattle.plain_tree.specs.Tree.{Name}
 use Rattle.whole_calls.specs.declared.elements.Element.{Element}
@@ -20,6 +20,14 @@ pub record IsElement (path : List ℕ) (e : Element) : Type 0 where
   pub within : e.end ≤ length path
   pub rest : e.rest ≤ length path
   pub name : IsName (name_in path e)
+
+-- the same where so many bytes stand before its path
+abbrev pub shifted : ℕ → Element → Element
+shifted by e = record { start = by + e.start; end = by + e.end; rest = by + e.rest }
+
+-- of two texts, the first of which is this, it stands in one
+abbrev pub IsInOne : List ℕ → Element → Type 0
+IsInOne first e = (e.end ≤ length first) ⊎ (length first ≤ e.start)
 
 -- the last element, if one is left
 abbrev pub names_of : List ℕ → Option Element → List Name

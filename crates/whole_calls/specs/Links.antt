@@ -77,12 +77,7 @@ module _ (old new : List ℕ) where
   link_of ns (linking.Lower n f a) = lowers n (face_of f) (reply_to (calls.Link old new) a) ns
   link_of ns (linking.Ends e) = ending_of (calls.Link old new) ns e
 
-  -- the path in which its names stand, and the tree step for which it walks
-  abbrev pub link_text : Link → List ℕ
-  link_text linking.Join = old
-  link_text (linking.WalksOld w) = old
-  link_text c = new
-
+  -- the tree step for which it walks
   abbrev pub link_action : Link → Action
   link_action linking.Join = steps.Find old
   link_action (linking.WalksOld w) = steps.Find old

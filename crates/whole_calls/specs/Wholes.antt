@@ -1,5 +1,5 @@
 -- What is left of a call, whichever it is.
-use Rattle.std.specs.Prelude.{◌≢◌, ◌≤◌, ◌<◌, ◌^◌, ◌+◌, ℕ, Bool, List, [], length, All}
+use Rattle.std.specs.Prelude.{◌≢◌, ◌≤◌, ◌<◌, ◌^◌, ◌+◌, ℕ, Bool, List, [], ◌++◌, length, All}
 use Rattle.plain_tree.specs.Tree.{elements}
 use Rattle.plain_tree.specs.declared.answer.Answer.{Answer as CallAnswer}
 use Rattle.plain_tree.specs.declared.answer.Reply.{Reply}
@@ -8,14 +8,14 @@ use Rattle.plain_tree.specs.declared.call.Call.TheVariants as calls
 use Rattle.plain_tree.specs.declared.step.Action.{Action}
 use Rattle.plain_tree.specs.declared.step.Action.TheVariants as steps
 use Rattle.inode_machine.specs.Parts.{P}
-use Rattle.whole_calls.specs.Asks.{stepped, IsNamed}
+use Rattle.whole_calls.specs.Asks.{stepped, IsNamed, IsNamedInTwo}
 use Rattle.whole_calls.specs.Calls.{Fits, chdir_of, chdir_stage, dup_of, most_listed, stat_of, unlink_of, unlink_stage}
 use Rattle.whole_calls.specs.Closes.{close_of, inherit_of}
-use Rattle.whole_calls.specs.Links.{LinkFits, link_action, link_of, link_stage, link_text}
+use Rattle.whole_calls.specs.Links.{LinkFits, link_action, link_of, link_stage}
 use Rattle.whole_calls.specs.Makes.{mkdir_of, mkdir_stage}
 use Rattle.whole_calls.specs.Opens.{open_of, open_stage}
 use Rattle.whole_calls.specs.Reads.{HasRoomIn, ReadAsks, ReadFits, read_of}
-use Rattle.whole_calls.specs.Writes.{WriteFits, write_of}
+use Rattle.whole_calls.specs.Writes.{WriteAsks, WriteFits, write_of}
 use Rattle.whole_calls.specs.declared.asks.Ask.{Ask}
 use Rattle.whole_calls.specs.declared.asks.Heard.{Heard}
 use Rattle.whole_calls.specs.declared.whole.Whole.{Whole}
@@ -48,12 +48,12 @@ call_in (whole.Fstat fd c) = calls.Fstat fd
 call_in (whole.Close fd c) = calls.Close fd
 call_in (whole.Inherit child c) = calls.Inherit child
 
--- the path in which its names stand, or its bytes
+-- the path in which its names stand, of two the second behind the first; or its bytes
 abbrev pub text_in : Whole → List ℕ
 text_in (whole.Open path flags c) = path
 text_in (whole.Read fd buf c) = buf.items
 text_in (whole.Write fd bytes c) = bytes
-text_in (whole.Link old new c) = link_text old new c
+text_in (whole.Link old new c) = old ++ new
 text_in (whole.Unlink path c) = path
 text_in (whole.Mkdir path c) = path
 text_in (whole.Chdir path c) = path
@@ -61,6 +61,15 @@ text_in (whole.Dup fd c) = []
 text_in (whole.Fstat fd c) = []
 text_in (whole.Close fd c) = []
 text_in (whole.Inherit child c) = []
+
+-- that in two: the first, and a second path
+abbrev pub second_in : Whole → List ℕ
+second_in (whole.Link old new c) = new
+second_in w = []
+
+abbrev pub first_in : Whole → List ℕ
+first_in (whole.Link old new c) = old
+first_in w = text_in w
 
 -- the tree step of which its next mark is
 abbrev pub action_in : Whole → Action
@@ -97,12 +106,12 @@ WholeFits ns (whole.Fstat fd c) = Unit {0}
 WholeFits ns (whole.Close fd c) = Unit {0}
 WholeFits ns (whole.Inherit child c) = Unit {0}
 
--- what it asks stands in its text: a read alone asks to read
+-- what it asks stands in its text: a read alone asks to read, and a write to write
 abbrev pub WholeAsks : Whole → Ask → Type 0
 WholeAsks (whole.Read fd buf c) a = ReadAsks buf.items c a
 WholeAsks (whole.Open path flags c) a = IsNamed path a
-WholeAsks (whole.Write fd bytes c) a = IsNamed bytes a
-WholeAsks (whole.Link old new c) a = IsNamed (link_text old new c) a
+WholeAsks (whole.Write fd bytes c) a = WriteAsks bytes a
+WholeAsks (whole.Link old new c) a = IsNamedInTwo old new a
 WholeAsks (whole.Unlink path c) a = IsNamed path a
 WholeAsks (whole.Mkdir path c) a = IsNamed path a
 WholeAsks (whole.Chdir path c) a = IsNamed path a

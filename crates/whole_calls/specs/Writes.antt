@@ -1,6 +1,7 @@
 -- What is left of a write.
-use Rattle.std.specs.Prelude.{◌≡◌, ℕ, zero, suc, ◌+◌, List, []}
+use Rattle.std.specs.Prelude.{◌≡◌, ◌≤◌, ℕ, zero, suc, ◌+◌, ◌*◌, List, [], length}
 use Rattle.plain_tree.specs.Calls.{piece, piece_count}
+use Rattle.plain_tree.specs.Widths.{piece_len}
 use Rattle.plain_tree.specs.declared.answer.Answer.{Answer as CallAnswer}
 use Rattle.plain_tree.specs.declared.answer.Reply.{Reply}
 use Rattle.plain_tree.specs.declared.call.Call.TheVariants as calls
@@ -8,7 +9,9 @@ use Rattle.atomic_programs.specs.Prog.{Do, unmarked}
 use Rattle.inode_machine.specs.World.Op.{JoinFile, WriteFile, Join, Leave}
 use Rattle.inode_machine.specs.Parts.{P, say}
 use Rattle.inode_machine.specs.Descriptors.{joined_on, refused_to, write_from, write_piece, write_program, write_reply, writes, wrote_on}
-use Rattle.whole_calls.specs.Asks.{reply_to, wrote_of}
+use Rattle.whole_calls.specs.Asks.{reply_to, wrote_of, IsNamed}
+use Rattle.whole_calls.specs.declared.asks.Ask.{Ask}
+use Rattle.whole_calls.specs.declared.asks.Ask.TheVariants as ask
 use Rattle.whole_calls.specs.declared.asks.Turn.{Turn}
 use Rattle.whole_calls.specs.declared.asks.Turn.TheVariants as turn
 use Rattle.whole_calls.specs.declared.writing.Piece.{Piece}
@@ -32,6 +35,11 @@ module _ (fd : ℕ) (bytes : List ℕ) where
   write_of (writing.Leave p w) = Do Leave unmarked (λ _. wrote_on fd bytes (more_after p) (wrote_of w))
   write_of (writing.JoinNext p) = Do Join unmarked (λ _. write_from fd p.number bytes p.more p.index)
   write_of (writing.Says a) = say (reply_to (calls.Write fd bytes) a)
+
+-- a piece that is to be written begins within the bytes
+abbrev pub WriteAsks : List ℕ → Ask → Type 0
+WriteAsks bytes (ask.WriteFile fd n offset i) = piece_len * i ≤ length bytes
+WriteAsks bytes a = IsNamed bytes a
 
 -- it is one of theirs, with so many behind it
 abbrev pub IsPieceOf : List ℕ → Piece → Type 0

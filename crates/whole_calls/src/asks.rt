@@ -1,10 +1,10 @@
 //! What a call asks of whole inodes, and what it hears.
-ghost use Rattle.std.specs.Prelude.{◌≡◌, false};
+ghost use Rattle.std.specs.Prelude.{◌≡◌, ◌<◌, ◌+◌, ◌^◌, ◌++◌, ℕ, List, length, false};
 ghost use Rattle.plain_tree.specs.declared.answer.Reply.{Reply};
 ghost use Rattle.plain_tree.specs.declared.call.Call.{Call};
 ghost use Rattle.inode_machine.specs.Parts.{P};
 ghost use Rattle.whole_calls.specs.declared.asks.Turn.TheVariants as turns;
-ghost use Rattle.whole_calls.specs.Asks.{at_in, bool_in, checked_in, claimed_in, claimed_of, count_in, doubled_in, entered_in, entered_of, face_in_stat, joined_in, joined_of, loan_in, loan_of, locked_in, locked_of, number_in, shut_in, sight_in, sight_of, start_in, stepped, turned, with_face, wrote_in, wrote_of};
+ghost use Rattle.whole_calls.specs.Asks.{at_in, bool_in, checked_in, claimed_in, claimed_of, count_in, doubled_in, entered_in, entered_of, face_in_stat, joined_in, joined_of, loan_in, loan_of, locked_in, locked_of, number_in, op_in, shut_in, sight_in, sight_of, start_in, stepped, turned, with_face, wrote_in, wrote_of, IsNamed, IsNamedInTwo, OnlySeeks};
 
 use crate::elements::Element;
 use plain_tree::{Answer, Cause};
@@ -72,6 +72,23 @@ pub enum Ask {
     Join,
     Leave,
     Say,
+}
+
+impl Ask {
+    /// The same where so many bytes stand before the path in which a name is sought.
+    pub(crate) fn shifted(self, by: usize) -> Ask
+        ensures op { (front path : List ℕ) → length front ≡ by → length front + length path < 2 ^ 64 → OnlySeeks self → IsNamed path self
+            → op_in (front ++ path) result ≡ op_in path self }
+        ensures named { (front path : List ℕ) → length front ≡ by → length front + length path < 2 ^ 64 → OnlySeeks self → IsNamed path self
+            → IsNamedInTwo front path result }
+    {
+        match self {
+            Ask::Take(number, Query::Name(element)) => {
+                Ask::Take(number, Query::Name(element.shifted(by)))
+            }
+            _ => self,
+        }
+    }
 }
 
 /// The type of an inode; a device with its major.

@@ -1,8 +1,8 @@
 //! The elements of a path, which stay where they are in it.
-ghost use Rattle.std.specs.Prelude.{◌≡◌, ◌≢◌, ◌+◌, ◌<◌, ◌≤◌, ℕ, [], ◌∷◌, length, take, drop, slice_index, All, IfSome, MatchOption};
+ghost use Rattle.std.specs.Prelude.{◌≡◌, ◌≢◌, ◌+◌, ◌<◌, ◌≤◌, ◌^◌, ℕ, [], ◌∷◌, length, take, drop, slice_index, All, IfSome, MatchOption};
 ghost use Rattle.plain_tree.specs.Code.{with_element};
 ghost use Rattle.plain_tree.specs.Tree.{elements, is_absolute};
-ghost use Rattle.whole_calls.specs.Elements.{name_in, IsElement};
+ghost use Rattle.whole_calls.specs.Elements.{name_in, shifted, IsElement};
 
 const NAME_LEN: usize = 14;
 
@@ -14,6 +14,19 @@ pub struct Element {
     pub start: usize,
     pub end: usize,
     pub rest: usize,
+}
+
+impl Element {
+    /// The same element where so many bytes stand before its path.
+    pub(crate) fn shifted(self, by: usize) -> Element
+        ensures { by + self.start < 2 ^ 64 → by + self.end < 2 ^ 64 → by + self.rest < 2 ^ 64 → result ≡ shifted by self }
+    {
+        Element {
+            start: by.saturating_add(self.start),
+            end: by.saturating_add(self.end),
+            rest: by.saturating_add(self.rest),
+        }
+    }
 }
 
 /// Whether a path starts at the root.

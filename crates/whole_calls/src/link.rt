@@ -1,12 +1,12 @@
 //! link: the count goes up first, and down again where the name can't be entered.
-ghost use Rattle.std.specs.Prelude.{◌≡◌, ◌≢◌, ◌≤◌, ◌+◌, ℕ, All, [], List, Option, Some, length, if◌then◌else◌, false};
+ghost use Rattle.std.specs.Prelude.{◌≡◌, ◌≢◌, ◌≤◌, ◌+◌, ◌++◌, ℕ, All, [], List, Option, Some, length, false};
 ghost use Rattle.plain_tree.specs.Tree.{elements};
 ghost use Rattle.plain_tree.specs.declared.call.Call.TheVariants as calls;
 ghost use Rattle.plain_tree.specs.declared.step.Action.TheVariants as steps;
-ghost use Rattle.whole_calls.specs.Asks.{asks, entered_of, face_of, hears, mark_at, marked_as, op_in, reply_to, sight_of, stepped, turned, IsNamed};
+ghost use Rattle.whole_calls.specs.Asks.{asks, entered_of, face_of, hears, mark_at, marked_as, op_in, reply_to, sight_of, stepped, turned, IsNamedInTwo};
 ghost use Rattle.whole_calls.specs.Elements.{name_in, IsElement};
 ghost use Rattle.inode_machine.specs.Inodes.{face_or};
-ghost use Rattle.whole_calls.specs.Links.{link_action, link_of, link_text, new_after, old_after, link_stage, LinkFits, LinkFitsOn, Fresh, Past, took};
+ghost use Rattle.whole_calls.specs.Links.{link_action, link_of, new_after, old_after, link_stage, LinkFits, LinkFitsOn, Fresh, Past, took};
 ghost use Rattle.inode_machine.specs.Naming.{bump_refused, link_at, link_found, link_program, lower, named_on};
 ghost use Rattle.inode_machine.specs.Parts.{give_up, tail};
 ghost use Rattle.whole_calls.specs.Walks.{StandsAt, most_walked, walked_to};
@@ -149,19 +149,11 @@ impl Link {
         Link::Join
     }
 
-    /// Its names stand in the new path.
-    pub fn is_new(&self) -> bool
-        ensures { (old new : List ℕ) → link_text old new self.now ≡ (if result then new else old) }
-    {
-        match self {
-            Link::Join | Link::WalksOld(_) => false,
-            _ => true,
-        }
-    }
-
+    /// The next operation. The new path stands behind the old one.
     pub fn ask(&self, old: &[u8], new: &[u8]) -> Ask
-        ensures asks { (list : List ℕ) → asks (link_of old.now new.now list self.now) ≡ Some (op_in (link_text old.now new.now self.now) result) }
-        ensures named { (list : List ℕ) → LinkFits old.now new.now list (link_stage self.now) → IsNamed (link_text old.now new.now self.now) result }
+        ensures asks { (list : List ℕ) → LinkFits old.now new.now list (link_stage self.now)
+            → asks (link_of old.now new.now list self.now) ≡ Some (op_in (old.now ++ new.now) result) }
+        ensures named { (list : List ℕ) → LinkFits old.now new.now list (link_stage self.now) → IsNamedInTwo old.now new.now result }
     {
         match self {
             Link::Join => Ask::Join,
@@ -169,9 +161,13 @@ impl Link {
             Link::Take(number) => Ask::Take(*number, Query::Nothing),
             Link::Raise(number, face) => Ask::Store(*number, u32::from(face.count) + 1),
             Link::Give(number) => Ask::Give(*number),
-            Link::WalksNew(walk, _) => walk.ask(new),
-            Link::Look(directory, element, _) => Ask::Take(*directory, Query::Name(*element)),
-            Link::Enter(directory, element, number) => { Ask::Enter(*directory, *element, *number) }
+            Link::WalksNew(walk, _) => walk.ask(new).shifted(old.len()),
+            Link::Look(directory, element, _) => {
+                Ask::Take(*directory, Query::Name(element.shifted(old.len())))
+            }
+            Link::Enter(directory, element, number) => {
+                Ask::Enter(*directory, element.shifted(old.len()), *number)
+            }
             Link::GiveNamed(dropping, _) => dropping.ask(),
             Link::GiveFailed(dropping, _, _) => dropping.ask(),
             Link::TakeRaised(number, _) => Ask::Take(*number, Query::Nothing),

@@ -2,7 +2,7 @@
 ghost use Rattle.std.specs.Prelude.{◌≡◌, ◌≢◌, ◌≤◌, ◌+◌, ℕ, All, List, Option, Some, drop, length};
 ghost use Rattle.plain_tree.specs.Tree.{elements};
 ghost use Rattle.plain_tree.specs.declared.step.Action.{Action};
-ghost use Rattle.whole_calls.specs.Asks.{asks, hears, mark_at, marked_as, op_in, sight_of, reply_to, face_of, IsNamed};
+ghost use Rattle.whole_calls.specs.Asks.{asks, hears, mark_at, marked_as, op_in, sight_of, reply_to, face_of, IsNamed, OnlySeeks};
 ghost use Rattle.whole_calls.specs.Walks.{After, Stands, StandsAt, elements_from, most_left, most_walked, onward, walk_of, walked_to, most_next, next_of, next_stands, stop_of};
 ghost use Rattle.inode_machine.specs.Inodes.{is_directory_face, is_live_face, face_or};
 ghost use Rattle.plain_tree.specs.declared.call.Call.{Call};
@@ -124,6 +124,7 @@ impl Walk {
     pub fn ask(&self, path: &[u8]) -> Ask
         ensures asks { (s : Action) (after : After) (goal : Goal) (list : List ℕ) → asks (walk_of s path.now after goal list self.now) ≡ Some (op_in path.now result) }
         ensures named { Stands path.now self.now → IsNamed path.now result }
+        ensures seeks { OnlySeeks result }
     {
         match self {
             Walk::Start => Ask::UpStart(is_absolute(path)),

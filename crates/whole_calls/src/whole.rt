@@ -3,7 +3,7 @@ ghost use Rattle.std.specs.Prelude.{◌≡◌, ◌≤◌, ℕ, [], List, Option,
 ghost use Rattle.plain_tree.specs.declared.call.Call.{Call};
 ghost use Rattle.whole_calls.specs.Asks.{asks, hears, mark_at, marked_as, op_in, reply_to};
 ghost use Rattle.inode_machine.specs.Programs.{program};
-ghost use Rattle.whole_calls.specs.Wholes.{HasRoomFor, IsCall, WholeAsks, WholeFits, action_in, call_in, text_in, went_to, whole_of};
+ghost use Rattle.whole_calls.specs.Wholes.{HasRoomFor, IsCall, WholeAsks, WholeFits, action_in, call_in, first_in, second_in, text_in, went_to, whole_of};
 
 use crate::asks::{Ask, Heard, Mark};
 use crate::chdir::Chdir;
@@ -94,7 +94,7 @@ impl Whole {
     /// The next operation. Its names stand in the call's path, its pieces in its bytes.
     #[inline(always)]
     pub fn ask(&self) -> Ask
-        ensures asks { (list : List ℕ) → asks (whole_of list self.now) ≡ Some (op_in (text_in self.now) result) }
+        ensures asks { (list : List ℕ) → WholeFits list self.now → asks (whole_of list self.now) ≡ Some (op_in (text_in self.now) result) }
         ensures named { (list : List ℕ) → WholeFits list self.now → WholeAsks self.now result }
     {
         match self {
@@ -162,25 +162,30 @@ impl Whole {
         }
     }
 
-    /// The path in which its names stand, or its bytes.
+    /// The path in which its names stand, of two the first; or its bytes.
     #[inline(always)]
     pub fn text(&self) -> &[u8]
-        ensures { result.now ≡ text_in self.now }
+        ensures { result.now ≡ first_in self.now }
     {
         match self {
             Whole::Open { path, .. } => path.as_slice(),
             Whole::Read { buf, .. } => buf.as_slice(),
             Whole::Write { bytes, .. } => bytes.as_slice(),
-            Whole::Link { old, new, at } => {
-                if at.is_new() {
-                    new.as_slice()
-                } else {
-                    old.as_slice()
-                }
-            }
+            Whole::Link { old, .. } => old.as_slice(),
             Whole::Unlink { path, .. } => path.as_slice(),
             Whole::Mkdir { path, .. } => path.as_slice(),
             Whole::Chdir { path, .. } => path.as_slice(),
+            _ => &[],
+        }
+    }
+
+    /// The second path, which stands behind the first.
+    #[inline(always)]
+    pub fn second(&self) -> &[u8]
+        ensures { result.now ≡ second_in self.now }
+    {
+        match self {
+            Whole::Link { new, .. } => new.as_slice(),
             _ => &[],
         }
     }

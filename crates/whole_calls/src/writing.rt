@@ -3,9 +3,9 @@ ghost use Rattle.std.specs.Prelude.{◌≡◌, ◌≢◌, ◌+◌, ◌<◌, ◌^
 ghost use Rattle.plain_tree.specs.Calls.{piece_count};
 ghost use Rattle.plain_tree.specs.declared.call.Call.TheVariants as calls;
 ghost use Rattle.plain_tree.specs.declared.step.Action.TheVariants as steps;
-ghost use Rattle.whole_calls.specs.Asks.{asks, checked_in, hears, joined_of, mark_at, marked_as, op_in, reply_to, stepped, turned, wrote_of, IsNamed};
+ghost use Rattle.whole_calls.specs.Asks.{asks, checked_in, hears, joined_of, mark_at, marked_as, op_in, reply_to, stepped, turned, wrote_of};
 ghost use Rattle.inode_machine.specs.Descriptors.{checked_reply, joined_on, write_from, write_program, wrote_on};
-ghost use Rattle.whole_calls.specs.Writes.{IsPieceOf, WriteFits, WriteFitsOn, more_after, write_of};
+ghost use Rattle.whole_calls.specs.Writes.{IsPieceOf, WriteAsks, WriteFits, WriteFitsOn, more_after, write_of};
 
 use crate::asks::{Ask, Heard, Joined, Mark, Turn, Wrote};
 use plain_tree::{Answer, Full};
@@ -108,7 +108,7 @@ impl Write {
 
     pub fn ask(&self, fd: u32, bytes: &[u8]) -> Ask
         ensures asks { asks (write_of fd bytes.now self.now) ≡ Some (op_in bytes.now result) }
-        ensures named { WriteFits bytes.now self.now → IsNamed bytes.now result }
+        ensures named { WriteFits bytes.now self.now → WriteAsks bytes.now result }
     {
         match self {
             Write::Check => Ask::CheckFile(fd),

@@ -1,7 +1,7 @@
 use Rattle.std.proofs.Common.{ℕ, List, sym, subst}
-use Rattle.whole_calls.specs.Asks.{IsNamed}
+use Rattle.whole_calls.specs.Asks.{IsNamed, IsNamedInTwo}
 use Rattle.whole_calls.specs.Calls.{Fits, chdir_stage, unlink_stage}
-use Rattle.whole_calls.specs.Links.{LinkFits, link_stage, link_text}
+use Rattle.whole_calls.specs.Links.{LinkFits, link_stage}
 use Rattle.whole_calls.specs.Makes.{mkdir_stage}
 use Rattle.whole_calls.specs.Opens.{open_stage}
 use Rattle.whole_calls.specs.Reads.{ReadAsks}
@@ -20,12 +20,13 @@ returns-in-Read-clause-named c list =
 pub returns-in-Link-clause-named : goal.returns-in-Link-clause-named
 returns-in-Link-clause-named c list =
     let at = c.in-Link.at in
+    let a = c.ask-in-Link.result in
     let old = c.as_slice-in-Link.ensures in
     let new = c.as_slice-in-Link-2.ensures in
     let read = c.as_slice-in-Link.result.now in
     rw c.in-Link.is (λ fits.
-    subst (λ (path : List ℕ). IsNamed (link_text path c.in-Link.new at) c.ask-in-Link.result) old
-    (subst (λ (path : List ℕ). IsNamed (link_text read path at) c.ask-in-Link.result) new
+    subst (λ (path : List ℕ). IsNamedInTwo path c.in-Link.new a) old
+    (subst (λ (path : List ℕ). IsNamedInTwo read path a) new
     (c.ask-in-Link.ensures.named list
     (subst (λ (path : List ℕ). LinkFits read path list (link_stage at)) (sym new)
     (subst (λ (path : List ℕ). LinkFits path c.in-Link.new list (link_stage at)) (sym old) fits.2)))))

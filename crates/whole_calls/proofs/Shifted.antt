@@ -1,0 +1,80 @@
+-- Two paths, one behind the other, as one text.
+use Rattle.std.proofs.Common.{◌≡◌, ℕ, ◌+◌, ◌-◌, ◌≤◌, List, ◌++◌, length, take, drop, refl, sym, subst, ap, ◌∙◌, inl, inr, arith, length-append, length-drop}
+use Rattle.std.proofs.lemmas.List.{append-nil, drop-append-le, take-append-le}
+use Rattle.std.proofs.Math.Seq.{drop-append-add}
+use Rattle.plain_tree.specs.Tree.{Name}
+use Rattle.inode_machine.specs.Inodes.{AtName}
+use Rattle.inode_machine.specs.World.Op.{Take}
+use Rattle.whole_calls.specs.Asks.{op_in, IsNamed, IsNamedInTwo, OnlySeeks}
+use Rattle.whole_calls.specs.Elements.{name_in, shifted, IsElement, IsInOne}
+use Rattle.whole_calls.specs.Names.{IsName}
+use Rattle.whole_calls.specs.Wholes.{first_in, second_in, text_in}
+use Rattle.whole_calls.specs.declared.asks.Ask.{Ask}
+use Rattle.whole_calls.specs.declared.asks.Ask.TheVariants as ask
+use Rattle.whole_calls.specs.declared.asks.Query.TheVariants as query
+use Rattle.whole_calls.specs.declared.elements.Element.{Element}
+use Rattle.whole_calls.specs.declared.whole.Whole.{Whole}
+use Rattle.whole_calls.specs.declared.whole.Whole.TheVariants as whole
+
+module _ (front path : List ℕ) (e : Element) where
+  -- an element of the first
+  pub name_front : e.start ≤ e.end → e.end ≤ length front → name_in (front ++ path) e ≡ name_in front e
+  name_front ordered within =
+      ap (take (e.end - e.start)) (drop-append-le e.start front path (omega arith))
+      ∙ take-append-le (e.end - e.start) (drop e.start front) path (omega (arith, length-drop e.start front))
+
+  pub element_front : IsElement front e → IsElement (front ++ path) e
+  element_front is = record {
+    ordered = is.ordered;
+    within = omega (arith, is.within, length-append front path);
+    rest = omega (arith, is.rest, length-append front path);
+    name = subst IsName (sym (name_front is.ordered is.within)) is.name;
+  }
+
+  -- one of the second
+  pub name_shifted : name_in (front ++ path) (shifted (length front) e) ≡ name_in path e
+  name_shifted =
+      let many : length front + e.end - (length front + e.start) ≡ e.end - e.start = omega arith in
+      ap (λ (n : ℕ). take n (drop (length front + e.start) (front ++ path))) many ∙ ap (take (e.end - e.start)) (drop-append-add front path e.start)
+
+  pub element_shifted : IsElement path e → IsElement (front ++ path) (shifted (length front) e)
+  element_shifted is = record {
+    ordered = omega (arith, is.ordered);
+    within = omega (arith, is.within, length-append front path);
+    rest = omega (arith, is.rest, length-append front path);
+    name = subst IsName (sym name_shifted) is.name;
+  }
+
+  pub shifted_in_one : IsInOne front (shifted (length front) e)
+  shifted_in_one = inr (omega arith)
+
+-- ---- what is asked in the first
+
+module _ (front path : List ℕ) where
+  pub op_front : (a : Ask) → OnlySeeks a → IsNamed front a → op_in (front ++ path) a ≡ op_in front a
+  op_front (ask.Take n (query.Name e)) seeks named = ap (λ (name : Name). Take n (AtName name)) (name_front front path e named.ordered named.within)
+  op_front (ask.Enter d e n) seeks named = absurd seeks
+  op_front (ask.Clear d e) seeks named = absurd seeks
+  op_front (ask.WriteFile fd n offset i) seeks named = absurd named
+  op_front a seeks named = refl
+
+  pub named_front : (a : Ask) → IsNamed front a → IsNamedInTwo front path a
+  named_front (ask.Take n query.Nothing) named = (tt, tt)
+  named_front (ask.Take n (query.Name e)) named = (element_front front path e named, inl named.within)
+  named_front (ask.Take n query.Entries) named = (tt, tt)
+  named_front (ask.Enter d e n) named = (element_front front path e named, inl named.within)
+  named_front (ask.ReadFile fd n offset count) named = absurd named
+  named_front (ask.WriteFile fd n offset i) named = absurd named
+  named_front a named = (tt, tt)
+
+-- ---- a call's text
+
+pub in_two : (w : Whole) → first_in w ++ second_in w ≡ text_in w
+in_two (whole.Link old new c) = refl
+in_two (whole.Open path flags c) = append-nil path
+in_two (whole.Read fd buf c) = append-nil buf.items
+in_two (whole.Write fd bytes c) = append-nil bytes
+in_two (whole.Unlink path c) = append-nil path
+in_two (whole.Mkdir path c) = append-nil path
+in_two (whole.Chdir path c) = append-nil path
+in_two w = refl
