@@ -1,5 +1,6 @@
 -- What an operation on whole inodes is below, where it is one operation.
-use Rattle.std.proofs.Common.{◌≡◌, ◌≢◌, ℕ, zero, suc, List, Bool, true, false, Option, Some, None, refl, sym, ap, ◌∙◌, subst, inl, inr}
+use Rattle.std.proofs.Common.{◌≡◌, ◌≢◌, ℕ, zero, suc, List, [], ◌++◌, Bool, true, false, Option, Some, None, refl, sym, ap, ◌∙◌, subst, inl, inr}
+use Rattle.std.proofs.lemmas.List.{append-nil}
 use Rattle.std.specs.Prelude.{if◌then◌else◌, is_some, IsSome}
 use Rattle.std.specs.Option.{MatchOption, option_map_or, unwrap_or}
 use Rattle.plain_tree.specs.Tree.{put}
@@ -185,9 +186,9 @@ short_begins path m (ask.WriteFile fd n offset i) h has store empty enter clear 
 short_begins path m a h has store empty enter clear fill free claim opened locked told taken reads writes = has
 
 -- none of these has a name to seek
-pub told_for : (path : List ℕ) (o : Option OneStep) → PartTold path (one_or_leave o)
-told_for path None = tt
-told_for path (Some s) = tt
+pub told_for : (path second : List ℕ) (o : Option OneStep) → PartTold path second (one_or_leave o)
+told_for path second None = tt
+told_for path second (Some s) = tt
 
 -- ---- it is ready
 
@@ -234,3 +235,9 @@ is_ready above.Join h has = has
 is_ready above.Leave h has = has
 is_ready above.Say h has = tt
 is_ready op h has = absurd has
+
+-- ---- its text
+
+-- no second one stands behind it
+pub alone : (path second : List ℕ) → second ≡ [] → path ≡ path ++ second
+alone path second none = sym (append-nil path) ∙ ap (λ (second : List ℕ). path ++ second) (sym none)

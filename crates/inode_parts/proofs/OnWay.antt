@@ -1,5 +1,5 @@
 -- How a call that runs below goes on from one operation to the next.
-use Rattle.std.proofs.Common.{◌≡◌, ℕ, List, [], Option, Some, refl, sym, ap, ◌∙◌, subst, arith}
+use Rattle.std.proofs.Common.{◌≡◌, ℕ, List, [], ◌++◌, Option, Some, refl, sym, ap, ◌∙◌, subst, arith}
 use Rattle.plain_tree.specs.declared.answer.Reply.{Reply}
 use Rattle.plain_tree.specs.declared.call.Call.{Call}
 use Rattle.atomic_programs.specs.Prog.{Ret, Do}
@@ -7,8 +7,9 @@ use Rattle.hand_controls.specs.Calling.{IsEmpty}
 use Rattle.inode_machine.specs.Parts as programs
 use Rattle.inode_machine.specs.Programs.{program}
 use Rattle.inode_machine.specs.World as above
-use Rattle.whole_calls.specs.Asks.{answer_to, asks, hears, op_in, IsNamed}
-use Rattle.whole_calls.specs.Wholes.{WholeAsks, WholeFits, call_in, text_in, whole_of}
+use Rattle.whole_calls.specs.Asks.{answer_to, asks, hears, op_in, IsNamed, IsNamedInTwo}
+use Rattle.whole_calls.proofs.Shifted.{in_two, named_front}
+use Rattle.whole_calls.specs.Wholes.{WholeAsks, WholeFits, call_in, first_in, second_in, text_in, whole_of}
 use Rattle.whole_calls.specs.declared.asks.Ask.{Ask}
 use Rattle.whole_calls.specs.declared.asks.Ask.TheVariants as ask
 use Rattle.whole_calls.specs.declared.asks.Heard.{Heard}
@@ -17,56 +18,75 @@ use Rattle.whole_calls.specs.declared.reading.Read.TheVariants as reading
 use Rattle.whole_calls.specs.declared.whole.Whole.{Whole}
 use Rattle.whole_calls.specs.declared.whole.Whole.TheVariants as whole
 use Rattle.inode_parts.specs.Expecting.{BeginsWith}
-use Rattle.inode_parts.specs.Calls.{FillsOrStays, HasOnePath, IsOnWay, RunsByParts, path_of}
+use Rattle.inode_parts.specs.Calls.{FillsOrStays, IsOnWay, RunsByParts, path_of}
 use Rattle.inode_parts.specs.Enters.{AskStands}
 use Rattle.inode_parts.specs.Holding.{Having, Leaves, Runs}
-use Rattle.inode_parts.specs.InodeParts.{AskTold}
+use Rattle.inode_parts.specs.InodeParts.{AskTold, PartTold}
 use Rattle.inode_parts.specs.UnderWay.{UnderWay}
 use Rattle.inode_parts.specs.declared.part.InodePart.{InodePart}
 use Rattle.inode_parts.proofs.Texts.{heard_runs}
 
 -- ---- the path in which its names stand
 
-pub text_is : (w : Whole) → HasOnePath (call_in w) → text_in w ≡ path_of (call_in w)
-text_is (whole.Open path flags c) one = refl
-text_is (whole.Read fd buf c) one = refl
-text_is (whole.Write fd bytes c) one = refl
-text_is (whole.Link old new c) one = absurd one
-text_is (whole.Unlink path c) one = refl
-text_is (whole.Mkdir path c) one = refl
-text_is (whole.Chdir path c) one = refl
-text_is (whole.Dup fd c) one = refl
-text_is (whole.Fstat fd c) one = refl
-text_is (whole.Close fd c) one = refl
-text_is (whole.Inherit child c) one = refl
+text_is : (w : Whole) → text_in w ≡ path_of (call_in w)
+text_is (whole.Open path flags c) = refl
+text_is (whole.Read fd buf c) = refl
+text_is (whole.Write fd bytes c) = refl
+text_is (whole.Link old new c) = refl
+text_is (whole.Unlink path c) = refl
+text_is (whole.Mkdir path c) = refl
+text_is (whole.Chdir path c) = refl
+text_is (whole.Dup fd c) = refl
+text_is (whole.Fstat fd c) = refl
+text_is (whole.Close fd c) = refl
+text_is (whole.Inherit child c) = refl
 
 -- it stays
-pub text_stays : (w v : Whole) → HasOnePath (call_in w) → call_in v ≡ call_in w → text_in v ≡ text_in w
-text_stays w v one e = text_is v (subst HasOnePath (sym e) one) ∙ ap path_of e ∙ sym (text_is w one)
+pub text_stays : (w v : Whole) → call_in v ≡ call_in w → text_in v ≡ text_in w
+text_stays w v e = text_is v ∙ ap path_of e ∙ sym (text_is w)
+
+-- as it was read, in two
+pub read_text : (w : Whole) (path second : List ℕ) → path ≡ first_in w → second ≡ second_in w → path ++ second ≡ text_in w
+read_text w path second first behind = ap (λ (path : List ℕ). path ++ second) first ∙ ap (λ (second : List ℕ). first_in w ++ second) behind ∙ in_two w
 
 -- names that it asks about
-pub told_in : (path : List ℕ) (a : Ask) → IsNamed path a → AskTold path a
-told_in path (ask.Take n query.Nothing) named = tt
-told_in path (ask.Take n (query.Name e)) named = named
-told_in path (ask.Take n query.Entries) named = tt
-told_in path a named = tt
+told_in : (path second : List ℕ) (a : Ask) → IsNamedInTwo path second a → AskTold path second a
+told_in path second (ask.Take n query.Nothing) named = tt
+told_in path second (ask.Take n (query.Name e)) named = named
+told_in path second (ask.Take n query.Entries) named = tt
+told_in path second a named = tt
 
-pub stands_in : (path : List ℕ) (a : Ask) → IsNamed path a → AskStands path a
-stands_in path (ask.Enter d e n) named = (named.ordered, named.within)
-stands_in path (ask.ReadFile fd n offset count) named = absurd named
-stands_in path (ask.WriteFile fd n offset i) named = named
-stands_in path a named = tt
+stands_in : (path second : List ℕ) (a : Ask) → IsNamedInTwo path second a → AskStands path second a
+stands_in path second (ask.Enter d e n) named = named
+stands_in path second (ask.ReadFile fd n offset count) named = absurd named.0
+stands_in path second (ask.WriteFile fd n offset i) named = absurd named.0
+stands_in path second a named = tt
+
+-- in one path
+told_alone : (path : List ℕ) (a : Ask) → IsNamed path a → AskTold path [] a
+told_alone path a named = told_in path [] a (named_front path [] a named)
+
+stands_alone : (path : List ℕ) (a : Ask) → IsNamed path a → AskStands path [] a
+stands_alone path a named = stands_in path [] a (named_front path [] a named)
 
 -- a read asks for as much as there is room for
-told_of : (w : Whole) (a : Ask) → WholeAsks w a → AskTold (text_in w) a
+told_of : (w : Whole) (a : Ask) → WholeAsks w a → AskTold (first_in w) (second_in w) a
+told_of (whole.Link old new c) a named = told_in old new a named
 told_of (whole.Read fd buf (reading.Part n offset)) (ask.ReadFile f i at count) named = tt
-told_of (whole.Read fd buf (reading.Part n offset)) a named = told_in buf.items a named
-told_of w a named = told_in (text_in w) a named
+told_of (whole.Read fd buf (reading.Part n offset)) a named = told_alone buf.items a named
+told_of (whole.Write fd bytes c) (ask.WriteFile f n offset i) named = tt
+told_of (whole.Write fd bytes c) a named = told_alone bytes a named
+told_of w a named = told_alone (text_in w) a named
 
-stands_of : (ns : List ℕ) (w : Whole) (a : Ask) → WholeFits ns w → WholeAsks w a → AskStands (text_in w) a
-stands_of ns (whole.Read fd buf (reading.Part n offset)) (ask.ReadFile f i at count) fits named = let short = fits.0 in (omega (arith, named), omega (arith, named, short))
-stands_of ns (whole.Read fd buf (reading.Part n offset)) a fits named = stands_in buf.items a named
-stands_of ns w a fits named = stands_in (text_in w) a named
+stands_of : (ns : List ℕ) (w : Whole) (a : Ask) → WholeFits ns w → WholeAsks w a → AskStands (first_in w) (second_in w) a
+stands_of ns (whole.Link old new c) a fits named = stands_in old new a named
+stands_of ns (whole.Read fd buf (reading.Part n offset)) (ask.ReadFile f i at count) fits named =
+    let short = fits.0 in
+    (omega (arith, named), omega (arith, named, short), refl)
+stands_of ns (whole.Read fd buf (reading.Part n offset)) a fits named = stands_alone buf.items a named
+stands_of ns (whole.Write fd bytes c) (ask.WriteFile f n offset i) fits named = (named, refl)
+stands_of ns (whole.Write fd bytes c) a fits named = stands_alone bytes a named
+stands_of ns w a fits named = stands_alone (text_in w) a named
 
 -- ---- an operation that may start
 
@@ -98,28 +118,41 @@ module _ (path : List ℕ) (s : Having) where
 -- ---- a call
 
 -- it begins with an empty hand
-pub first_runs : (call : Call) (w : Whole) (s : Having) → HasOnePath call → call_in w ≡ call → whole_of [] w ≡ program call → RunsByParts (path_of call) call → IsEmpty s.hand
+pub first_runs : (call : Call) (w : Whole) (s : Having) → call_in w ≡ call → whole_of [] w ≡ program call → RunsByParts (path_of call) call → IsEmpty s.hand
     → Runs (text_in w) (BeginsWith (text_in w)) (whole_of [] w) s
-first_runs call w s one same is runs empty =
-    let text = text_is w (subst HasOnePath (sym same) one) ∙ ap path_of same in
+first_runs call w s same is runs empty =
+    let text = text_is w ∙ ap path_of same in
     subst (λ (path : List ℕ). Runs path (BeginsWith path) (whole_of [] w) s) (sym text)
     (subst (λ (p : programs.P Reply). Runs (path_of call) (BeginsWith (path_of call)) p s) (sym is) (runs s empty))
 
--- its next operation, by the text as it was read
-module _ (w : Whole) (ns : List ℕ) (s : Having) (a : Ask) (text : List ℕ) (read : text ≡ text_in w) (named : WholeAsks w a) (asked : asks (whole_of ns w) ≡ Some (op_in (text_in w) a)) (runs : Runs (text_in w) (BeginsWith (text_in w)) (whole_of ns w) s) where
+-- its next operation, by the text as it was read in two
+module _ (w : Whole) (ns : List ℕ) (s : Having) (a : Ask) (path second : List ℕ) (first : path ≡ first_in w) (behind : second ≡ second_in w) (named : WholeAsks w a) (asked : asks (whole_of ns w) ≡ Some (op_in (text_in w) a)) (runs : Runs (text_in w) (BeginsWith (text_in w)) (whole_of ns w) s) where
   starts : BeginsWith (text_in w) (op_in (text_in w) a) s
   starts = runs_first (text_in w) s (whole_of ns w) (op_in (text_in w) a) asked runs
 
-  pub begins_now : BeginsWith text (op_in text a) s
+  text : List ℕ
+  text = path ++ second
+
+  read : text ≡ text_in w
+  unfolding text
+  read = read_text w path second first behind
+
+  pub begins_now : BeginsWith (path ++ second) (op_in (path ++ second) a) s
+  unfolding text
   begins_now = subst (λ (t : List ℕ). BeginsWith t (op_in t a) s) (sym read) starts
 
-  pub stands_now : WholeFits ns w → AskStands text a
-  stands_now fits = subst (λ (t : List ℕ). AskStands t a) (sym read) (stands_of ns w a fits named)
+  pub stands_now : WholeFits ns w → AskStands path second a
+  stands_now fits =
+      subst (λ (path : List ℕ). AskStands path second a) (sym first)
+      (subst (λ (second : List ℕ). AskStands (first_in w) second a) (sym behind) (stands_of ns w a fits named))
 
-  pub told_now : AskTold text a
-  told_now = subst (λ (t : List ℕ). AskTold t a) (sym read) (told_of w a named)
+  pub told_now : AskTold path second a
+  told_now =
+      subst (λ (path : List ℕ). AskTold path second a) (sym first)
+      (subst (λ (second : List ℕ). AskTold (first_in w) second a) (sym behind) (told_of w a named))
 
-  pub way_now : (q : InodePart) (t : Having) → UnderWay text (op_in text a) s q t → IsOnWay (text_in w) (whole_of ns w) q t
+  pub way_now : (q : InodePart) (t : Having) → UnderWay (path ++ second) (op_in (path ++ second) a) s q t → IsOnWay (text_in w) (whole_of ns w) q t
+  unfolding text
   way_now q t under = record {
     op = op_in (text_in w) a;
     start = s;
@@ -128,15 +161,20 @@ module _ (w : Whole) (ns : List ℕ) (s : Having) (a : Ask) (text : List ℕ) (r
     under = subst (λ (path : List ℕ). UnderWay path (op_in path a) s q t) read under;
   }
 
+-- its part is told of the text that was read
+pub part_told : (w : Whole) (q : InodePart) (path second : List ℕ) → path ≡ first_in w → second ≡ second_in w → PartTold path second q → PartTold (first_in w) (second_in w) q
+part_told w q path second first behind told =
+    subst (λ (second : List ℕ). PartTold (first_in w) second q) behind (subst (λ (path : List ℕ). PartTold path second q) first told)
+
 -- how it goes on from what its operation left, which may have come into its text
 module _ (w u v : Whole) (ns ms : List ℕ) (q : InodePart) (s t : Having) (x : Heard) (filled : FillsOrStays w u) (way : IsOnWay (text_in w) (whole_of ns w) q s)
     (leaves : (op : above.Op) (start : Having) → UnderWay (text_in w) op start q s → Leaves (text_in w) op (answer_to [] op x) start t) where
   heard_on : Runs (text_in u) (BeginsWith (text_in u)) (hears (text_in u) (whole_of ns u) x) t
   heard_on = heard_runs ns w u x t filled (runs_on (text_in w) way.start (whole_of ns w) way.op x (text_in u) t way.asked way.runs (leaves way.op way.start way.under))
 
-  pub next_runs : HasOnePath (call_in u) → call_in v ≡ call_in u → hears (text_in u) (whole_of ns u) x ≡ whole_of ms v → Runs (text_in v) (BeginsWith (text_in v)) (whole_of ms v) t
-  next_runs one same e =
-      subst (λ (path : List ℕ). Runs path (BeginsWith path) (whole_of ms v) t) (sym (text_stays u v one same))
+  pub next_runs : call_in v ≡ call_in u → hears (text_in u) (whole_of ns u) x ≡ whole_of ms v → Runs (text_in v) (BeginsWith (text_in v)) (whole_of ms v) t
+  next_runs same e =
+      subst (λ (path : List ℕ). Runs path (BeginsWith path) (whole_of ms v) t) (sym (text_stays u v same))
       (subst (λ (p : programs.P Reply). Runs (text_in u) (BeginsWith (text_in u)) p t) e heard_on)
 
   pub next_ends : (r : Reply) → hears (text_in u) (whole_of ns u) x ≡ Ret r → IsEmpty t.hand

@@ -15,14 +15,14 @@ use Rattle.inode_machine.specs.World.{LocksIt}
 use Rattle.inodes_on_blocks.specs.Lowering.{Carry}
 use Rattle.whole_calls.specs.Asks.{asks, hears, op_in}
 use Rattle.whole_calls.specs.Reads.{read_of}
-use Rattle.whole_calls.specs.Wholes.{HasRoomFor, WholeAsks, WholeFits, call_in, text_in, whole_of}
+use Rattle.whole_calls.specs.Wholes.{HasRoomFor, WholeAsks, WholeFits, text_in, whole_of}
 use Rattle.whole_calls.specs.declared.asks.Ask.{Ask}
 use Rattle.whole_calls.specs.declared.asks.Ask.TheVariants as ask
 use Rattle.whole_calls.specs.declared.asks.Heard.{Heard}
 use Rattle.whole_calls.specs.declared.reading.Read.TheVariants as reading
 use Rattle.whole_calls.specs.declared.whole.Whole.{Whole}
 use Rattle.whole_calls.specs.declared.whole.Whole.TheVariants as whole
-use Rattle.inode_parts.specs.Calls.{whole_with, with_text, FillsOrStays, HasOnePath, IsFilled, IsOnWay, IsReading}
+use Rattle.inode_parts.specs.Calls.{whole_with, with_text, FillsOrStays, IsFilled, IsOnWay, IsReading}
 use Rattle.inode_parts.specs.Expecting.{BeginsWith}
 use Rattle.inode_parts.specs.FileReads.{FillsFrom}
 use Rattle.inode_parts.specs.Holding.{Having, Runs}
@@ -65,6 +65,7 @@ fills_now ns w a q asked fills is = absurd is
 
 reads_alone : (w : Whole) (fd n offset count : ℕ) → WholeAsks w (ask.ReadFile fd n offset count) → IsReading w
 reads_alone (whole.Read fd buf (reading.Part n offset)) f i at count named = tt
+reads_alone (whole.Link old new c) f i at count named = absurd named.0
 reads_alone w f i at count named = absurd named
 
 asked_reads : (path : List ℕ) (w : Whole) (a : Ask) (s t : Having) (q : InodePart) → WholeAsks w a → UnderWay path (op_in path a) s q t → ReadsInto q → IsReading w
@@ -95,10 +96,6 @@ filled_with ns w v filled = absurd filled
 pub filled_fits : (ns : List ℕ) (w v : Whole) → IsFilled w v → WholeFits ns w → WholeFits ns v
 filled_fits ns (whole.Read fd buf (reading.Part n offset)) (whole.Read gd new (reading.Part k at)) filled fits = (subst (λ (k : ℕ). k < 2 ^ 31) (sym filled.3) fits.0, tt)
 filled_fits ns w v filled fits = absurd filled
-
-pub filled_one : (w v : Whole) → IsFilled w v → HasOnePath (call_in v)
-filled_one (whole.Read fd buf (reading.Part n offset)) (whole.Read gd new (reading.Part k at)) filled = tt
-filled_one w v filled = absurd filled
 
 pub filled_reads : (w v : Whole) → IsFilled w v → IsReading v
 filled_reads (whole.Read fd buf (reading.Part n offset)) (whole.Read gd new (reading.Part k at)) filled = tt
@@ -153,10 +150,6 @@ module _ (ns : List ℕ) (w u : Whole) where
   pub fits_with : FillsOrStays w u → WholeFits ns w → WholeFits ns u
   fits_with (inl e) fits = subst (λ (w : Whole). WholeFits ns w) (sym e) fits
   fits_with (inr filled) fits = filled_fits ns w u filled fits
-
-  pub one_with : FillsOrStays w u → HasOnePath (call_in w) → HasOnePath (call_in u)
-  one_with (inl e) one = subst (λ (w : Whole). HasOnePath (call_in w)) (sym e) one
-  one_with (inr filled) one = filled_one w u filled
 
   pub reads_with : FillsOrStays w u → IsReading w → IsReading u
   reads_with (inl e) is = subst IsReading (sym e) is

@@ -1,5 +1,5 @@
 -- Calls over whole inodes, run below.
-use Rattle.std.specs.Prelude.{◌≡◌, ◌⊎◌, ℕ, List, [], length, Some}
+use Rattle.std.specs.Prelude.{◌≡◌, ◌⊎◌, ℕ, List, [], ◌++◌, length, Some}
 use Rattle.plain_tree.specs.declared.answer.Reply.{Reply}
 use Rattle.plain_tree.specs.declared.call.Call.{Call}
 use Rattle.plain_tree.specs.declared.call.Call.TheVariants as calls
@@ -14,7 +14,7 @@ use Rattle.inode_machine.specs.Programs.{program}
 use Rattle.inode_machine.specs.World as above
 use Rattle.whole_calls.specs.Asks.{asks}
 use Rattle.whole_calls.specs.Reads.{read_of}
-use Rattle.whole_calls.specs.Wholes.{WholeFits, call_in, text_in, whole_of}
+use Rattle.whole_calls.specs.Wholes.{WholeFits, first_in, second_in, text_in, whole_of}
 use Rattle.whole_calls.specs.declared.reading.Read.TheVariants as reading
 use Rattle.whole_calls.specs.declared.whole.Whole.{Whole}
 use Rattle.whole_calls.specs.declared.whole.Whole.TheVariants as whole
@@ -30,12 +30,12 @@ use Rattle.inode_parts.specs.declared.part.InodePart.{InodePart}
 
 -- ---- which calls run so
 
--- the path in which the names of a call stand, or its bytes
+-- the path in which the names of a call stand, of two the second behind the first; or its bytes
 abbrev pub path_of : Call → List ℕ
 path_of (calls.Open path flags) = path
 path_of (calls.Read fd buf) = buf
 path_of (calls.Write fd bytes) = bytes
-path_of (calls.Link old new) = old
+path_of (calls.Link old new) = old ++ new
 path_of (calls.Unlink path) = path
 path_of (calls.Mkdir path) = path
 path_of (calls.Chdir path) = path
@@ -43,11 +43,6 @@ path_of (calls.Dup fd) = []
 path_of (calls.Fstat fd) = []
 path_of (calls.Close fd) = []
 path_of (calls.Inherit child) = []
-
--- it has no second path
-abbrev pub HasOnePath : Call → Type 0
-HasOnePath (calls.Link old new) = ⊥
-HasOnePath call = Unit {0}
 
 -- with nothing in hand a call runs to its end by such parts
 abbrev pub RunsByParts : List ℕ → Call → Type 0
@@ -94,9 +89,8 @@ pub record IsOnWay (path : List ℕ) (p : programs.P Reply) (q : InodePart) (now
 
 pub record LoweredReady (l : Lowered) (h : Hand) : Type 0 where
   pub sized : IsSized l.sizes
-  pub one : HasOnePath (call_in l.call)
   pub fits : WholeFits l.list l.call
   pub ready : PartReady l.part h
-  pub told : PartTold (text_in l.call) l.part
+  pub told : PartTold (first_in l.call) (second_in l.call) l.part
   pub reads : ReadsInto l.part → IsReading l.call
   pub way : IsOnWay (text_in l.call) (whole_of l.list l.call) l.part (having h l.notes)

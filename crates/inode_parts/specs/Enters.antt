@@ -1,5 +1,5 @@
 -- A name entered, as a part.
-use Rattle.std.specs.Prelude.{◌*◌, ◌^◌, ◌<◌, ◌≤◌, ℕ, List, length}
+use Rattle.std.specs.Prelude.{◌≡◌, ◌*◌, ◌^◌, ◌<◌, ◌≤◌, ℕ, List, [], length}
 use Rattle.plain_tree.specs.Widths.{piece_len}
 use Rattle.fs_layout.specs.Name.{IsName}
 use Rattle.fs_layout.specs.Widths.{bits_per_block}
@@ -21,6 +21,7 @@ use Rattle.whole_calls.specs.declared.asks.Heard.TheVariants as heard
 use Rattle.inode_parts.specs.Carries.{handed}
 use Rattle.inode_parts.specs.Changes.{changed, IsAmid, MayChange}
 use Rattle.inode_parts.specs.Parts.{Part}
+use Rattle.inode_parts.specs.Texts.{StandsIn}
 use Rattle.inode_parts.specs.declared.note.Notes.{Notes}
 use Rattle.inode_parts.specs.declared.enter_part.EnterPart.{EnterPart}
 
@@ -50,9 +51,10 @@ EnterAmid n start p now = IsAmid n start p.seat now
 abbrev pub EnterBegins : Super → ℕ → List ℕ → Hand → Type 0
 EnterBegins sizes n name h = MayChange sizes n h × (sizes.size ≤ bits_per_block) × IsName name
 
--- a name that is asked for stands in the call's path, there is room for what is read, and a piece begins within its bytes
-abbrev pub AskStands : List ℕ → Ask → Type 0
-AskStands path (ask.Enter d e n) = (e.start ≤ e.end) × (e.end ≤ length path)
-AskStands path (ask.ReadFile fd n offset count) = (count ≤ length path) × (count < 2 ^ 32)
-AskStands path (ask.WriteFile fd n offset i) = piece_len * i ≤ length path
-AskStands path a = Unit {0}
+-- a name that is asked for stands in one of the call's paths, there is room for what is read, and a piece begins within its bytes,
+-- behind which no second text stands
+abbrev pub AskStands : List ℕ → List ℕ → Ask → Type 0
+AskStands path second (ask.Enter d e n) = StandsIn path second e
+AskStands path second (ask.ReadFile fd n offset count) = (count ≤ length path) × (count < 2 ^ 32) × (second ≡ [])
+AskStands path second (ask.WriteFile fd n offset i) = (piece_len * i ≤ length path) × (second ≡ [])
+AskStands path second a = Unit {0}

@@ -1,5 +1,5 @@
 -- Operations on whole inodes, each as a part over blocks.
-use Rattle.std.specs.Prelude.{ℕ, List, Option, Some, None}
+use Rattle.std.specs.Prelude.{◌≡◌, ℕ, List, [], Option, Some, None}
 use Rattle.atomic_programs.specs.Prog.{Ret, bind}
 use Rattle.hands.specs.declared.hand.Hand.{Hand}
 use Rattle.hands.specs.declared.op.Op.{Op}
@@ -93,16 +93,16 @@ PartReady (part.Relock p) h = RelockReady p h
 PartReady (part.ReadFile p) h = ReadFileReady p h
 PartReady (part.WriteFile p) h = WriteFileReady p h
 
--- the names that it seeks stand in the call's path, and its bytes, or the room for them
-abbrev pub PartTold : List ℕ → InodePart → Type 0
-PartTold path (part.Take p) = TakeTold path p
-PartTold path (part.ReadFile p) = ReadFileTold path p
-PartTold path (part.WriteFile p) = WriteFileTold path p
-PartTold path p = Unit {0}
+-- the names that it seeks stand in the call's paths; its bytes, or the room for them, with no second text behind
+abbrev pub PartTold : List ℕ → List ℕ → InodePart → Type 0
+PartTold path second (part.Take p) = TakeTold path second p
+PartTold path second (part.ReadFile p) = ReadFileTold path p × (second ≡ [])
+PartTold path second (part.WriteFile p) = WriteFileTold path p × (second ≡ [])
+PartTold path second p = Unit {0}
 
-abbrev pub AskTold : List ℕ → Ask → Type 0
-AskTold path (ask.Take n q) = IsTold path q
-AskTold path a = Unit {0}
+abbrev pub AskTold : List ℕ → List ℕ → Ask → Type 0
+AskTold path second (ask.Take n q) = IsTold path second q
+AskTold path second a = Unit {0}
 
 -- that of an operation which is one below, or leaves a transaction
 abbrev pub one_or_leave : Option OneStep → InodePart

@@ -5,6 +5,7 @@ pub mod OneSteps
 pub mod Changes
 pub mod Stores
 pub mod Empties
+pub mod Texts
 pub mod Enters
 pub mod Clears
 pub mod Fills

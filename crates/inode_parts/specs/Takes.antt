@@ -21,7 +21,7 @@ use Rattle.inode_machine.specs.Inodes as whole
 use Rattle.inodes_on_blocks.specs.Lowering.{Carry}
 use Rattle.inodes_on_blocks.specs.Reading.{number_found}
 use Rattle.whole_calls.specs.Asks.{query_in, sight_in}
-use Rattle.whole_calls.specs.Elements.{name_in, IsElement}
+use Rattle.whole_calls.specs.Elements.{name_in}
 use Rattle.whole_calls.specs.declared.asks.Heard.{Heard}
 use Rattle.whole_calls.specs.declared.asks.Heard.TheVariants as heard
 use Rattle.whole_calls.specs.declared.asks.Query.{Query}
@@ -34,6 +34,7 @@ use Rattle.inode_parts.specs.Holding.{IsCounted, Learns}
 use Rattle.inode_parts.specs.OneSteps.{HasReference, IsAlone, other, seat_of_reference}
 use Rattle.inode_parts.specs.Parts.{Part}
 use Rattle.inode_parts.specs.Sides.{beside_in}
+use Rattle.inode_parts.specs.Texts.{StandsIn}
 use Rattle.inode_parts.specs.declared.note.Note.{Note}
 use Rattle.inode_parts.specs.declared.note.Note.TheVariants as note
 use Rattle.inode_parts.specs.declared.note.Notes.{Notes}
@@ -74,20 +75,20 @@ take_asked (take.Locking q r) = lock_asked r
 take_asked (take.Naming k e s) = search_asked s
 take_asked (take.Listing k s) = search_asked s
 
--- a name that is looked for is an element of the path
-abbrev pub IsTold : List ℕ → Query → Type 0
-IsTold path query.Nothing = Unit {0}
-IsTold path (query.Name e) = IsElement path e
-IsTold path query.Entries = Unit {0}
+-- a name that is looked for stands in the path or in the second one
+abbrev pub IsTold : List ℕ → List ℕ → Query → Type 0
+IsTold path second query.Nothing = Unit {0}
+IsTold path second (query.Name e) = StandsIn path second e
+IsTold path second query.Entries = Unit {0}
 
 -- the inode of the reference is locked at this seat alone, and loaded
 abbrev pub IsTaken : Seat → Hand → Type 0
 IsTaken k h = IsLoadedAt k h × (number_in k h ≡ number_at k h) × IsAlone (number_at k h) k h
 
-abbrev pub TakeTold : List ℕ → TakePart → Type 0
-TakeTold path (take.Locking q r) = IsTold path q
-TakeTold path (take.Naming k e s) = IsElement path e
-TakeTold path (take.Listing k s) = Unit {0}
+abbrev pub TakeTold : List ℕ → List ℕ → TakePart → Type 0
+TakeTold path second (take.Locking q r) = IsTold path second q
+TakeTold path second (take.Naming k e s) = StandsIn path second e
+TakeTold path second (take.Listing k s) = Unit {0}
 
 abbrev pub TakeReady : TakePart → Hand → Type 0
 TakeReady (take.Locking q r) h = LockReady r h × IsAlone (number_at (lock_seat r) h) (lock_seat r) h × (h.second ≡ None)

@@ -14,6 +14,7 @@ mod locked_file;
 mod lock_file_part;
 mod lock_open_part;
 mod lowered;
+mod names;
 mod note;
 mod one_step;
 mod opening;

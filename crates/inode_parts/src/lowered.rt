@@ -4,14 +4,14 @@ ghost use Rattle.plain_tree.specs.declared.answer.Reply.{Reply as ReplyState};
 ghost use Rattle.inode_machine.specs.Programs.{program};
 ghost use Rattle.inode_machine.specs.World.{Op as OpAbove};
 ghost use Rattle.whole_calls.specs.Asks.{reply_to};
-ghost use Rattle.whole_calls.specs.Wholes.{call_in, text_in, HasRoomFor, IsCall};
+ghost use Rattle.whole_calls.specs.Wholes.{call_in, first_in, second_in, text_in, HasRoomFor, IsCall};
 ghost use Rattle.inodes_on_blocks.specs.Lowering.{nothing};
 ghost use Rattle.hand_controls.specs.Calling.{IsEmpty};
 ghost use Rattle.hands.specs.Controls.{bare, Goes};
 ghost use Rattle.hands.specs.Ops.{answer_in, IsAfter};
 ghost use Rattle.hands.specs.declared.hand.Hand.{Hand as HandState};
 ghost use Rattle.inode_parts.specs.Parts.{lowered};
-ghost use Rattle.inode_parts.specs.Calls.{lowered_left, lowered_asked, path_of, FillsOrStays, HasOnePath, IsReading, LoweredReady, RunsByParts};
+ghost use Rattle.inode_parts.specs.Calls.{lowered_left, lowered_asked, path_of, FillsOrStays, IsReading, LoweredReady, RunsByParts};
 ghost use Rattle.inode_parts.specs.Holding.{Having};
 ghost use Rattle.inode_parts.specs.InodeParts.{part_left, part_left_after, part_asked, PartReady, PartTold, ReadsInto};
 ghost use Rattle.inode_parts.specs.Leaving.{having, heard_if};
@@ -67,7 +67,6 @@ impl Lowered {
     /// A call begins in this place, on a disk of these sizes, of a hart with nothing in hand.
     pub fn start(&mut self, sizes: &Super, call: Call, hand: &mut Hand)
         requires call { IsCall call }
-        requires path { HasOnePath call }
         requires runs { RunsByParts (path_of call) call }
         requires sizes { IsSized sizes.now }
         requires empty { IsEmpty hand.old }
@@ -80,8 +79,10 @@ impl Lowered {
         self.list.clear();
         self.notes = Notes::new();
         let ask = self.call.ask();
+        let path = self.call.text();
+        let second = self.call.second();
         self.part
-            .begin(ask, sizes, self.call.text(), &self.notes, hand);
+            .begin(ask, sizes, path, second, &self.notes, hand);
     }
 
     /// The reply of the call, once it has ended.
@@ -116,7 +117,7 @@ fn part_next(
     hand: &mut Hand,
     heard: &mut Heard,
 ) -> bool
-    requires told { PartTold (text_in call.old) part.old }
+    requires told { PartTold (first_in call.old) (second_in call.old) part.old }
     requires reads { ReadsInto part.old → IsReading call.old }
     requires came { (before : HandState) × PartReady part.old before × IsAfter (part_asked part.old) before answer.now hand.old }
     ensures goes { (before : HandState) → PartReady part.old before → IsAfter (part_asked part.old) before answer.now hand.old
@@ -126,7 +127,7 @@ fn part_next(
         → PartReady part.old before → IsAfter (part_asked part.old) before answer.now hand.old
         → GoesOrLeaves (text_in call.old) op start (heard_if result heard.new) part.new (having hand.new notes.new) }
     ensures ready { IfNone (heard_if result heard.new) (PartReady part.new hand.new) }
-    ensures told { IfNone (heard_if result heard.new) (PartTold (text_in call.new) part.new) }
+    ensures told { IfNone (heard_if result heard.new) (PartTold (first_in call.new) (second_in call.new) part.new) }
     ensures call { FillsOrStays call.old call.new }
     ensures reads { IfNone (heard_if result heard.new) (ReadsInto part.new → ReadsInto part.old) }
     ensures room { ReadsInto part.old → IfSome (heard_if result heard.new) (λ x. HasRoomFor x call.new) }
@@ -137,7 +138,7 @@ fn part_next(
             Whole::Read { fd: _, buf, at: _ } => read.next(buf.as_mut_slice(), answer, hand, heard),
             _ => unreachable!(),
         }
-        _ => part.next(call.text(), notes, answer, hand, heard),
+        _ => part.next(call.text(), call.second(), notes, answer, hand, heard),
     }
 }
 
@@ -176,7 +177,9 @@ impl Control for Lowered {
             } else {
                 let ask = self.call.ask();
                 let path = self.call.text();
-                self.part.begin(ask, &self.sizes, path, &self.notes, hand);
+                let second = self.call.second();
+                self.part
+                    .begin(ask, &self.sizes, path, second, &self.notes, hand);
                 None
             }
         } else {

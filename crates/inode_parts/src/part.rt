@@ -1,5 +1,5 @@
 //! Operations on whole inodes, each as a part over blocks.
-ghost use Rattle.std.specs.Prelude.{◌≡◌, ℕ, List, Some, None, IfSome, IfNone};
+ghost use Rattle.std.specs.Prelude.{◌≡◌, ◌++◌, ℕ, List, Some, None, IfSome, IfNone};
 ghost use Rattle.atomic_programs.specs.Prog.{Ret, asks};
 ghost use Rattle.hands.specs.Ops.{op_in, answer_in, CanDo, Prepared, IsAfter};
 ghost use Rattle.hands.specs.Controls.{Goes, bare};
@@ -28,6 +28,7 @@ use crate::fill_part::FillPart;
 use crate::free_part::FreePart;
 use crate::lock_file_part::LockFilePart;
 use crate::lock_open_part::LockOpenPart;
+use crate::names::name;
 use crate::note::Notes;
 use crate::one_step::OneStep;
 use crate::places::{reference_seat, refers_at};
@@ -84,20 +85,31 @@ impl InodePart {
         InodePart::One(OneStep::Say)
     }
 
-    /// The part of this ask of a call with this path begins in this place, on a disk with this superblock; what was learned of locked inodes is
-    /// noted. The record of one of them may change in hand.
+    /// The part of this ask of a call with this path, and a second one behind it, begins in this place, on a disk with this superblock;
+    /// what was learned of locked inodes is noted. The record of one of them may change in hand.
     #[tactic(auto, using(crate::proofs::Begins::is_part, crate::proofs::Begins::is_ready))]
-    pub fn begin(&mut self, ask: Ask, sizes: &Super, path: &[u8], notes: &Notes, hand: &mut Hand)
+    pub fn begin(
+        &mut self,
+        ask: Ask,
+        sizes: &Super,
+        path: &[u8],
+        second: &[u8],
+        notes: &Notes,
+        hand: &mut Hand,
+    )
         requires sizes { IsSized sizes.now }
-        requires begins { BeginsWith path.now (above_op path.now ask) (having hand.old notes.now) }
-        requires stands { AskStands path.now ask }
-        requires told { AskTold path.now ask }
-        ensures part { IsPart sizes.now (carry_in path.now notes.now hand.old) (above_op path.now ask) (part_left path.now notes.now self.new hand.new) }
+        requires begins { let text = path.now ++ second.now in BeginsWith text (above_op text ask) (having hand.old notes.now) }
+        requires stands { AskStands path.now second.now ask }
+        requires told { AskTold path.now second.now ask }
+        ensures part { let text = path.now ++ second.now in
+            IsPart sizes.now (carry_in text notes.now hand.old) (above_op text ask) (part_left text notes.now self.new hand.new) }
         ensures ready { PartReady self.new hand.new }
-        ensures told { PartTold path.now self.new }
-        ensures fills { FillsAs ask path.now (part_left path.now notes.now self.new hand.new) }
-        ensures known { Begins (above_op path.now ask) hand.old → (self.new ≡ part_for (above_op path.now ask) hand.old) × (hand.new ≡ hand.old) }
-        ensures under { UnderWay path.now (above_op path.now ask) (having hand.old notes.now) self.new (having hand.new notes.now) }
+        ensures told { PartTold path.now second.now self.new }
+        ensures fills { let text = path.now ++ second.now in FillsAs ask text (part_left text notes.now self.new hand.new) }
+        ensures known { let text = path.now ++ second.now in Begins (above_op text ask) hand.old
+            → (self.new ≡ part_for (above_op text ask) hand.old) × (hand.new ≡ hand.old) }
+        ensures under { let text = path.now ++ second.now in
+            UnderWay text (above_op text ask) (having hand.old notes.now) self.new (having hand.new notes.now) }
         ensures hand { bare hand.new ≡ bare hand.old }
     {
         match ask {
@@ -106,7 +118,7 @@ impl InodePart {
             }
             Ask::Empty(number) => *self = InodePart::Empty(EmptyPart::begin(number, sizes, hand)),
             Ask::Enter(number, element, child) => {
-                let name = &path[element.start..element.end];
+                let name = name(path, second, &element);
                 *self = InodePart::Enter(EnterPart::begin(number, child, name, sizes, hand));
             }
             Ask::Clear(number, _) => {
@@ -134,12 +146,13 @@ impl InodePart {
         }
     }
 
-    /// The next operation in a call with this text. Bytes to be recorded are written in their buffer.
+    /// The next operation in a call with this text, of two the first. Bytes to be recorded are written in their buffer.
     pub fn op(&self, text: &[u8], hand: &mut Hand) -> Op
         requires ready { PartReady self.now hand.old }
-        requires told { PartTold text.now self.now }
+        requires told { (more : List ℕ) × PartTold text.now more self.now }
         ensures op { result ≡ part_asked self.now }
-        ensures asks { (notes : NotesState) → asks (part_left text.now notes self.now hand.old) ≡ Some (op_in hand.new result) }
+        ensures asks { (more : List ℕ) (notes : NotesState) → PartTold text.now more self.now
+            → asks (part_left (text.now ++ more) notes self.now hand.old) ≡ Some (op_in hand.new result) }
         ensures can { CanDo result hand.new }
         ensures prepared { Prepared result hand.old hand.new }
     {
@@ -163,27 +176,31 @@ impl InodePart {
         }
     }
 
-    /// How it goes on in a call with this path, where it reads nothing into that: true where it is over, with what is heard left in `heard`.
-    /// The record of a locked inode may change in hand.
+    /// How it goes on in a call with this path and a second one, where it reads nothing into that: true where it is over, with what is
+    /// heard left in `heard`. The record of a locked inode may change in hand.
     #[tactic(auto, using(crate::proofs::Goings::leave_on))]
     pub fn next(
         &mut self,
         path: &[u8],
+        second: &[u8],
         notes: &mut Notes,
         answer: &Answer,
         hand: &mut Hand,
         heard: &mut Heard,
     ) -> bool
         requires stays { ReadsInto self.old → ⊥ }
-        requires told { PartTold path.now self.old }
+        requires told { PartTold path.now second.now self.old }
         requires came { (before : HandState) × PartReady self.old before × IsAfter (part_asked self.old) before answer.now hand.old }
-        ensures goes { (before : HandState) → PartReady self.old before → IsAfter (part_asked self.old) before answer.now hand.old
-            → Goes (part_left path.now notes.old self.old before) (answer_in (part_asked self.old) answer.now hand.old) (part_left_after path.now notes.new (heard_if result heard.new) self.new hand.new) }
-        ensures under { (op : OpAbove) (start : Having) (before : HandState) → UnderWay path.now op start self.old (having before notes.old)
+        ensures goes { let text = path.now ++ second.now in (before : HandState) → PartReady self.old before
+            → IsAfter (part_asked self.old) before answer.now hand.old
+            → Goes (part_left text notes.old self.old before) (answer_in (part_asked self.old) answer.now hand.old)
+            (part_left_after text notes.new (heard_if result heard.new) self.new hand.new) }
+        ensures under { let text = path.now ++ second.now in (op : OpAbove) (start : Having) (before : HandState)
+            → UnderWay text op start self.old (having before notes.old)
             → PartReady self.old before → IsAfter (part_asked self.old) before answer.now hand.old
-            → GoesOrLeaves path.now op start (heard_if result heard.new) self.new (having hand.new notes.new) }
+            → GoesOrLeaves text op start (heard_if result heard.new) self.new (having hand.new notes.new) }
         ensures ready { IfNone (heard_if result heard.new) (PartReady self.new hand.new) }
-        ensures told { IfNone (heard_if result heard.new) (PartTold path.now self.new) }
+        ensures told { IfNone (heard_if result heard.new) (PartTold path.now second.now self.new) }
         ensures stays { IfNone (heard_if result heard.new) (ReadsInto self.new → ⊥) }
         ensures on { IfNone (heard_if result heard.new) (MayGoOn self.old) }
         ensures same { ChangesNone self.old → hand.new ≡ hand.old }
@@ -211,7 +228,7 @@ impl InodePart {
             InodePart::LockOpen(part) => part.next(notes, answer, hand, heard),
             InodePart::LockFile(part) => part.next(notes, answer, hand, heard),
             InodePart::StatFile(part) => part.next(notes, answer, hand, heard),
-            InodePart::Take(part) => part.next(path, notes, answer, hand, heard),
+            InodePart::Take(part) => part.next(path, second, notes, answer, hand, heard),
             InodePart::Relock(part) => part.next(notes, answer, hand, heard),
             InodePart::ReadFile(_) => unreachable!(),
             InodePart::WriteFile(part) => part.next(path, answer, hand, heard),
@@ -226,7 +243,7 @@ fn take(number: u32, query: Query, sizes: &Super, hand: &Hand) -> InodePart
     ensures part { (path : List ℕ) (notes : NotesState) → BeginsWith path (Take number (query_in path query)) (having hand.now notes)
         → IsPart sizes.now (carry_in path notes hand.now) (Take number (query_in path query)) (part_left path notes result hand.now) }
     ensures ready { PartReady result hand.now }
-    ensures told { (path : List ℕ) → IsTold path query → PartTold path result }
+    ensures told { (path second : List ℕ) → IsTold path second query → PartTold path second result }
     ensures under { (path : List ℕ) (notes : NotesState) → BeginsWith path (Take number (query_in path query)) (having hand.now notes)
         → UnderWay path (Take number (query_in path query)) (having hand.now notes) result (having hand.now notes) }
 {

@@ -1,5 +1,5 @@
 //! An inode locked, and what is looked for found in it.
-ghost use Rattle.std.specs.Prelude.{◌≡◌, ℕ, List, true, not, Some, None, is_some, IfNone};
+ghost use Rattle.std.specs.Prelude.{◌≡◌, ◌++◌, ℕ, List, true, not, Some, None, is_some, IfNone};
 ghost use Rattle.atomic_programs.specs.Prog.{asks};
 ghost use Rattle.hands.specs.Hands.{number_at};
 ghost use Rattle.hands.specs.Ops.{op_in, answer_in, CanDo, Prepared, IsAfter};
@@ -23,9 +23,9 @@ ghost use Rattle.inode_parts.specs.declared.note.Notes.{Notes as NotesState};
 ghost use Rattle.inodes_on_blocks.specs.Reading.{number_found};
 ghost use Rattle.whole_calls.specs.Asks.{query_in, sight_in};
 ghost use Rattle.whole_calls.specs.declared.asks.Heard.TheVariants as heard;
-ghost use Rattle.whole_calls.specs.Elements.{name_in, IsElement};
 
 use crate::faces::face_unless_free;
+use crate::names::name;
 use crate::note::{Note, Notes};
 use crate::places::reference_seat;
 use crate::records::record_at;
@@ -55,7 +55,7 @@ impl TakePart {
         ensures part { (path : List ℕ) (notes : NotesState)
             → IsPart sizes.now (carry_in path notes hand.now) (Take number (query_in path query)) (take_left path notes result hand.now) }
         ensures ready { TakeReady result hand.now }
-        ensures told { (path : List ℕ) → IsTold path query → TakeTold path result }
+        ensures told { (path second : List ℕ) → IsTold path second query → TakeTold path second result }
         ensures amid { (path : List ℕ) → TakeAmid path number (query_in path query) hand.now result hand.now }
     {
         let seat = reference_seat(hand, number);
@@ -78,25 +78,28 @@ impl TakePart {
         }
     }
 
-    /// How it goes on, in a call with this path: true where it is over, with what is heard left in `heard`.
+    /// How it goes on, in a call with this path and a second one: true where it is over, with what is heard left in `heard`.
     pub fn next(
         &mut self,
         path: &[u8],
+        second: &[u8],
         notes: &mut Notes,
         answer: &Answer,
         hand: &mut Hand,
         heard: &mut Heard,
     ) -> bool
-        requires told { TakeTold path.now self.old }
+        requires told { TakeTold path.now second.now self.old }
         requires came { (before : HandState) × TakeReady self.old before × IsAfter (take_asked self.old) before answer.now hand.old }
-        ensures goes { (before : HandState) → TakeReady self.old before → IsAfter (take_asked self.old) before answer.now hand.old
-            → Goes (take_left path.now notes.old self.old before) (answer_in (take_asked self.old) answer.now hand.old)
-            (left_after (take_left path.now notes.new) (handed path.now notes.new) (heard_if result heard.new) self.new hand.new) }
+        ensures goes { let text = path.now ++ second.now in (before : HandState) → TakeReady self.old before
+            → IsAfter (take_asked self.old) before answer.now hand.old
+            → Goes (take_left text notes.old self.old before) (answer_in (take_asked self.old) answer.now hand.old)
+            (left_after (take_left text notes.new) (handed text notes.new) (heard_if result heard.new) self.new hand.new) }
         ensures ready { IfNone (heard_if result heard.new) (TakeReady self.new hand.new) }
-        ensures told { IfNone (heard_if result heard.new) (TakeTold path.now self.new) }
-        ensures leaves { (n : ℕ) (looking : whole.Query) (start before : HandState) → TakeAmid path.now n looking start self.old before
+        ensures told { IfNone (heard_if result heard.new) (TakeTold path.now second.now self.new) }
+        ensures leaves { let text = path.now ++ second.now in (n : ℕ) (looking : whole.Query) (start before : HandState)
+            → TakeAmid text n looking start self.old before
             → TakeReady self.old before → IsAfter (take_asked self.old) before answer.now hand.old
-            → StaysOrLeaves (TakeAmid path.now n looking start self.new) path.now (Take n looking) (heard_if result heard.new)
+            → StaysOrLeaves (TakeAmid text n looking start self.new) text (Take n looking) (heard_if result heard.new)
             (having start notes.old) (having hand.new notes.new) }
         ensures hand { bare hand.new ≡ bare hand.old }
     {
@@ -116,7 +119,7 @@ impl TakePart {
             },
             TakePart::Naming(seat, element, search) => {
                 let inode = record_at(hand, *seat);
-                let sought = Sought::Name(name(path, element));
+                let sought = Sought::Name(name(path, second, element));
                 match search.next(&inode, sought, answer, hand) {
                     None => false,
                     Some(found) => {
@@ -139,14 +142,6 @@ impl TakePart {
     }
 }
 
-// The name of an element.
-fn name<'a>(path: &'a [u8], element: &Element) -> &'a [u8]
-    requires { IsElement path.now element.now }
-    ensures { result.now ≡ name_in path.now element.now }
-{
-    &path[element.start..element.end]
-}
-
 // Looks for this in the inode at a seat, which is locked and loaded.
 fn look(query: Query, seat: Seat, notes: &mut Notes, hand: &Hand) -> Begun<TakePart, Heard>
     requires taken { IsTaken seat hand.now }
@@ -154,7 +149,7 @@ fn look(query: Query, seat: Seat, notes: &mut Notes, hand: &Hand) -> Begun<TakeP
     ensures program { (path : List ℕ) → taken_left path notes.new result hand.now
         ≡ looked path query (beside_in path notes.old seat hand.now) (number_at seat hand.now) (record_in seat hand.now) }
     ensures ready { IfBegun (λ p. TakeReady p hand.now) (λ _. Unit {0}) result }
-    ensures told { (path : List ℕ) → IsTold path query → IfBegun (λ p. TakeTold path p) (λ _. Unit {0}) result }
+    ensures told { (path second : List ℕ) → IsTold path second query → IfBegun (λ p. TakeTold path second p) (λ _. Unit {0}) result }
     ensures looks { IfBegun (λ p. (take_seat p ≡ seat) × (take_query p ≡ query) × (notes.new ≡ notes.old)) (λ _. Unit {0}) result }
     ensures sees { (path : List ℕ)
         → IfBegun (λ _. Unit {0}) (λ heard. Sees path (query_in path query) seat heard notes.old notes.new) result }

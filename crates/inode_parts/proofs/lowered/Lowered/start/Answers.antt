@@ -1,14 +1,14 @@
-use Rattle.std.proofs.Common.{◌≡◌, ℕ, List, [], sym, subst, ap, ◌∙◌}
+use Rattle.std.proofs.Common.{◌≡◌, ℕ, List, [], ◌++◌, sym, subst, ap, ◌∙◌}
 use Rattle.inode_machine.specs.Programs.{program}
 use Rattle.whole_calls.specs.Asks.{asks, op_in}
 use Rattle.whole_calls.specs.Wholes.{WholeFits, text_in, whole_of}
-use Rattle.inode_parts.specs.Calls.{whole_with, with_text, HasOnePath, IsOnWay}
+use Rattle.inode_parts.specs.Calls.{whole_with, with_text, IsOnWay}
 use Rattle.inode_parts.specs.Carries.{carry_in}
-use Rattle.inode_parts.specs.InodeParts.{part_left, FillsAs, PartTold}
+use Rattle.inode_parts.specs.InodeParts.{part_left, FillsAs}
 use Rattle.inode_parts.specs.Leaving.{having}
 use Rattle.inode_parts.specs.Parts.{IsPart}
 use Rattle.inode_parts.proofs.Lowering.{new_is}
-use Rattle.inode_parts.proofs.OnWay.{begins_now, first_runs, stands_now, told_now, way_now}
+use Rattle.inode_parts.proofs.OnWay.{begins_now, first_runs, part_told, read_text, stands_now, told_now, way_now}
 use Rattle.inode_parts.proofs.Texts.{fills_now, on_text, reads_now}
 use Rattle.inode_parts.proofs.lowered.Lowered.start.Goals as goal
 
@@ -16,15 +16,14 @@ pub begin-requires : goal.begin-requires
 begin-requires c =
     let w = c.new.result in
     let s = having c.args.hand.now c.new-self.result in
-    let runs = first_runs c.args.call w s c.requires.path c.new.ensures.call c.new.ensures.program c.requires.runs c.requires.empty in
+    let runs = first_runs c.args.call w s c.new.ensures.call c.new.ensures.program c.requires.runs c.requires.empty in
     let named = c.ask-ask.ensures.named [] c.new.ensures.fits in
-    let asked = c.ask-ask.ensures.asks [] in
-    let read = c.text.ensures in
+    let asked = c.ask-ask.ensures.asks [] c.new.ensures.fits in
     record {
       sizes = c.requires.sizes;
-      begins = begins_now w [] s c.ask-ask.result c.text.result.now read named asked runs;
-      stands = stands_now w [] s c.ask-ask.result c.text.result.now read named asked runs c.new.ensures.fits;
-      told = told_now w [] s c.ask-ask.result c.text.result.now read named asked runs;
+      begins = begins_now w [] s c.ask-ask.result c.text-path.result.now c.second-second.result.now c.text-path.ensures c.second-second.ensures named asked runs;
+      stands = stands_now w [] s c.ask-ask.result c.text-path.result.now c.second-second.result.now c.text-path.ensures c.second-second.ensures named asked runs c.new.ensures.fits;
+      told = told_now w [] s c.ask-ask.result c.text-path.result.now c.second-second.result.now c.text-path.ensures c.second-second.ensures named asked runs;
     }
 
 pub returns-clause-program : goal.returns-clause-program
@@ -37,10 +36,11 @@ returns-clause-program c =
     let q = c.begin.new.self in
     let g = c.begin.new.hand in
     let path = text_in w in
-    let is = subst (λ (t : List ℕ). IsPart sizes (carry_in t m h) (op_in t a) (part_left t m q g)) c.text.ensures c.begin.ensures.part in
-    let fills = subst (λ (t : List ℕ). FillsAs a t (part_left t m q g)) c.text.ensures c.begin.ensures.fills in
-    let same = on_text sizes [] w (part_left path m q g) (fills_now [] w a (part_left path m q g) (c.ask-ask.ensures.asks []) fills) in
-    let whole = new_is sizes path m h (whole_of [] w) (program c.args.call) (op_in path a) (part_left path m q g) c.requires.empty c.new.ensures.program (c.ask-ask.ensures.asks []) is in
+    let read = read_text w c.text-path.result.now c.second-second.result.now c.text-path.ensures c.second-second.ensures in
+    let is = subst (λ (t : List ℕ). IsPart sizes (carry_in t m h) (op_in t a) (part_left t m q g)) read c.begin.ensures.part in
+    let fills = subst (λ (t : List ℕ). FillsAs a t (part_left t m q g)) read c.begin.ensures.fills in
+    let same = on_text sizes [] w (part_left path m q g) (fills_now [] w a (part_left path m q g) (c.ask-ask.ensures.asks [] c.new.ensures.fits) fills) in
+    let whole = new_is sizes path m h (whole_of [] w) (program c.args.call) (op_in path a) (part_left path m q g) c.requires.empty c.new.ensures.program (c.ask-ask.ensures.asks [] c.new.ensures.fits) is in
     ap (λ (ns : List ℕ). with_text sizes (part_left path m q g) (whole_with ns w)) c.clear.ensures ∙ sym same ∙ whole
 
 pub returns-clause-ready : goal.returns-clause-ready
@@ -51,15 +51,14 @@ returns-clause-ready c =
     let a = c.ask-ask.result in
     let q = c.begin.new.self in
     let t = having c.begin.new.hand m in
-    let runs = first_runs c.args.call w s c.requires.path c.new.ensures.call c.new.ensures.program c.requires.runs c.requires.empty in
+    let runs = first_runs c.args.call w s c.new.ensures.call c.new.ensures.program c.requires.runs c.requires.empty in
     let named = c.ask-ask.ensures.named [] c.new.ensures.fits in
-    let way = way_now w [] s a c.text.result.now c.text.ensures named (c.ask-ask.ensures.asks []) runs q t c.begin.ensures.under in
+    let way = way_now w [] s a c.text-path.result.now c.second-second.result.now c.text-path.ensures c.second-second.ensures named (c.ask-ask.ensures.asks [] c.new.ensures.fits) runs q t c.begin.ensures.under in
     record {
       sized = c.requires.sizes;
-      one = subst HasOnePath (sym c.new.ensures.call) c.requires.path;
       fits = subst (λ (ns : List ℕ). WholeFits ns w) (sym c.clear.ensures) c.new.ensures.fits;
       ready = c.begin.ensures.ready;
-      told = subst (λ (t : List ℕ). PartTold t q) c.text.ensures c.begin.ensures.told;
-      reads = reads_now c.text.result.now w a s t q named c.begin.ensures.under;
+      told = part_told w q c.text-path.result.now c.second-second.result.now c.text-path.ensures c.second-second.ensures c.begin.ensures.told;
+      reads = reads_now (c.text-path.result.now ++ c.second-second.result.now) w a s t q named c.begin.ensures.under;
       way = subst (λ (ns : List ℕ). IsOnWay (text_in w) (whole_of ns w) q t) (sym c.clear.ensures) way;
     }

@@ -1,4 +1,4 @@
-use Rattle.std.proofs.Common.{◌≡◌, ℕ, Bool, true, false, List, [], Option, Some, None, refl, sym, ap, subst, ◌∙◌}
+use Rattle.std.proofs.Common.{◌≡◌, ℕ, Bool, true, false, List, [], ◌++◌, Option, Some, None, refl, sym, ap, subst, ◌∙◌}
 use Rattle.std.specs.Prelude.{IfNone, IfSome}
 use Rattle.atomic_programs.specs.Prog.{Ret}
 use Rattle.fs_machine.specs.Machines.{P}
@@ -10,8 +10,8 @@ use Rattle.inode_machine.specs.World as above
 use Rattle.whole_calls.specs.Asks.{answer_to, asks, hears, op_in, reply_to, stepped}
 use Rattle.whole_calls.specs.declared.asks.Heard.{Heard}
 use Rattle.whole_calls.specs.declared.whole.Whole.{Whole}
-use Rattle.whole_calls.specs.Wholes.{call_in, text_in, whole_of, HasRoomFor}
-use Rattle.inode_parts.specs.Calls.{whole_with, with_text, HasOnePath, IsOnWay, IsReading}
+use Rattle.whole_calls.specs.Wholes.{call_in, first_in, second_in, text_in, whole_of, HasRoomFor}
+use Rattle.inode_parts.specs.Calls.{whole_with, with_text, IsOnWay, IsReading}
 use Rattle.inode_parts.specs.Carries.{carry_in, handed}
 use Rattle.inode_parts.specs.FileReads.{FillsFrom}
 use Rattle.inode_parts.specs.Holding.{Having, Leaves}
@@ -20,8 +20,8 @@ use Rattle.inode_parts.specs.Leaving.{having, heard_if}
 use Rattle.inode_parts.specs.Parts.{IsPart}
 use Rattle.inode_parts.specs.UnderWay.{GoesOrLeaves, UnderWay}
 use Rattle.inode_parts.proofs.Lowering.{asks_on, ends_on, goes_within}
-use Rattle.inode_parts.proofs.OnWay.{begins_now, next_ends, next_runs, stands_now, text_stays, told_now, way_now}
-use Rattle.inode_parts.proofs.Texts.{fills_now, fits_with, its_own, on_text, one_with, part_reads, read_before, reads_now, reads_with, room_now, same_with, way_with}
+use Rattle.inode_parts.proofs.OnWay.{begins_now, next_ends, next_runs, part_told, read_text, stands_now, text_stays, told_now, way_now}
+use Rattle.inode_parts.proofs.Texts.{fills_now, fits_with, its_own, on_text, part_reads, read_before, reads_now, reads_with, room_now, same_with, way_with}
 use Rattle.inode_parts.proofs.lowered.LoweredControl.next.Goals as goal
 
 -- ---- its part is not over yet
@@ -58,10 +58,9 @@ returns-else-part_next-clause-ready c =
     let same : IsOnWay (text_in l.call) (whole_of l.list l.call) q t = record { op = way.op; start = way.start; asked = way.asked; runs = way.runs; under = under } in
     record {
       sized = ready.sized;
-      one = one_with l.list l.call u filled ready.one;
       fits = fits_with l.list l.call u filled ready.fits;
       ready = subst (λ (o : Option Heard). IfNone o (PartReady q did.new.hand)) none did.ensures.ready;
-      told = subst (λ (o : Option Heard). IfNone o (PartTold (text_in u) q)) none did.ensures.told;
+      told = subst (λ (o : Option Heard). IfNone o (PartTold (first_in u) (second_in u) q)) none did.ensures.told;
       reads = λ is. reads_with l.list l.call u filled (ready.reads (subst (λ (o : Option Heard). IfNone o (ReadsInto q → ReadsInto l.part)) none did.ensures.reads is));
       way = way_with l.list l.call u q t filled same;
     }
@@ -94,16 +93,15 @@ begin-requires-clause-begins c =
     let ms = c.next.new.list in
     let some = ap (λ (b : Bool). heard_if b x) c.if-part_next.true in
     let leaves : (op : above.Op) (start : Having) → UnderWay (text_in l.call) op start l.part (having came.0 l.notes) → Leaves (text_in l.call) op (answer_to [] op x) start s = λ op start under. subst (λ (o : Option Heard). GoesOrLeaves (text_in l.call) op start o did.new.part s) some (did.ensures.under op start came.0 under ready.ready came.2) in
-    let one = one_with l.list l.call u did.ensures.call ready.one in
     let on : hears (text_in u) (whole_of l.list u) x ≡ whole_of ms v = (c.next.ensures.goes ∙ ap (λ (ended : Bool). stepped (whole_of ms v) (call_in v) c.next.new.says ended) c.if-next.false) in
-    let runs = next_runs l.call u v l.list ms l.part (having came.0 l.notes) s x did.ensures.call ready.way leaves one c.next.ensures.call on in
+    let runs = next_runs l.call u v l.list ms l.part (having came.0 l.notes) s x did.ensures.call ready.way leaves c.next.ensures.call on in
     let a = c.ask-ask.result in
     let fits = c.next.ensures.fits c.if-next.false in
     let named = c.ask-ask.ensures.named ms fits in
-    let asked = c.ask-ask.ensures.asks ms in
-    let text = c.text-path.result.now in
-    let read = c.text-path.ensures in
-    begins_now v ms s a text read named asked runs
+    let asked = c.ask-ask.ensures.asks ms fits in
+    let path = c.text-path in
+    let second = c.second-second in
+    begins_now v ms s a path.result.now second.result.now path.ensures second.ensures named asked runs
 
 pub begin-requires-clause-stands : goal.begin-requires-clause-stands
 begin-requires-clause-stands c =
@@ -118,16 +116,15 @@ begin-requires-clause-stands c =
     let ms = c.next.new.list in
     let some = ap (λ (b : Bool). heard_if b x) c.if-part_next.true in
     let leaves : (op : above.Op) (start : Having) → UnderWay (text_in l.call) op start l.part (having came.0 l.notes) → Leaves (text_in l.call) op (answer_to [] op x) start s = λ op start under. subst (λ (o : Option Heard). GoesOrLeaves (text_in l.call) op start o did.new.part s) some (did.ensures.under op start came.0 under ready.ready came.2) in
-    let one = one_with l.list l.call u did.ensures.call ready.one in
     let on : hears (text_in u) (whole_of l.list u) x ≡ whole_of ms v = (c.next.ensures.goes ∙ ap (λ (ended : Bool). stepped (whole_of ms v) (call_in v) c.next.new.says ended) c.if-next.false) in
-    let runs = next_runs l.call u v l.list ms l.part (having came.0 l.notes) s x did.ensures.call ready.way leaves one c.next.ensures.call on in
+    let runs = next_runs l.call u v l.list ms l.part (having came.0 l.notes) s x did.ensures.call ready.way leaves c.next.ensures.call on in
     let a = c.ask-ask.result in
     let fits = c.next.ensures.fits c.if-next.false in
     let named = c.ask-ask.ensures.named ms fits in
-    let asked = c.ask-ask.ensures.asks ms in
-    let text = c.text-path.result.now in
-    let read = c.text-path.ensures in
-    stands_now v ms s a text read named asked runs fits
+    let asked = c.ask-ask.ensures.asks ms fits in
+    let path = c.text-path in
+    let second = c.second-second in
+    stands_now v ms s a path.result.now second.result.now path.ensures second.ensures named asked runs fits
 
 pub begin-requires-clause-told : goal.begin-requires-clause-told
 begin-requires-clause-told c =
@@ -142,16 +139,15 @@ begin-requires-clause-told c =
     let ms = c.next.new.list in
     let some = ap (λ (b : Bool). heard_if b x) c.if-part_next.true in
     let leaves : (op : above.Op) (start : Having) → UnderWay (text_in l.call) op start l.part (having came.0 l.notes) → Leaves (text_in l.call) op (answer_to [] op x) start s = λ op start under. subst (λ (o : Option Heard). GoesOrLeaves (text_in l.call) op start o did.new.part s) some (did.ensures.under op start came.0 under ready.ready came.2) in
-    let one = one_with l.list l.call u did.ensures.call ready.one in
     let on : hears (text_in u) (whole_of l.list u) x ≡ whole_of ms v = (c.next.ensures.goes ∙ ap (λ (ended : Bool). stepped (whole_of ms v) (call_in v) c.next.new.says ended) c.if-next.false) in
-    let runs = next_runs l.call u v l.list ms l.part (having came.0 l.notes) s x did.ensures.call ready.way leaves one c.next.ensures.call on in
+    let runs = next_runs l.call u v l.list ms l.part (having came.0 l.notes) s x did.ensures.call ready.way leaves c.next.ensures.call on in
     let a = c.ask-ask.result in
     let fits = c.next.ensures.fits c.if-next.false in
     let named = c.ask-ask.ensures.named ms fits in
-    let asked = c.ask-ask.ensures.asks ms in
-    let text = c.text-path.result.now in
-    let read = c.text-path.ensures in
-    told_now v ms s a text read named asked runs
+    let asked = c.ask-ask.ensures.asks ms fits in
+    let path = c.text-path in
+    let second = c.second-second in
+    told_now v ms s a path.result.now second.result.now path.ensures second.ensures named asked runs
 
 pub returns-else-next-clause-goes : goal.returns-else-next-clause-goes
 returns-else-next-clause-goes c before ready after =
@@ -173,10 +169,12 @@ returns-else-next-clause-goes c before ready after =
     let a = c.ask-ask.result in
     let q = c.begin.new.self in
     let g = c.begin.new.hand in
-    let stays = text_stays u v (one_with l.list l.call u filled ready.one) c.next.ensures.call in
-    let is = subst (λ (t : List ℕ). IsPart l.sizes (carry_in t m h) (op_in t a) (part_left t m q g)) (c.text-path.ensures ∙ stays) c.begin.ensures.part in
-    let fills = subst (λ (t : List ℕ). FillsAs a t (part_left t m q g)) c.text-path.ensures c.begin.ensures.fills in
-    let asked = c.ask-ask.ensures.asks ms in
+    let stays = text_stays u v c.next.ensures.call in
+    let read = read_text v c.text-path.result.now c.second-second.result.now c.text-path.ensures c.second-second.ensures in
+    let fits = c.next.ensures.fits c.if-next.false in
+    let is = subst (λ (t : List ℕ). IsPart l.sizes (carry_in t m h) (op_in t a) (part_left t m q g)) (read ∙ stays) c.begin.ensures.part in
+    let fills = subst (λ (t : List ℕ). FillsAs a t (part_left t m q g)) read c.begin.ensures.fills in
+    let asked = c.ask-ask.ensures.asks ms fits in
     let same = on_text l.sizes ms v (part_left path m q g) (λ reads. subst (λ (t : List ℕ). FillsFrom (text_in v) (part_left t m q g)) stays (fills_now ms v a (part_left (text_in v) m q g) asked fills reads)) in
     subst (λ (t : List ℕ). Goes (with_text l.sizes left (whole_with l.list l.call)) answer (with_text l.sizes (part_left t m q g) (whole_with ms v))) (sym stays)
     (asks_on l.sizes path m h left (whole_with l.list l.call) x answer went (whole_of ms v) (op_in path a) (part_left path m q g) (whole_with ms v) (own ∙ on) (subst (λ (t : List ℕ). asks (whole_of ms v) ≡ Some (op_in t a)) stays asked) is same)
@@ -194,25 +192,23 @@ returns-else-next-clause-ready c =
     let ms = c.next.new.list in
     let some = ap (λ (b : Bool). heard_if b x) c.if-part_next.true in
     let leaves : (op : above.Op) (start : Having) → UnderWay (text_in l.call) op start l.part (having came.0 l.notes) → Leaves (text_in l.call) op (answer_to [] op x) start s = λ op start under. subst (λ (o : Option Heard). GoesOrLeaves (text_in l.call) op start o did.new.part s) some (did.ensures.under op start came.0 under ready.ready came.2) in
-    let one = one_with l.list l.call u did.ensures.call ready.one in
     let on : hears (text_in u) (whole_of l.list u) x ≡ whole_of ms v = (c.next.ensures.goes ∙ ap (λ (ended : Bool). stepped (whole_of ms v) (call_in v) c.next.new.says ended) c.if-next.false) in
-    let runs = next_runs l.call u v l.list ms l.part (having came.0 l.notes) s x did.ensures.call ready.way leaves one c.next.ensures.call on in
+    let runs = next_runs l.call u v l.list ms l.part (having came.0 l.notes) s x did.ensures.call ready.way leaves c.next.ensures.call on in
     let a = c.ask-ask.result in
     let fits = c.next.ensures.fits c.if-next.false in
     let named = c.ask-ask.ensures.named ms fits in
-    let asked = c.ask-ask.ensures.asks ms in
-    let text = c.text-path.result.now in
-    let read = c.text-path.ensures in
+    let asked = c.ask-ask.ensures.asks ms fits in
+    let path = c.text-path in
+    let second = c.second-second in
     let q = c.begin.new.self in
     let t = having c.begin.new.hand did.new.notes in
     record {
       sized = ready.sized;
-      one = subst HasOnePath (sym c.next.ensures.call) one;
       fits = fits;
       ready = c.begin.ensures.ready;
-      told = subst (λ (t : List ℕ). PartTold t q) read c.begin.ensures.told;
-      reads = reads_now text v a s t q named c.begin.ensures.under;
-      way = way_now v ms s a text read named asked runs q t c.begin.ensures.under;
+      told = part_told v q path.result.now second.result.now path.ensures second.ensures c.begin.ensures.told;
+      reads = reads_now (path.result.now ++ second.result.now) v a s t q named c.begin.ensures.under;
+      way = way_now v ms s a path.result.now second.result.now path.ensures second.ensures named asked runs q t c.begin.ensures.under;
     }
 
 pub returns-then-next-clause-goes : goal.returns-then-next-clause-goes
@@ -248,6 +244,5 @@ returns-then-next-clause-ends c =
     let ms = c.next.new.list in
     let some = ap (λ (b : Bool). heard_if b x) c.if-part_next.true in
     let leaves : (op : above.Op) (start : Having) → UnderWay (text_in l.call) op start l.part (having came.0 l.notes) → Leaves (text_in l.call) op (answer_to [] op x) start s = λ op start under. subst (λ (o : Option Heard). GoesOrLeaves (text_in l.call) op start o did.new.part s) some (did.ensures.under op start came.0 under ready.ready came.2) in
-    let one = one_with l.list l.call u did.ensures.call ready.one in
     next_ends l.call u v l.list ms l.part (having came.0 l.notes) s x did.ensures.call ready.way leaves (reply_to (call_in v) c.next.new.says)
     (c.next.ensures.goes ∙ ap (λ (ended : Bool). stepped (whole_of ms v) (call_in v) c.next.new.says ended) c.if-next.true)

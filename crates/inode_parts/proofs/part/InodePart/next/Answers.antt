@@ -1,4 +1,4 @@
-use Rattle.std.proofs.Common.{subst}
+use Rattle.std.proofs.Common.{◌++◌, ℕ, List, subst}
 use Rattle.hands.specs.Controls.{Goes}
 use Rattle.hands.specs.Ops.{answer_in}
 use Rattle.inode_parts.specs.FileLocks.{lock_file_left, lock_file_asked}
@@ -7,13 +7,17 @@ use Rattle.inode_parts.specs.FileWrites.{write_file_left, write_file_asked}
 use Rattle.inode_parts.specs.Leaving.{heard_if}
 use Rattle.inode_parts.specs.Parts.{Part}
 use Rattle.inode_parts.proofs.Lefts.{lock_file_after, stat_after, write_after}
+use Rattle.inode_parts.specs.InodeParts.{part_left_after, PartTold}
+use Rattle.inode_parts.specs.declared.part.InodePart.{InodePart}
+use Rattle.inode_parts.specs.declared.part.InodePart.TheVariants as part
+use Rattle.inode_parts.proofs.Begins.{alone}
 use Rattle.inode_parts.proofs.StepLeaves.{step_leaves}
 use Rattle.inode_parts.proofs.UnderWay.{claims, clears, empties, enters, fills, frees, leave_leaves, leave_stays, lock_files, lock_opens, relocks, stats, stores, takes, writes}
 use Rattle.inode_parts.proofs.part.InodePart.next.Goals as goal
 
 pub returns-in-LockFile-clause-goes : goal.returns-in-LockFile-clause-goes
 returns-in-LockFile-clause-goes c before =
-    let path = c.args.path.now in
+    let path = c.args.path.now ++ c.args.second.now in
     let p = c.in-LockFile.part in
     let did = c.next-in-LockFile in
     rw c.in-LockFile.is (λ ready after.
@@ -24,95 +28,95 @@ pub returns-in-One-clause-under : goal.returns-in-One-clause-under
 returns-in-One-clause-under c op start before =
     let did = c.next in
     rw c.in-One.is (λ under ready after.
-    step_leaves c.args.path.now c.args.notes.now did.new.notes before c.args.hand.now c.args.answer.now did.result op c.in-One.step start under after (did.ensures.goes c.args.path.now before ready after) did.ensures.notes)
+    step_leaves (c.args.path.now ++ c.args.second.now) c.args.notes.now did.new.notes before c.args.hand.now c.args.answer.now did.result op c.in-One.step start under after (did.ensures.goes (c.args.path.now ++ c.args.second.now) before ready after) did.ensures.notes)
 
 pub returns-in-Store-clause-under : goal.returns-in-Store-clause-under
 returns-in-Store-clause-under c op start before =
-    let path = c.args.path.now in
+    let path = c.args.path.now ++ c.args.second.now in
     let did = c.next-in-Store in
     rw c.in-Store.is (λ under ready after.
     stores path start before c.args.hand.now c.args.notes.now did.new.notes (heard_if did.result did.new.heard) c.in-Store.part did.new.self (λ n count amid. did.ensures.leaves path n count start.hand before amid ready after) op under)
 
 pub returns-in-Empty-clause-under : goal.returns-in-Empty-clause-under
 returns-in-Empty-clause-under c op start before =
-    let path = c.args.path.now in
+    let path = c.args.path.now ++ c.args.second.now in
     let did = c.next-in-Empty in
     rw c.in-Empty.is (λ under ready after.
     empties path start before did.new.hand c.args.notes.now did.new.notes (heard_if did.result did.new.heard) c.in-Empty.part did.new.self (λ n amid. did.ensures.leaves path n start.hand before amid ready after) op under)
 
 pub returns-in-Enter-clause-under : goal.returns-in-Enter-clause-under
 returns-in-Enter-clause-under c op start before =
-    let path = c.args.path.now in
+    let path = c.args.path.now ++ c.args.second.now in
     let did = c.next-in-Enter in
     rw c.in-Enter.is (λ under ready after.
     enters path start before did.new.hand c.args.notes.now did.new.notes (heard_if did.result did.new.heard) c.in-Enter.part did.new.self (λ n child e amid. did.ensures.leaves path n child e start.hand before amid ready after) op under)
 
 pub returns-in-Clear-clause-under : goal.returns-in-Clear-clause-under
 returns-in-Clear-clause-under c op start before =
-    let path = c.args.path.now in
+    let path = c.args.path.now ++ c.args.second.now in
     let did = c.next-in-Clear in
     rw c.in-Clear.is (λ under ready after.
     clears path start before did.new.hand c.args.notes.now did.new.notes (heard_if did.result did.new.heard) c.in-Clear.part did.new.self (λ n e amid. did.ensures.leaves path n e start.hand before amid ready after) op under)
 
 pub returns-in-Fill-clause-under : goal.returns-in-Fill-clause-under
 returns-in-Fill-clause-under c op start before =
-    let path = c.args.path.now in
+    let path = c.args.path.now ++ c.args.second.now in
     let did = c.next-in-Fill in
     rw c.in-Fill.is (λ under ready after.
     fills path start before did.new.hand c.args.notes.now did.new.notes (heard_if did.result did.new.heard) c.in-Fill.part did.new.self (λ n d amid. did.ensures.leaves path n d start.hand before amid ready after) op under)
 
 pub returns-in-Free-clause-under : goal.returns-in-Free-clause-under
 returns-in-Free-clause-under c op start before =
-    let path = c.args.path.now in
+    let path = c.args.path.now ++ c.args.second.now in
     let did = c.next-in-Free in
     rw c.in-Free.is (λ under ready after.
     frees path start before did.new.hand c.args.notes.now did.new.notes (heard_if did.result did.new.heard) c.in-Free.part did.new.self (λ n amid. did.ensures.leaves path n start.hand before amid ready after) op under)
 
 pub returns-in-Claim-clause-under : goal.returns-in-Claim-clause-under
 returns-in-Claim-clause-under c op start before =
-    let path = c.args.path.now in
+    let path = c.args.path.now ++ c.args.second.now in
     let did = c.next-in-Claim in
     rw c.in-Claim.is (λ under ready after.
     claims path start before did.new.hand c.args.notes.now c.args.notes.now (heard_if did.result did.new.heard) c.in-Claim.part did.new.self (λ sort amid. did.ensures.leaves path sort start.hand before amid ready after) op under)
 
 pub returns-in-LockOpen-clause-under : goal.returns-in-LockOpen-clause-under
 returns-in-LockOpen-clause-under c op start before =
-    let path = c.args.path.now in
+    let path = c.args.path.now ++ c.args.second.now in
     let did = c.next-in-LockOpen in
     rw c.in-LockOpen.is (λ under ready after.
     lock_opens path start before did.new.hand c.args.notes.now did.new.notes (heard_if did.result did.new.heard) c.in-LockOpen.part did.new.self (λ fd n amid. did.ensures.leaves path fd n start.hand before amid ready after) op under)
 
 pub returns-in-LockFile-clause-under : goal.returns-in-LockFile-clause-under
 returns-in-LockFile-clause-under c op start before =
-    let path = c.args.path.now in
+    let path = c.args.path.now ++ c.args.second.now in
     let did = c.next-in-LockFile in
     rw c.in-LockFile.is (λ under ready after.
     lock_files path start before did.new.hand c.args.notes.now did.new.notes (heard_if did.result did.new.heard) c.in-LockFile.part did.new.self (λ fd amid. did.ensures.leaves path fd start.hand before amid ready after) op under)
 
 pub returns-in-Take-clause-under : goal.returns-in-Take-clause-under
 returns-in-Take-clause-under c op start before =
-    let path = c.args.path.now in
+    let path = c.args.path.now ++ c.args.second.now in
     let did = c.next-in-Take in
     rw c.in-Take.is (λ under ready after.
     takes path start before did.new.hand c.args.notes.now did.new.notes (heard_if did.result did.new.heard) c.in-Take.part did.new.self (λ n looking amid. did.ensures.leaves n looking start.hand before amid ready after) op under)
 
 pub returns-in-Relock-clause-under : goal.returns-in-Relock-clause-under
 returns-in-Relock-clause-under c op start before =
-    let path = c.args.path.now in
+    let path = c.args.path.now ++ c.args.second.now in
     let did = c.next-in-Relock in
     rw c.in-Relock.is (λ under ready after.
     relocks path start before did.new.hand c.args.notes.now did.new.notes (heard_if did.result did.new.heard) c.in-Relock.part did.new.self (λ n amid. did.ensures.leaves path n start.hand before amid ready after) op under)
 
 pub returns-in-StatFile-clause-under : goal.returns-in-StatFile-clause-under
 returns-in-StatFile-clause-under c op start before =
-    let path = c.args.path.now in
+    let path = c.args.path.now ++ c.args.second.now in
     let did = c.next-in-StatFile in
     rw c.in-StatFile.is (λ under ready after.
     stats path start before did.new.hand c.args.notes.now did.new.notes (heard_if did.result did.new.heard) c.in-StatFile.part did.new.self (λ fd amid. did.ensures.leaves path fd start.hand before amid ready after) op under)
 
 pub returns-in-StatFile-clause-goes : goal.returns-in-StatFile-clause-goes
 returns-in-StatFile-clause-goes c before =
-    let path = c.args.path.now in
+    let path = c.args.path.now ++ c.args.second.now in
     let p = c.in-StatFile.part in
     let did = c.next-in-StatFile in
     rw c.in-StatFile.is (λ ready after.
@@ -121,7 +125,7 @@ returns-in-StatFile-clause-goes c before =
 
 pub returns-in-WriteFile-clause-under : goal.returns-in-WriteFile-clause-under
 returns-in-WriteFile-clause-under c op start before =
-    let path = c.args.path.now in
+    let path = c.args.path.now ++ c.args.second.now in
     let m = c.args.notes.now in
     let did = c.next-in-WriteFile in
     rw c.in-WriteFile.is (λ under ready after.
@@ -129,10 +133,14 @@ returns-in-WriteFile-clause-under c op start before =
 
 pub returns-in-WriteFile-clause-goes : goal.returns-in-WriteFile-clause-goes
 returns-in-WriteFile-clause-goes c before =
-    let text = c.args.path.now in
+    let path = c.args.path.now in
     let m = c.args.notes.now in
     let p = c.in-WriteFile.part in
     let did = c.next-in-WriteFile in
+    let o = heard_if did.result did.new.heard in
+    let answer = answer_in (write_file_asked p) c.args.answer.now c.args.hand.now in
+    let told = subst (λ (q : InodePart). PartTold path c.args.second.now q) c.in-WriteFile.is c.requires.told in
     rw c.in-WriteFile.is (λ ready after.
-    subst (λ (q : Part). Goes (write_file_left text p before) (answer_in (write_file_asked p) c.args.answer.now c.args.hand.now) q)
-    (write_after text m (heard_if did.result did.new.heard) did.new.self did.new.hand) (did.ensures.goes m before ready after))
+    subst (λ (text : List ℕ). Goes (write_file_left text p before) answer (part_left_after text m o (part.WriteFile did.new.self) did.new.hand)) (alone path c.args.second.now told.1)
+    (subst (λ (q : Part). Goes (write_file_left path p before) answer q)
+    (write_after path m o did.new.self did.new.hand) (did.ensures.goes m before ready after)))

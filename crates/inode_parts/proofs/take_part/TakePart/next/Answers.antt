@@ -1,4 +1,4 @@
-use Rattle.std.proofs.Common.{ℕ, List, true, None, ap, refl, sym, subst, ◌∙◌}
+use Rattle.std.proofs.Common.{◌++◌, ℕ, List, true, None, ap, refl, sym, subst, ◌∙◌}
 use Rattle.std.specs.Prelude.{is_some, not}
 use Rattle.atomic_programs.specs.Prog.{Ret}
 use Rattle.directory.specs.Programs.{Entry, Named}
@@ -28,11 +28,11 @@ returns-in-None-clause-goes c before =
     let s = c.next.new.self in
     let did = c.in-None.ensures in
     rw c.in-Locking.is (λ ready after.
-    take_on c.args.path.now c.args.notes.now q (lock_seat r) before h (lock_left r before) (answer_in (lock_asked r) c.args.answer.now c.args.hand.now) (did.beside before ready.0 after) (lock_seat s) (lock_left s h) did.about (did.goes before ready.0 after))
+    take_on (c.args.path.now ++ c.args.second.now) c.args.notes.now q (lock_seat r) before h (lock_left r before) (answer_in (lock_asked r) c.args.answer.now c.args.hand.now) (did.beside before ready.0 after) (lock_seat s) (lock_left s h) did.about (did.goes before ready.0 after))
 
 pub returns-in-Is-clause-goes : goal.returns-in-Is-clause-goes
 returns-in-Is-clause-goes c before =
-    let path = c.args.path.now in
+    let path = c.args.path.now ++ c.args.second.now in
     let r = c.in-Locking.lock in
     let did = c.in-Some.ensures in
     rw c.in-Locking.is (λ ready after.
@@ -41,7 +41,7 @@ returns-in-Is-clause-goes c before =
 
 pub returns-in-Runs-clause-goes : goal.returns-in-Runs-clause-goes
 returns-in-Runs-clause-goes c before =
-    let path = c.args.path.now in
+    let path = c.args.path.now ++ c.args.second.now in
     let r = c.in-Locking.lock in
     let did = c.in-Some.ensures in
     rw c.in-Locking.is (λ ready after.
@@ -51,11 +51,12 @@ returns-in-Runs-clause-goes c before =
 pub returns-in-Runs-clause-told : goal.returns-in-Runs-clause-told
 returns-in-Runs-clause-told c =
     let path = c.args.path.now in
-    c.in-Runs.ensures.told path (subst (λ (p : TakePart). TakeTold path p) c.in-Locking.is c.requires.told)
+    let second = c.args.second.now in
+    c.in-Runs.ensures.told path second (subst (λ (p : TakePart). TakeTold path second p) c.in-Locking.is c.requires.told)
 
 pub returns-in-None-next-clause-goes : goal.returns-in-None-next-clause-goes
 returns-in-None-next-clause-goes c before =
-    let path = c.args.path.now in
+    let path = c.args.path.now ++ c.args.second.now in
     let h = c.args.hand.now in
     let e = c.in-Naming.element in
     let s = c.in-Naming.search in
@@ -69,7 +70,7 @@ returns-in-None-next-clause-goes c before =
 
 pub returns-in-Some-next-clause-goes : goal.returns-in-Some-next-clause-goes
 returns-in-Some-next-clause-goes c before =
-    let path = c.args.path.now in
+    let path = c.args.path.now ++ c.args.second.now in
     let m = c.args.notes.now in
     let h = c.args.hand.now in
     let k = c.in-Naming.seat in
@@ -88,7 +89,7 @@ returns-in-Some-next-clause-goes c before =
 
 pub returns-in-None-next-2-clause-goes : goal.returns-in-None-next-2-clause-goes
 returns-in-None-next-2-clause-goes c before =
-    let path = c.args.path.now in
+    let path = c.args.path.now ++ c.args.second.now in
     let h = c.args.hand.now in
     let s = c.in-Listing.search in
     let did = c.in-None-next-2.ensures in
@@ -98,7 +99,7 @@ returns-in-None-next-2-clause-goes c before =
 
 pub returns-in-Some-next-2-clause-goes : goal.returns-in-Some-next-2-clause-goes
 returns-in-Some-next-2-clause-goes c before =
-    let path = c.args.path.now in
+    let path = c.args.path.now ++ c.args.second.now in
     let m = c.args.notes.now in
     let h = c.args.hand.now in
     let k = c.in-Listing.seat in
@@ -122,7 +123,7 @@ returns-in-None-clause-leaves c n looking start before =
 
 pub returns-in-Is-clause-leaves : goal.returns-in-Is-clause-leaves
 returns-in-Is-clause-leaves c n looking start before =
-    let path = c.args.path.now in
+    let path = c.args.path.now ++ c.args.second.now in
     let r = c.in-Locking.lock in
     let k = c.in-Some.seat in
     let h = c.next.new.hand in
@@ -137,7 +138,7 @@ returns-in-Is-clause-leaves c n looking start before =
 
 pub returns-in-Runs-clause-leaves : goal.returns-in-Runs-clause-leaves
 returns-in-Runs-clause-leaves c n looking start before =
-    let path = c.args.path.now in
+    let path = c.args.path.now ++ c.args.second.now in
     let r = c.in-Locking.lock in
     let part = c.in-Runs.part in
     let looks = c.in-Runs.ensures.looks in
@@ -155,7 +156,7 @@ returns-in-None-next-clause-leaves c n looking start before =
 
 pub returns-in-Some-next-clause-leaves : goal.returns-in-Some-next-clause-leaves
 returns-in-Some-next-clause-leaves c n looking start before =
-    let path = c.args.path.now in
+    let path = c.args.path.now ++ c.args.second.now in
     let m = c.args.notes.now in
     let m2 = c.named.new.notes in
     let h = c.args.hand.now in
@@ -181,7 +182,7 @@ returns-in-None-next-2-clause-leaves c n looking start before =
 
 pub returns-in-Some-next-2-clause-leaves : goal.returns-in-Some-next-2-clause-leaves
 returns-in-Some-next-2-clause-leaves c n looking start before =
-    let path = c.args.path.now in
+    let path = c.args.path.now ++ c.args.second.now in
     let m = c.args.notes.now in
     let m2 = c.listed.new.notes in
     let h = c.args.hand.now in

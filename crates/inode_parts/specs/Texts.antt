@@ -1,0 +1,8 @@
+-- The text of a call: a path, and where the call has two the second one behind it.
+use Rattle.std.specs.Prelude.{ℕ, List, ◌++◌}
+use Rattle.whole_calls.specs.Elements.{IsElement, IsInOne}
+use Rattle.whole_calls.specs.declared.elements.Element.{Element}
+
+-- an element is one of the two's
+abbrev pub StandsIn : List ℕ → List ℕ → Element → Type 0
+StandsIn path second e = IsElement (path ++ second) e × IsInOne path e
