@@ -1,6 +1,9 @@
 //! Laws about calls over whole inodes, by what is in hand.
 ghost use Rattle.std.specs.Prelude.{ℕ, List, []};
+ghost use Rattle.plain_tree.specs.declared.call.Call.{Call};
 ghost use Rattle.plain_tree.specs.declared.call.Call.TheVariants as calls;
+ghost use Rattle.whole_calls.specs.Wholes.{IsCall};
+ghost use Rattle.inode_parts.specs.Calls.{path_of, RunsByParts};
 ghost use Rattle.inode_parts.specs.Expecting.{RunsAlone};
 
 /// Each operation of these calls finds in hand what it asks, whatever those before it answered, and at the end nothing is in hand.
@@ -16,4 +19,9 @@ pub fn calls_find_what_they_ask()
     ensures mkdir { (path : List ℕ) → RunsAlone path (calls.Mkdir path) }
     ensures link { (text old new : List ℕ) → RunsAlone text (calls.Link old new) }
     ensures unlink { (path : List ℕ) → RunsAlone path (calls.Unlink path) }
+{}
+
+/// So each call runs below by parts, that is as a start asks.
+pub fn calls_run_by_parts()
+    ensures { (call : Call) → IsCall call → RunsByParts (path_of call) call }
 {}
