@@ -3,4 +3,4 @@
 
 mod laws;
 
-pub use laws::calls_find_what_they_ask;
+pub use laws::{calls_find_what_they_ask, calls_run_by_parts};

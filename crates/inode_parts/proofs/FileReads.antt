@@ -1,11 +1,9 @@
 -- A part of an open file read: it is a part, and goes on.
-use Rattle.std.proofs.Common.{◌≡◌, ℕ, ◌+◌, ◌-◌, ◌<◌, ◌≤◌, List, [], ◌++◌, length, take, drop, Option, Some, None, refl, sym, ap, subst, ◌∙◌, arith}
+use Rattle.std.proofs.Common.{◌≡◌, ℕ, ◌+◌, ◌-◌, ◌<◌, ◌≤◌, List, [], ◌++◌, length, drop, Option, Some, None, sym, ap, subst, ◌∙◌, arith}
 use Rattle.std.specs.Prelude.{◌^◌}
 use Rattle.std.proofs.Math.Seq.{take-append_seam}
 use Rattle.std.proofs.Math.ListN.{drop_of_length-le}
 use Rattle.std.proofs.lemmas.List.{append-nil}
-use Rattle.plain_tree.specs.declared.answer.Reply.{Reply}
-use Rattle.plain_tree.specs.Tree.{put}
 use Rattle.fs_layout.specs.declared.inode.Dinode.{Dinode}
 use Rattle.fs_layout.specs.declared.superblock.Super.{Super}
 use Rattle.atomic_programs.specs.Prog.{Ret, Do, bind, plain, unmarked}
@@ -27,11 +25,10 @@ use Rattle.content_parts.specs.declared.read_part.ReadPart.{ReadPart}
 use Rattle.content_parts.specs.declared.read_part.ReadPart.TheVariants.{Fetching, Giving}
 use Rattle.inode_machine.specs.World as above
 use Rattle.inodes_on_blocks.specs.Files.{give_read}
-use Rattle.inodes_on_blocks.specs.Lowering.{Apart, Carry, nothing, record_had}
-use Rattle.inodes_on_blocks.specs.Storing.{record_in as record_of_carry}
+use Rattle.inodes_on_blocks.specs.Lowering.{Carry, nothing, record_had}
 use Rattle.whole_calls.specs.declared.asks.Heard.TheVariants as heard
 use Rattle.inode_parts.specs.Carries.{carry_in, handed}
-use Rattle.inode_parts.specs.FileReads.{filled, read_file_left, read_over, FillsFrom, MayMove}
+use Rattle.inode_parts.specs.FileReads.{read_file_left, read_over, FillsFrom, MayMove}
 use Rattle.inode_parts.specs.LockedFiles.{moved}
 use Rattle.inode_parts.specs.OneSteps.{HasLock, other, seat_of_lock}
 use Rattle.inode_parts.specs.Parts.{answer_by, IsPart, Message, Part}

@@ -42,7 +42,7 @@ use Rattle.inode_parts.specs.Carries.{carry_in, handed}
 use Rattle.inode_parts.specs.FileWrites.{ended_as, write_done, write_file_left, write_over, wrote_upto, WriteFileReady}
 use Rattle.inode_parts.specs.LockedFiles.{moved}
 use Rattle.inode_parts.specs.OneSteps.{HasLock, other, seat_of_lock}
-use Rattle.inode_parts.specs.Parts.{answer_by, IsPart, Message, Part}
+use Rattle.inode_parts.specs.Parts.{answer_by, IsPart, Message}
 use Rattle.inode_parts.specs.declared.locked_file.LockedFile.{LockedFile}
 use Rattle.inode_parts.specs.declared.note.Notes.{Notes}
 use Rattle.inode_parts.specs.declared.write_file_part.WriteFilePart.TheVariants.{Denied, Writing, Ending}

@@ -1,5 +1,5 @@
 -- Bytes read into memory: whatever stood there before, the same are read, and behind them it stays.
-use Rattle.std.proofs.Common.{◌≡◌, ℕ, zero, suc, ◌+◌, ◌≤◌, ◌/◌, List, [], ◌++◌, length, drop, None, refl, sym, ◌∙◌, ap, append_assoc, length-append}
+use Rattle.std.proofs.Common.{◌≡◌, ℕ, zero, suc, ◌+◌, ◌/◌, List, ◌++◌, length, drop, None, sym, ◌∙◌, ap, append_assoc, length-append}
 use Rattle.std.proofs.Math.Seq.{drop-append-add, take-append_seam}
 use Rattle.std.proofs.lemmas.List.{drop-drop}
 use Rattle.fs_layout.specs.declared.inode.Dinode.{Dinode}

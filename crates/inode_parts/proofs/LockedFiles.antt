@@ -1,5 +1,5 @@
 -- A file's lock given up: nothing is had then.
-use Rattle.std.proofs.Common.{◌≡◌, ℕ, Bool, true, false, List, Option, Some, None, refl, sym, ap, subst, ◌∙◌}
+use Rattle.std.proofs.Common.{◌≡◌, ℕ, Bool, true, false, List, Option, None, refl, sym, ap, subst, ◌∙◌}
 use Rattle.std.specs.Prelude.{◌==◌, if◌then◌else◌, IsSome}
 use Rattle.std.specs.Option.{MatchOption, option_map_or}
 use Rattle.plain_tree.specs.Tree.{put}
@@ -12,11 +12,11 @@ use Rattle.hands.specs.Hands.{inode_at, inode_in, no_inode, with_inode}
 use Rattle.hand_controls.specs.Emptying.{HasNoBuffer}
 use Rattle.hand_controls.specs.HeldInodes.{IsLoadedAt}
 use Rattle.content_parts.specs.InHand.{beside_buffers}
-use Rattle.inodes_on_blocks.specs.Lowering.{Had, Apart, Carry, nothing}
+use Rattle.inodes_on_blocks.specs.Lowering.{Had, Apart, nothing}
 use Rattle.inode_parts.specs.Carries.{carry_in, had_at, note_at}
 use Rattle.inode_parts.specs.Changes.{beside_inode, IsAmid}
 use Rattle.inode_parts.specs.Holding.{Unlocked}
-use Rattle.inode_parts.specs.OneSteps.{locks, other, seat_of_lock}
+use Rattle.inode_parts.specs.OneSteps.{locks, other}
 use Rattle.inode_parts.specs.Sides.{beside_in}
 use Rattle.inode_parts.specs.declared.note.Notes.{Notes}
 use Rattle.inode_parts.proofs.Amid.{same_inode}

@@ -1,10 +1,9 @@
 -- How a call over whole inodes goes on below.
-use Rattle.std.proofs.Common.{◌≡◌, ℕ, List, [], Some, refl, sym, ap, ◌∙◌, subst}
+use Rattle.std.proofs.Common.{◌≡◌, ℕ, List, Some, refl, sym, ap, ◌∙◌, subst}
 use Rattle.plain_tree.specs.declared.answer.Reply.{Reply}
 use Rattle.fs_layout.specs.declared.superblock.Super.{Super}
 use Rattle.atomic_programs.specs.Prog as progs
 use Rattle.atomic_programs.specs.Prog.{Ret, Do}
-use Rattle.layered.specs.Below as layers
 use Rattle.layered.proofs.Below.{part_begins}
 use Rattle.fs_machine.specs.Steps as steps
 use Rattle.fs_machine.specs.Machines.{P}
@@ -21,7 +20,7 @@ use Rattle.whole_calls.specs.Asks.{asks, hears}
 use Rattle.whole_calls.specs.declared.asks.Heard.{Heard}
 use Rattle.inode_parts.specs.Calls.{with_text}
 use Rattle.inode_parts.specs.Carries.{carry_in, handed}
-use Rattle.inode_parts.specs.Parts.{answer_by, hears_in, IsPart, Message, Part, lowered, with_part}
+use Rattle.inode_parts.specs.Parts.{answer_by, hears_in, IsPart, Part, lowered, with_part}
 use Rattle.inode_parts.specs.declared.note.Notes.{Notes}
 
 same_asks : (p : above.P Reply) → progs.asks p ≡ asks p

@@ -1,18 +1,13 @@
 -- The text of a call, into which a read's part comes.
 use Rattle.std.proofs.Common.{◌≡◌, ℕ, List, ◌++◌, length, take, drop, Some, refl, sym, ap, subst, ◌∙◌, inl, inr}
-use Rattle.std.specs.Prelude.{◌<◌, ◌^◌, ◌⊎◌}
+use Rattle.std.specs.Prelude.{◌<◌, ◌^◌}
 use Rattle.std.proofs.Math.Seq.{drop-append_seam, take-append_seam}
-use Rattle.plain_tree.specs.declared.answer.Reply.{Reply}
 use Rattle.plain_tree.specs.declared.call.Call.TheVariants as calls
 use Rattle.fs_layout.specs.declared.superblock.Super.{Super}
-use Rattle.atomic_programs.specs.Prog as progs
-use Rattle.fs_machine.specs.Machines.{P}
 use Rattle.inode_machine.specs.Descriptors.{read_on, read_reply}
 use Rattle.inode_machine.specs.Parts.{say}
-use Rattle.inode_machine.specs.Parts as above_programs
 use Rattle.inode_machine.specs.World as above
 use Rattle.inode_machine.specs.World.{LocksIt}
-use Rattle.inodes_on_blocks.specs.Lowering.{Carry}
 use Rattle.whole_calls.specs.Asks.{asks, hears, op_in}
 use Rattle.whole_calls.specs.Reads.{read_of}
 use Rattle.whole_calls.specs.Wholes.{HasRoomFor, WholeAsks, WholeFits, text_in, whole_of}

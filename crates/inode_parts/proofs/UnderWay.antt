@@ -1,5 +1,5 @@
 -- How parts of several steps go on: each is under way, or leaves what its operation does.
-use Rattle.std.proofs.Common.{◌≡◌, ℕ, List, [], Option, Some, None, refl, sym, ap, ◌∙◌, subst}
+use Rattle.std.proofs.Common.{◌≡◌, ℕ, List, [], Option, Some, None, refl, sym, ◌∙◌, subst}
 use Rattle.hands.specs.Hands.{with_txn}
 use Rattle.hands.specs.declared.hand.Hand.{Hand}
 use Rattle.hand_controls.specs.declared.finish.Finish.{Finish}

@@ -5,7 +5,6 @@ use Rattle.plain_tree.specs.Widths.{piece_len}
 use Rattle.fs_layout.specs.Widths.{bits_per_block}
 use Rattle.fs_layout.specs.declared.superblock.Super.{Super}
 use Rattle.atomic_programs.specs.Prog.{Ret, Do, bind, unmarked}
-use Rattle.fs_tables.specs.declared.inodes.Inode.{Inode}
 use Rattle.fs_machine.specs.Steps as steps
 use Rattle.inode_table.specs.Programs.{inode_block}
 use Rattle.inode_data.specs.Writing.{WriteResult}

@@ -5,7 +5,6 @@ use Rattle.hands.specs.declared.hand.Hand.{Hand}
 use Rattle.hands.specs.declared.op.Op.{Op}
 use Rattle.hand_controls.specs.Finishing.{finish_left, finish_asked, FinishReady}
 use Rattle.hand_controls.specs.declared.finish.Finish.TheVariants as finish
-use Rattle.inode_machine.specs.Inodes.{AtNothing}
 use Rattle.inode_machine.specs.World as above
 use Rattle.whole_calls.specs.declared.asks.Ask.{Ask}
 use Rattle.whole_calls.specs.declared.asks.Ask.TheVariants as ask

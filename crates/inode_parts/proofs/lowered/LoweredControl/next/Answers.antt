@@ -1,7 +1,6 @@
-use Rattle.std.proofs.Common.{◌≡◌, ℕ, Bool, true, false, List, [], ◌++◌, Option, Some, None, refl, sym, ap, subst, ◌∙◌}
+use Rattle.std.proofs.Common.{◌≡◌, ℕ, Bool, List, [], ◌++◌, Option, Some, sym, ap, subst, ◌∙◌}
 use Rattle.std.specs.Prelude.{IfNone, IfSome}
 use Rattle.atomic_programs.specs.Prog.{Ret}
-use Rattle.fs_machine.specs.Machines.{P}
 use Rattle.plain_tree.specs.declared.answer.Reply.{Reply}
 use Rattle.hands.specs.Controls.{Goes}
 use Rattle.hands.specs.Ops.{answer_in}
@@ -9,10 +8,9 @@ use Rattle.inode_machine.specs.Parts as programs
 use Rattle.inode_machine.specs.World as above
 use Rattle.whole_calls.specs.Asks.{answer_to, asks, hears, op_in, reply_to, stepped}
 use Rattle.whole_calls.specs.declared.asks.Heard.{Heard}
-use Rattle.whole_calls.specs.declared.whole.Whole.{Whole}
 use Rattle.whole_calls.specs.Wholes.{call_in, first_in, second_in, text_in, whole_of, HasRoomFor}
-use Rattle.inode_parts.specs.Calls.{whole_with, with_text, IsOnWay, IsReading}
-use Rattle.inode_parts.specs.Carries.{carry_in, handed}
+use Rattle.inode_parts.specs.Calls.{whole_with, with_text, IsOnWay}
+use Rattle.inode_parts.specs.Carries.{carry_in}
 use Rattle.inode_parts.specs.FileReads.{FillsFrom}
 use Rattle.inode_parts.specs.Holding.{Having, Leaves}
 use Rattle.inode_parts.specs.InodeParts.{part_asked, part_left, part_left_after, FillsAs, PartReady, PartTold, ReadsInto}

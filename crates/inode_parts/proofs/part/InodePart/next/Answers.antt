@@ -12,7 +12,7 @@ use Rattle.inode_parts.specs.declared.part.InodePart.{InodePart}
 use Rattle.inode_parts.specs.declared.part.InodePart.TheVariants as part
 use Rattle.inode_parts.proofs.Begins.{alone}
 use Rattle.inode_parts.proofs.StepLeaves.{step_leaves}
-use Rattle.inode_parts.proofs.UnderWay.{claims, clears, empties, enters, fills, frees, leave_leaves, leave_stays, lock_files, lock_opens, relocks, stats, stores, takes, writes}
+use Rattle.inode_parts.proofs.UnderWay.{claims, clears, empties, enters, fills, frees, lock_files, lock_opens, relocks, stats, stores, takes, writes}
 use Rattle.inode_parts.proofs.part.InodePart.next.Goals as goal
 
 pub returns-in-LockFile-clause-goes : goal.returns-in-LockFile-clause-goes

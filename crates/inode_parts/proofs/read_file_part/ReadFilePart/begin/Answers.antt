@@ -1,4 +1,4 @@
-use Rattle.std.proofs.Common.{◌≡◌, ℕ, ◌≤◌, List, length, refl, sym, subst, arith, rules}
+use Rattle.std.proofs.Common.{◌≡◌, ℕ, sym, subst, arith, rules}
 use Rattle.std.specs.Prelude.{◌<◌, ◌^◌, None, replicate}
 use Rattle.std.proofs.Math.ListN.{length-replicate}
 use Rattle.atomic_programs.specs.Prog.{Ret}
@@ -9,7 +9,6 @@ use Rattle.hand_controls.specs.HeldInodes.{IsLoadedAt}
 use Rattle.content_parts.specs.PartReading.{filled_to, read_left}
 use Rattle.inode_parts.specs.OneSteps.{other}
 use Rattle.inode_parts.proofs.FileReads.{begun_fills, begun_is_part, may_move}
-use Rattle.inode_parts.proofs.Locking.{loaded_there}
 use Rattle.inode_parts.proofs.read_file_part.ReadFilePart.begin.Goals as goal
 
 pub returns-in-Runs-clause-part : goal.returns-in-Runs-clause-part
@@ -30,8 +29,7 @@ returns-in-Runs-clause-ready c =
     let h = c.args.hand.now in
     let begins = c.requires.begins.1 in
     let few : f.result.offset < 2 ^ 32 = search rules in
-    let count = c.args.count in
-    (
+    let count = c.args.count in (
       subst (λ (k : Seat). IsLoadedAt k h) (sym f.ensures.seat) begins.1,
       subst (λ (k : Seat). inode_at (other k) h ≡ None) (sym f.ensures.seat) begins.4,
       may_move f.result c.record_at-inode.result count _ few c.in-Runs.ensures.count,

@@ -1,15 +1,11 @@
-use Rattle.std.proofs.Common.{◌≡◌, ◌≤◌, ℕ, List, length, Some, None, refl, sym, subst}
-use Rattle.atomic_programs.specs.Prog.{Ret}
+use Rattle.std.proofs.Common.{subst}
 use Rattle.fs_layout.specs.declared.inode.Dinode.{Dinode}
 use Rattle.hands.specs.Controls.{Goes}
-use Rattle.hands.specs.Ops.{answer_in, IsAfter}
-use Rattle.content_parts.specs.PartReading.{filled_to, read_asked, read_left}
-use Rattle.inode_parts.specs.FileReads.{read_file_asked, MayMove, ReadFileReady, ReadFileTold}
+use Rattle.hands.specs.Ops.{answer_in}
+use Rattle.content_parts.specs.PartReading.{read_asked, read_left}
+use Rattle.inode_parts.specs.FileReads.{ReadFileTold}
 use Rattle.inode_parts.specs.declared.read_file_part.ReadFilePart.{ReadFilePart}
-use Rattle.inode_parts.proofs.Amid.{buffers_beside, still_amid}
-use Rattle.inode_parts.proofs.FileReads.{read_ends, read_gone, read_on, room_of, room_so}
-use Rattle.inode_parts.proofs.Locking.{loaded_there}
-use Rattle.inode_parts.proofs.LockedFiles.{loaded_still, other_still, unlocked}
+use Rattle.inode_parts.proofs.FileReads.{read_on, room_so}
 use Rattle.inode_parts.proofs.read_file_part.ReadFilePart.next.Goals as goal
 
 pub returns-in-None-clause-goes : goal.returns-in-None-clause-goes

@@ -1,13 +1,7 @@
-use Rattle.std.proofs.Common.{◌≡◌, ℕ, List, length, None, Some, refl, sym, ap, subst, ◌∙◌, rules}
+use Rattle.std.proofs.Common.{length, sym, ap, ◌∙◌}
 use Rattle.plain_tree.specs.Calls.{piece}
-use Rattle.plain_tree.specs.declared.answer.Cause.{Cause}
-use Rattle.hands.specs.Hands.{inode_at}
-use Rattle.hands.specs.declared.hand.Seat.{Seat}
-use Rattle.hand_controls.specs.HeldInodes.{IsLoadedAt}
 use Rattle.content_parts.specs.PartWriting.{write_left}
-use Rattle.inode_parts.specs.OneSteps.{other}
 use Rattle.inode_parts.proofs.FileWrites.{begun_deny, begun_write, done_so}
-use Rattle.inode_parts.proofs.Locking.{loaded_there}
 use Rattle.inode_parts.proofs.write_file_part.WriteFilePart.begin.Goals as goal
 
 pub returns-in-Some-clause-part : goal.returns-in-Some-clause-part

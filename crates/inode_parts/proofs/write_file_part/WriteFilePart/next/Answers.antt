@@ -1,22 +1,12 @@
-use Rattle.std.proofs.Common.{◌≡◌, ◌≤◌, ◌*◌, ℕ, List, length, drop, Some, None, refl, sym, ap, subst, ◌∙◌, arith, length-take}
-use Rattle.plain_tree.specs.Widths.{piece_len}
-use Rattle.plain_tree.specs.Calls.{piece}
-use Rattle.atomic_programs.specs.Prog.{Ret}
+use Rattle.std.proofs.Common.{ℕ, List, ap, subst, ◌∙◌}
 use Rattle.hands.specs.Controls.{Goes}
 use Rattle.hands.specs.Ops.{answer_in, IsAfter}
-use Rattle.hands.specs.Hands.{inode_at, with_record}
-use Rattle.hands.specs.declared.hand.Hand.{Hand}
-use Rattle.hand_controls.specs.Emptying.{HasNoBuffer}
 use Rattle.content_parts.specs.InHand.{beside_buffers}
-use Rattle.content_parts.specs.PartWriting.{write_asked, write_left, written_as, WriteReady}
-use Rattle.inode_parts.specs.FileWrites.{ended_as, write_file_asked, write_file_left, WriteFileAmid, WriteFileReady, WriteFileTold}
-use Rattle.inode_parts.specs.OneSteps.{other}
+use Rattle.content_parts.specs.PartWriting.{write_asked, write_left}
+use Rattle.inode_parts.specs.FileWrites.{write_file_asked, WriteFileReady, WriteFileTold}
 use Rattle.inode_parts.specs.declared.write_file_part.WriteFilePart.{WriteFilePart}
-use Rattle.inode_parts.specs.declared.write_file_part.WriteFilePart.TheVariants.{Writing}
-use Rattle.inode_parts.proofs.FileWrites.{deny_gone, done_so, ended_ready, ready_for, write_ends, write_gone, write_on}
-use Rattle.inode_parts.proofs.Amid.{buffers_beside, record_beside, still_amid}
-use Rattle.inode_parts.proofs.Locking.{loaded_there}
-use Rattle.inode_parts.proofs.LockedFiles.{loaded_still, other_still, unlocked}
+use Rattle.inode_parts.proofs.FileWrites.{ready_for, write_on}
+use Rattle.inode_parts.proofs.LockedFiles.{loaded_still, other_still}
 use Rattle.inode_parts.proofs.write_file_part.WriteFilePart.next.Goals as goal
 
 pub returns-in-None-clause-goes : goal.returns-in-None-clause-goes

@@ -1,0 +1,3 @@
+pub mod HasOnes
+pub mod Places
+pub mod Staying

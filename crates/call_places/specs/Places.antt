@@ -1,0 +1,64 @@
+-- The place of a hart's call, and a step of what stands there.
+use Rattle.std.specs.Prelude.{◌≡◌, ℕ, List, Bool, true, false, Option, Some, None, IsSome}
+use Rattle.fs_layout.specs.declared.superblock.Super.{Super}
+use Rattle.plain_tree.specs.declared.answer.Reply.{Reply}
+use Rattle.plain_tree.specs.declared.call.Call.{Call}
+use Rattle.atomic_programs.specs.Machines.{Left, Still, stepped_at}
+use Rattle.atomic_programs.specs.declared.machines.Came.{Came}
+use Rattle.atomic_programs.specs.declared.machines.Came.TheVariants.{Waits, Ran, Done, Stopped}
+use Rattle.fs_machine.specs.Steps.{State, state_of}
+use Rattle.fs_machine.specs.Machines.{Answers, CallsOnce, Moves}
+use Rattle.fs_machine.specs.Tied.{LeavesTied}
+use Rattle.fs_machine.specs.declared.kind.Kind.{Kind}
+use Rattle.fs_machine.specs.declared.shared.Core.{Core}
+use Rattle.inode_machine.specs.Programs.{program}
+use Rattle.inode_parts.specs.Parts.{lowered}
+use Rattle.inodes_on_blocks.specs.Lowering.{nothing}
+use Rattle.call_places.specs.Machines.{Running, running_of, RunningFits}
+
+-- what is seen of a place, by whether a call is under way there
+abbrev pub call_at : Bool → Running → Option Running
+call_at true m = Some m
+call_at false m = None
+
+-- a call has begun there, on a disk of these sizes: all of its program is left, and it has nothing in hand
+abbrev pub HasBegun : Super → Call → Option Running → Type 0
+HasBegun sizes call None = ⊥
+HasBegun sizes call (Some m) = (running_of m ≡ lowered sizes nothing (program call)) × ((hart : ℕ) (s : State) → RunningFits hart s m)
+
+-- a step with its reply, which stands in a place of its own (one that is done has left one)
+abbrev pub with_reply : Came (Unit {0}) Kind → Option Reply → Came Reply Kind
+with_reply Waits place = Waits
+with_reply (Ran kind) place = Ran kind
+with_reply (Done end kind) (Some reply) = Done reply kind
+with_reply (Done end kind) None = Waits
+with_reply Stopped place = Stopped
+
+-- a reply stands there just where the step is done
+abbrev pub IsReplied : Came (Unit {0}) Kind → Option Reply → Type 0
+IsReplied Waits place = place ≡ None
+IsReplied (Ran kind) place = place ≡ None
+IsReplied (Done end kind) place = IsSome place
+IsReplied Stopped place = place ≡ None
+
+-- what is left in the place: the call, or nothing once it has replied
+abbrev pub left_in : Came Reply Kind → Running → Option Running
+left_in Waits m = Some m
+left_in (Ran kind) m = Some m
+left_in (Done reply kind) m = None
+left_in Stopped m = Some m
+
+module _ {D : Type 0} (contents : D → List (List ℕ)) (failures : D → ℕ) (Called : D → D → Type 0) where
+  -- the step of a call is the next operation of its program, and leaves this of it
+  pub record StepsCall (hart : ℕ) (call left : Running) (result : Came Reply Kind) (old new : Core D) : Type 0 where
+    pub moves : Moves running_of (λ reply. reply) hart call (stepped_at left result) (state_of contents failures old) (state_of contents failures new)
+    pub honest : Answers running_of hart call (stepped_at left result) (state_of contents failures old) (state_of contents failures new)
+    pub still : Still running_of (stepped_at left result) call old new
+    pub fits : Left (RunningFits hart (state_of contents failures new)) (λ _. Unit {0}) (stepped_at left result)
+    pub others : LeavesTied hart (state_of contents failures old) (state_of contents failures new)
+    pub called : CallsOnce Called old.log.cache.device new.log.cache.device
+
+  -- the step of a place in which a call is under way
+  abbrev pub StepsAt : (hart : ℕ) → Option Running → Option Running → Came Reply Kind → (old new : Core D) → Type 0
+  StepsAt hart None after result old new = ⊥
+  StepsAt hart (Some call) after result old new = (left : Running) × (after ≡ left_in result left) × StepsCall hart call left result old new
