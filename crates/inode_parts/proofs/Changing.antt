@@ -20,7 +20,7 @@ use Rattle.hand_controls.specs.declared.truncate.Emptying.{Emptying}
 use Rattle.content_parts.specs.InHand.{beside_buffers}
 use Rattle.inodes_on_blocks.specs.Lowering.{NothingMore, Had, Apart, Has}
 use Rattle.whole_calls.specs.declared.asks.Heard.{Heard}
-use Rattle.inode_parts.specs.Carries.{carry_in, had_at, had_of, with_note}
+use Rattle.inode_parts.specs.Carries.{carry_in, had_at, with_note}
 use Rattle.inode_parts.specs.Changes.{changed}
 use Rattle.inode_parts.specs.OneSteps.{IsAlone, locks}
 use Rattle.inode_parts.specs.declared.note.Note.TheVariants as note

@@ -8,14 +8,11 @@ use Rattle.atomic_programs.proofs.Prog.{bind-assoc}
 use Rattle.fs_machine.specs.Machines as code
 use Rattle.fs_machine.specs.Programs.{fetch}
 use Rattle.fs_machine.specs.Steps as steps
-use Rattle.inode_table.specs.NewInodes.{free_in, inode_blocks, look_in, make_in, new_from, new_inode, new_record}
-use Rattle.inode_table.specs.Programs.{with_dinode}
+use Rattle.inode_table.specs.NewInodes.{free_in, inode_blocks, look_in, make_in, new_from, new_inode}
 use Rattle.inode_table.specs.declared.new_inode.Made.{Made}
-use Rattle.inode_table.specs.declared.new_inode.Made.TheVariants as made
 use Rattle.hands.specs.Controls.{Goes}
-use Rattle.hands.specs.Hands.{reference_at, with_buffer, with_reference}
+use Rattle.hands.specs.Hands.{reference_at, with_reference}
 use Rattle.hands.specs.declared.hand.Hand.{Hand}
-use Rattle.hands.specs.declared.hand.Place.TheVariants.{First}
 use Rattle.hands.specs.declared.hand.Seat.{Seat}
 use Rattle.hands.specs.declared.hand.Seat.TheVariants.{One, Two}
 use Rattle.hand_controls.specs.Making.{beside_new, new_left, new_value}
@@ -28,7 +25,6 @@ use Rattle.inode_machine.specs.Inodes.{OfDevice, OfDirectory, OfFile, Sort}
 use Rattle.inode_machine.specs.World as above
 use Rattle.inode_machine.specs.World.Op.{Claim}
 use Rattle.inodes_on_tables.specs.Shown.{kind_of}
-use Rattle.inodes_on_blocks.specs.Handlers.{P}
 use Rattle.inodes_on_blocks.specs.Lowering.{Carry}
 use Rattle.inodes_on_blocks.specs.Making.{claim_at, claim_from, claim_in}
 use Rattle.whole_calls.specs.Asks.{claimed_in, claimed_of}
@@ -39,7 +35,7 @@ use Rattle.inode_parts.specs.Carries.{carry_in, handed}
 use Rattle.inode_parts.specs.Claims.{claim_ends, claimed_by}
 use Rattle.inode_parts.specs.Holding.{without_numbers, LeavesClaim}
 use Rattle.inode_parts.specs.OneSteps.{HasFreeSeat, free_seat}
-use Rattle.inode_parts.specs.Parts.{IsPart, Part}
+use Rattle.inode_parts.specs.Parts.{IsPart}
 use Rattle.inode_parts.specs.declared.note.Notes.{Notes}
 use Rattle.inode_parts.proofs.Afterwards.{then_plain}
 use Rattle.inode_parts.proofs.Handing.{still_in}

@@ -2,7 +2,7 @@
 use Rattle.std.proofs.Common.{◌≡◌, ℕ, ◌/◌, ◌%◌, Bool, true, false, if◌then◌else◌, List, Option, Some, None, refl, sym, ap, ◌∙◌, subst}
 use Rattle.std.specs.Prelude.{IsSome}
 use Rattle.std.specs.Option.{MatchOption, option_map_or}
-use Rattle.plain_tree.specs.Tree.{Name, put, same_name}
+use Rattle.plain_tree.specs.Tree.{Name, put}
 use Rattle.sleep_lock.specs.SleepLock.{GuardState}
 use Rattle.fs_layout.specs.declared.entry.Dirent.TheVariants.{Free}
 use Rattle.fs_layout.specs.declared.inode.Dinode.{Dinode}
@@ -29,11 +29,10 @@ use Rattle.content_parts.specs.Clearing.{clear_left}
 use Rattle.content_parts.specs.InHand.{beside_buffers}
 use Rattle.inode_machine.specs.World as above
 use Rattle.inodes_on_blocks.specs.Handlers as handlers
-use Rattle.inodes_on_blocks.specs.Lowering.{NothingMore, Finds, Had, Apart, Carry, Has, record_had}
+use Rattle.inodes_on_blocks.specs.Lowering.{NothingMore, Had, Apart, Carry, Has, record_had}
 use Rattle.inodes_on_blocks.specs.Naming.{clear_in, clear_slot, put_named, slot_found, slot_of}
-use Rattle.whole_calls.specs.Elements.{name_in}
 use Rattle.whole_calls.specs.declared.asks.Heard.TheVariants as heard
-use Rattle.inode_parts.specs.Carries.{carry_in, handed, had_at, had_of, note_at, with_note}
+use Rattle.inode_parts.specs.Carries.{carry_in, had_at, had_of, note_at}
 use Rattle.inode_parts.specs.Changes.{changed}
 use Rattle.inode_parts.specs.Clears.{clear_part_left, slot_in, ClearBegins, HasFound}
 use Rattle.inode_parts.specs.OneSteps.{locks, seat_of_lock}

@@ -1,5 +1,5 @@
 -- A name entered: it is a part, and goes on.
-use Rattle.std.proofs.Common.{◌≡◌, ℕ, zero, suc, ◌+◌, ◌*◌, ◌==◌, ◌<◌, nat_lt, Bool, true, false, if◌then◌else◌, List, length, Option, Some, None, refl, sym, ◌∙◌, ap, subst, arith}
+use Rattle.std.proofs.Common.{◌≡◌, ℕ, zero, suc, ◌+◌, ◌*◌, ◌==◌, ◌<◌, nat_lt, Bool, true, false, if◌then◌else◌, List, length, Option, refl, sym, ◌∙◌, ap, subst, arith}
 use Rattle.std.specs.Prelude.{is_some}
 use Rattle.std.proofs.lemmas.Bool.Decides.{nat_tests}
 use Rattle.fs_layout.specs.declared.entry.Dirent.TheVariants.{Used}
@@ -12,7 +12,6 @@ use Rattle.atomic_programs.specs.Joined.{Handover}
 use Rattle.atomic_programs.proofs.Prog.{bind-assoc}
 use Rattle.fs_tables.specs.declared.inodes.Inode.{Inode}
 use Rattle.fs_machine.specs.Machines.{P}
-use Rattle.fs_machine.specs.Programs.{fetch}
 use Rattle.fs_machine.specs.Steps as steps
 use Rattle.inode_table.specs.Programs.{inode_block, record_of, store as store_inode}
 use Rattle.inode_data.specs.declared.addresses.Address.{Address}
@@ -33,7 +32,7 @@ use Rattle.hand_controls.proofs.Goings.{goes_with}
 use Rattle.content_parts.specs.Entering.{enter_left}
 use Rattle.content_parts.specs.InHand.{beside_buffers}
 use Rattle.inode_machine.specs.World as above
-use Rattle.inodes_on_blocks.specs.Entering.{enter_in, entered_to, put_grown, seek_free}
+use Rattle.inodes_on_blocks.specs.Entering.{entered_to, put_grown, seek_free}
 use Rattle.inodes_on_blocks.specs.Handlers as handlers
 use Rattle.inodes_on_blocks.specs.Handlers.{acts}
 use Rattle.inodes_on_blocks.specs.Lowering.{NothingMore, Carry, Has, record_had}

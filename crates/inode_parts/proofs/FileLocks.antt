@@ -1,5 +1,5 @@
 -- What a descriptor names locked: each operation is its part.
-use Rattle.std.proofs.Common.{◌≡◌, ℕ, [], List, Option, Some, None, refl, sym, subst, ◌∙◌}
+use Rattle.std.proofs.Common.{◌≡◌, ℕ, List, Option, Some, None, refl, sym, subst, ◌∙◌}
 use Rattle.fs_layout.specs.declared.inode.Dinode.{Dinode}
 use Rattle.fs_layout.specs.declared.superblock.Super.{Super}
 use Rattle.atomic_programs.specs.Prog.{Ret, Do, bind, plain, unmarked}

@@ -1,5 +1,5 @@
 -- The names of a new directory written: it is a part, and goes on.
-use Rattle.std.proofs.Common.{◌≡◌, ℕ, ◌+◌, ◌==◌, Bool, true, false, if◌then◌else◌, List, length, Option, Some, None, refl, sym, ap, ◌∙◌, subst}
+use Rattle.std.proofs.Common.{◌≡◌, ℕ, ◌+◌, ◌==◌, Bool, true, false, if◌then◌else◌, List, length, Option, sym, ◌∙◌, subst}
 use Rattle.plain_tree.specs.Tree.{put}
 use Rattle.fs_layout.specs.declared.inode.Dinode.{Dinode}
 use Rattle.fs_layout.specs.declared.superblock.Super.{Super}

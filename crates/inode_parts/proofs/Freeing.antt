@@ -1,5 +1,5 @@
 -- The operation that frees an inode is its part.
-use Rattle.std.proofs.Common.{◌≡◌, ℕ, List, Option, Some, refl, sym, ap, ◌∙◌, subst}
+use Rattle.std.proofs.Common.{◌≡◌, ℕ, List, Option, Some, sym, ap, ◌∙◌, subst}
 use Rattle.fs_layout.specs.declared.inode.Dinode.{Dinode}
 use Rattle.fs_layout.specs.declared.superblock.Super.{Super}
 use Rattle.atomic_programs.specs.Prog.{Ret, Do, bind, plain, unmarked}
@@ -18,9 +18,8 @@ use Rattle.hand_controls.specs.Emptying.{beside_emptying, IsEmptying}
 use Rattle.hand_controls.specs.FreeingInodes.{free_record, freeing_left, store_free}
 use Rattle.hand_controls.specs.HeldInodes.{number_in, record_in as record_at}
 use Rattle.hand_controls.specs.declared.free_inode.FreeInode.{FreeInode}
-use Rattle.hand_controls.specs.declared.truncate.Emptying.{Emptying}
 use Rattle.inode_machine.specs.World as above
-use Rattle.inodes_on_blocks.specs.Emptying.{free, give_content}
+use Rattle.inodes_on_blocks.specs.Emptying.{give_content}
 use Rattle.inodes_on_blocks.specs.Handlers.{P}
 use Rattle.inodes_on_blocks.specs.Lowering.{Carry, Emptied, record_had}
 use Rattle.inodes_on_blocks.specs.Storing.{put_record, record_in}

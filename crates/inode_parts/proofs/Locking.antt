@@ -19,8 +19,7 @@ use Rattle.hand_controls.specs.HeldInodes.{number_in, record_in, IsLoadedAt}
 use Rattle.hand_controls.specs.LoadingHeld.{beside_lock}
 use Rattle.hand_controls.proofs.Goings.{goes_to, goes_with}
 use Rattle.inodes_on_blocks.specs.Lowering.{Carry}
-use Rattle.whole_calls.specs.declared.asks.Heard.{Heard}
-use Rattle.inode_parts.specs.Carries.{carry_in, handed, had_of, with_note}
+use Rattle.inode_parts.specs.Carries.{carry_in, had_of, with_note}
 use Rattle.inode_parts.specs.OneSteps.{IsAlone, locks, other}
 use Rattle.inode_parts.specs.Parts.{Part}
 use Rattle.inode_parts.specs.Sides.{beside_in}

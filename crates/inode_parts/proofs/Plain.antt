@@ -4,7 +4,7 @@ use Rattle.std.specs.Prelude.{slice_index, take}
 use Rattle.fs_layout.specs.declared.inode.Dinode.{Dinode}
 use Rattle.fs_layout.specs.declared.superblock.Super.{Super}
 use Rattle.fs_layout.specs.Indirect.{numbers_in}
-use Rattle.atomic_programs.specs.Prog.{Prog, Ret, Do, bind, plain, unmarked}
+use Rattle.atomic_programs.specs.Prog.{Prog, Do, bind, plain, unmarked}
 use Rattle.atomic_programs.proofs.Prog.{bind-assoc, plain-bind}
 use Rattle.fs_machine.specs.Programs.{fetch, read_unless}
 use Rattle.fs_machine.specs.Steps as steps

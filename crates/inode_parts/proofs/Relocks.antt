@@ -15,7 +15,6 @@ use Rattle.hands.specs.declared.hand.Seat.{Seat}
 use Rattle.hands.specs.declared.hand.Seat.TheVariants.{One, Two}
 use Rattle.hand_controls.specs.Emptying.{HasNoBuffer}
 use Rattle.hand_controls.specs.HeldInodes.{number_in, HasBlock}
-use Rattle.hand_controls.specs.LoadingHeld.{beside_lock}
 use Rattle.hand_controls.specs.LockingInodes.{lock_loaded}
 use Rattle.tree_laws.proofs.Maps.{eq_is, eq_self}
 use Rattle.inode_machine.specs.Inodes.{AtNothing, Query}

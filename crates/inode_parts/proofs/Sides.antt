@@ -1,6 +1,6 @@
 -- What is in hand of one inode, and beside it what is at the other seat.
 use Rattle.std.proofs.Common.{◌≡◌, ℕ, List, Bool, true, false, Option, Some, None, refl, sym, ap, subst, ◌∙◌}
-use Rattle.std.specs.Prelude.{◌==◌, if◌then◌else◌, IsSome, IfSome}
+use Rattle.std.specs.Prelude.{◌==◌, if◌then◌else◌, IsSome}
 use Rattle.std.specs.Option.{option_map_or}
 use Rattle.plain_tree.specs.Tree.{put}
 use Rattle.tree_laws.proofs.Maps.{eq_is}

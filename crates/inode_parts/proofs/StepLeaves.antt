@@ -5,7 +5,6 @@ use Rattle.std.specs.Option.{MatchOption, unwrap_or}
 use Rattle.plain_tree.specs.Widths.{descriptor_count}
 use Rattle.atomic_programs.specs.Prog.{Ret, Do}
 use Rattle.fs_tables.specs.declared.inodes.Inode.{Inode}
-use Rattle.fs_machine.specs.Steps as steps
 use Rattle.hands.specs.Controls.{Goes}
 use Rattle.hands.specs.Hands.{inode_in, number_at, reference_at, with_inode, with_listed, with_reference, with_seated}
 use Rattle.hands.specs.Ops.{IsAfter, IsDown, IsHanded, IsJoined, IsKept, IsLent, IsOpened, answer_in, dropped_by, given_by, joined_by, kept_by, number_by, shut_by, yes_in}

@@ -1,5 +1,5 @@
 -- An inode's count put: it is a part, and goes on.
-use Rattle.std.proofs.Common.{◌≡◌, ℕ, pos, List, Option, Some, None, refl, sym, ap, ◌∙◌}
+use Rattle.std.proofs.Common.{◌≡◌, ℕ, List, Option, Some, None, refl, sym, ap, ◌∙◌}
 use Rattle.fs_layout.specs.declared.inode.Dinode.{Dinode}
 use Rattle.fs_layout.specs.declared.superblock.Super.{Super}
 use Rattle.plain_tree.specs.Tree.{put}
@@ -14,7 +14,7 @@ use Rattle.inode_table.specs.Programs.{inode_block, put_inode, record_of, with_d
 use Rattle.hands.specs.declared.hand.Hand.{Hand}
 use Rattle.hands.specs.Controls.{Goes}
 use Rattle.hands.specs.Hands.{inode_in, with_buffer, with_record}
-use Rattle.hand_controls.specs.HeldInodes.{counted, number_in, record_in}
+use Rattle.hand_controls.specs.HeldInodes.{counted}
 use Rattle.hand_controls.specs.StoringRecords.{record_left, record_place}
 use Rattle.hand_controls.proofs.Goings.{goes_with}
 use Rattle.inode_machine.specs.World as above

@@ -21,9 +21,7 @@ use Rattle.hands.specs.declared.hand.Hand.{Hand}
 use Rattle.hand_controls.specs.LockingInodes.{lock_left, lock_loaded, lock_seat}
 use Rattle.hand_controls.specs.declared.lock_inode.LockInode.{LockInode}
 use Rattle.inode_machine.specs.Inodes.{Face, Sight}
-use Rattle.inode_machine.specs.World as above
 use Rattle.inode_machine.specs.World.Op.{Take}
-use Rattle.inodes_on_blocks.specs.Handlers.{P}
 use Rattle.inodes_on_blocks.specs.Lowering.{Carry, NothingMore, Knowledge, Finds, Has}
 use Rattle.inodes_on_blocks.specs.Reading as handlers
 use Rattle.inodes_on_blocks.specs.Reading.{face_in, learned, number_found, search_entries, seen_record}
@@ -35,9 +33,9 @@ use Rattle.whole_calls.specs.declared.elements.Element.{Element}
 use Rattle.inode_parts.specs.Carries.{carry_in, had_of}
 use Rattle.inode_parts.specs.Faces.{face_by, face_unless_free}
 use Rattle.inode_parts.specs.OneSteps.{IsAlone, seat_of_reference}
-use Rattle.inode_parts.specs.Parts.{IsPart, Message, Part}
+use Rattle.inode_parts.specs.Parts.{IsPart, Message}
 use Rattle.inode_parts.specs.Sides.{beside_in}
-use Rattle.inode_parts.specs.Takes.{listed_ends, looked, named_ends, note_of, seen, TakeBegins}
+use Rattle.inode_parts.specs.Takes.{listed_ends, looked, named_ends, seen, TakeBegins}
 use Rattle.inode_parts.specs.declared.note.Note.{Note}
 use Rattle.inode_parts.specs.declared.note.Note.TheVariants as note
 use Rattle.inode_parts.specs.declared.note.Notes.{Notes}

@@ -1,5 +1,5 @@
 -- How an inode that is taken is looked at.
-use Rattle.std.proofs.Common.{◌≡◌, ℕ, List, true, Option, Some, None, refl, sym, ap, subst, ◌∙◌}
+use Rattle.std.proofs.Common.{◌≡◌, ℕ, List, Option, sym, ap, subst, ◌∙◌}
 use Rattle.std.specs.Prelude.{Bool}
 use Rattle.fs_layout.specs.declared.inode.Dinode.{Dinode}
 use Rattle.atomic_programs.specs.Prog.{Ret, bind}
@@ -15,8 +15,7 @@ use Rattle.hands.specs.declared.hand.Seat.TheVariants.{One, Two}
 use Rattle.hand_controls.specs.HeldInodes.{record_in}
 use Rattle.hand_controls.specs.LoadingHeld.{beside_lock}
 use Rattle.hand_controls.specs.Locating.{Leaves}
-use Rattle.hand_controls.specs.LockingInodes.{lock_left, lock_seat, HasLocked}
-use Rattle.hand_controls.specs.declared.lock_inode.LockInode.{LockInode}
+use Rattle.hand_controls.specs.LockingInodes.{HasLocked}
 use Rattle.hand_controls.proofs.Goings.{goes_to, goes_with}
 use Rattle.content_parts.specs.Searching.{search_left}
 use Rattle.content_parts.specs.declared.search.Search.{Search}
@@ -32,7 +31,7 @@ use Rattle.inode_parts.specs.Sides.{beside_in}
 use Rattle.inode_parts.specs.Takes.{looked, seen, IsTaken}
 use Rattle.inode_parts.specs.declared.note.Note.{Note}
 use Rattle.inode_parts.specs.declared.note.Notes.{Notes}
-use Rattle.inode_parts.proofs.Locking.{had_now, lock_on, lock_over, other_stays, second_stays}
+use Rattle.inode_parts.proofs.Locking.{had_now, lock_on, lock_over, other_stays}
 use Rattle.inode_parts.proofs.Sides.{alone_still}
 
 -- ---- while it is locked the reference stays

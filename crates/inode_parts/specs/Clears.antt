@@ -5,7 +5,6 @@ use Rattle.fs_layout.specs.declared.superblock.Super.{Super}
 use Rattle.atomic_programs.specs.Prog.{bind}
 use Rattle.directory.specs.Programs.{most_slots}
 use Rattle.hands.specs.declared.hand.Hand.{Hand}
-use Rattle.hands.specs.declared.hand.Seat.{Seat}
 use Rattle.hands.specs.declared.op.Op.{Op}
 use Rattle.hands.specs.Hands.{inode_at}
 use Rattle.content_parts.specs.Clearing.{clear_left, clear_asked, ClearReady}

@@ -12,7 +12,7 @@ use Rattle.directory.specs.declared.found.Found.{Found}
 use Rattle.hands.specs.declared.hand.Hand.{Hand}
 use Rattle.hands.specs.declared.hand.Seat.{Seat}
 use Rattle.hands.specs.declared.op.Op.{Op}
-use Rattle.hands.specs.Hands.{inode_at, number_at, reference_at}
+use Rattle.hands.specs.Hands.{inode_at, number_at}
 use Rattle.hand_controls.specs.Emptying.{HasNoBuffer}
 use Rattle.hand_controls.specs.HeldInodes.{number_in, record_in, IsLoadedAt}
 use Rattle.hand_controls.specs.LockingInodes.{lock_left, lock_asked, lock_seat, LockReady}

@@ -81,8 +81,7 @@ impl Lowered {
         let ask = self.call.ask();
         let path = self.call.text();
         let second = self.call.second();
-        self.part
-            .begin(ask, sizes, path, second, &self.notes, hand);
+        self.part.begin(ask, sizes, path, second, &self.notes, hand);
     }
 
     /// The reply of the call, once it has ended.

@@ -1,6 +1,6 @@
-use Rattle.std.proofs.Common.{◌≡◌, ◌⊎◌, rules, refl, sym, subst, ◌∙◌}
+use Rattle.std.proofs.Common.{rules, refl, sym, subst, ◌∙◌}
 use Rattle.std.specs.Prelude.{◌<◌, ◌^◌}
-use Rattle.inode_machine.specs.Inodes.{AtNothing, Query}
+use Rattle.inode_machine.specs.Inodes.{Query}
 use Rattle.inode_machine.specs.World.Op.{Take}
 use Rattle.inode_parts.specs.Carries.{carry_in}
 use Rattle.inode_parts.specs.Leaving.{having}

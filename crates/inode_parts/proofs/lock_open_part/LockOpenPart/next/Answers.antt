@@ -1,4 +1,4 @@
-use Rattle.std.proofs.Common.{Some, refl}
+use Rattle.std.proofs.Common.{refl}
 use Rattle.hand_controls.specs.HeldInodes.{record_in}
 use Rattle.hands.specs.Ops.{answer_in}
 use Rattle.hand_controls.specs.LockingFiles.{open_left, open_asked, open_seat}

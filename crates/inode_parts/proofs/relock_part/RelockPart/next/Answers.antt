@@ -1,8 +1,7 @@
-use Rattle.std.proofs.Common.{◌≡◌, ℕ, Some, None, refl, sym, subst, ◌∙◌}
+use Rattle.std.proofs.Common.{refl, sym, subst, ◌∙◌}
 use Rattle.atomic_programs.specs.Prog.{Ret, bind}
 use Rattle.hands.specs.Hands.{number_at, with_first}
 use Rattle.hands.specs.Ops.{IsAfter, answer_in}
-use Rattle.hands.specs.declared.hand.Hand.{Hand}
 use Rattle.hands.specs.declared.hand.Seat.{Seat}
 use Rattle.hand_controls.specs.HeldInodes.{record_in}
 use Rattle.hand_controls.specs.LockingInodes.{lock_left, lock_asked, lock_seat}
@@ -15,7 +14,7 @@ use Rattle.inode_parts.specs.Takes.{looked}
 use Rattle.inode_parts.specs.declared.relock_part.RelockPart.{RelockPart}
 use Rattle.inode_parts.proofs.Coming.{comes_on}
 use Rattle.inode_parts.proofs.Relocks.{came_alone, came_block, came_buffers, came_goes, came_number, came_some, relock_comes, relock_leaves}
-use Rattle.inode_parts.proofs.Taking.{alone_locked, is_taken, take_on, take_over}
+use Rattle.inode_parts.proofs.Taking.{is_taken, take_on, take_over}
 use Rattle.inode_parts.proofs.relock_part.RelockPart.next.Goals as goal
 
 pub held-requires : goal.held-requires
