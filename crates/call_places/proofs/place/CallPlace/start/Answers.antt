@@ -1,7 +1,5 @@
-use Rattle.std.proofs.Common.{◌≡◌, sym, subst}
+use Rattle.std.proofs.Common.{sym, subst}
 use Rattle.hand_controls.specs.Calling.{IsEmpty}
-use Rattle.hands.specs.declared.control.Machine.{Machine}
-use Rattle.hands.specs.declared.hand.Hand.{Hand}
 use Rattle.hands.proofs.Stepping.{bare-fits}
 use Rattle.call_places.specs.Machines.{Running, running_of}
 use Rattle.call_places.proofs.Places.{idle_is, nothing_fits}
