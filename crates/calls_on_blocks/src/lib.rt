@@ -2,8 +2,7 @@
 //! events makes of them. The functions do nothing: each carries a law.
 #![tactic(auto)]
 
-ghost use Rattle.fs_layout.specs.declared.superblock.Super.{Super};
-ghost use Rattle.calls_on_blocks.specs.Laws.{CallsAreLawful, CodeIsOfIt, ProgramsAreLowered};
+ghost use Rattle.calls_on_blocks.specs.Laws.{CallsAreLawful, CodeIsOfIt};
 ghost use Rattle.calls_on_blocks.specs.History.{MountsHaveOneHistory, OneHartHasOneHistory};
 
 /// Each call that is served is right on the blocks: whatever the other harts do and wherever the device fails, each of its
@@ -16,11 +15,6 @@ pub fn calls_are_lawful()
 /// What all harts share goes on as the theory says, and the code's premises are among its own.
 pub fn code_is_of_it()
     ensures { CodeIsOfIt }
-{}
-
-/// The programs that the code's machines run are the calls' programs over whole inodes, operation by operation.
-pub fn programs_are_lowered()
-    ensures { (sizes : Super) → ProgramsAreLowered sizes }
 {}
 
 /// The headline, of definitions: for every list of events of any harts on a mounted disk, with a device that fails at any moment or

@@ -1,9 +1,7 @@
-pub mod Staying
-pub mod Beginning
 pub mod Stepping
-pub mod Seats
 pub mod Mounted
 pub mod Refusals
+pub mod RightCalls
 pub mod Lasting
 pub mod Worlds
 pub mod Resting

@@ -16,9 +16,8 @@ use Rattle.atomic_programs.specs.Shown.{CameTo}
 use Rattle.atomic_programs.proofs.Reached.{came_none}
 use Rattle.fs_machine.specs.LogPart.{part_of}
 use Rattle.fs_machine.specs.Machines.{P}
-use Rattle.syscalls.specs.declared.running.Running.{Running}
-use Rattle.syscalls.specs.Machines.{running_of}
-use Rattle.call_parts.specs.OnPaths.{IsSized}
+use Rattle.syscalls.specs.Machines.{Running, running_of}
+use Rattle.inode_parts.specs.Sizes.{IsSized}
 use Rattle.plain_tree.specs.declared.answer.Reply.{Reply}
 use Rattle.inode_machine.specs.World as above
 use Rattle.inodes_on_blocks.specs.Mounted.{IsMountable, first_world, mounted, resting_log}

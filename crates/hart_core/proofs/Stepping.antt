@@ -1,32 +1,30 @@
 -- A call's step in its hart's place.
-use Rattle.std.proofs.Common.{◌≡◌, ◌≢◌, ◌<◌, ◌≤◌, ℕ, zero, suc, Bool, true, false, List, Option, Some, None, refl, sym, ◌∙◌, ap, subst, length, get_or, set, replicate, length-set, get_or-set_same, get_or-set_other}
+use Rattle.std.proofs.Common.{◌≡◌, ◌≢◌, ◌<◌, ◌≤◌, ℕ, zero, suc, Bool, true, false, List, [], ◌∷◌, Option, Some, None, refl, sym, ◌∙◌, ap, subst, length, get_or, set, replicate, length-set, get_or-set_same, get_or-set_other, arith}
 use Rattle.std.specs.Prelude.{nat_eq, slice_get}
 use Rattle.std.proofs.lemmas.Bool.{eqb-true, eqb-false}
 use Rattle.std.proofs.lemmas.List.{get_or_past, set-set}
 use Rattle.plain_tree.specs.declared.answer.Reply.{Reply}
 use Rattle.atomic_programs.specs.Prog.{Ret, Do, plain}
-use Rattle.atomic_programs.specs.Calls.{Start, Step, Started, WasIdle, DidWait, DidRun, DidEnd, DidStop}
-use Rattle.atomic_programs.specs.Plain.{HartMade, MayOf, PlainHonestStep, plain_makes, plain_step, hart_step, hart_moved, PlainHonest}
+use Rattle.atomic_programs.specs.Calls.{Start, Step, Started, WasIdle, DidRun}
+use Rattle.atomic_programs.specs.Plain.{PlainHonestStep, plain_makes, plain_step, hart_step, hart_moved, PlainHonest}
 use Rattle.atomic_programs.specs.Machines.{program_at}
 use Rattle.atomic_programs.specs.Tables.{plain_at}
-use Rattle.atomic_programs.specs.declared.machines.Stepped.{Stepped}
-use Rattle.atomic_programs.specs.declared.machines.Stepped.TheVariants.{Waits, Ran, Done, Stopped}
+use Rattle.atomic_programs.specs.declared.machines.Came.TheVariants.{Ran}
 use Rattle.atomic_programs.proofs.Advances.{hart_advances}
 use Rattle.atomic_programs.proofs.Tables.{start_gives}
 use Rattle.fs_machine.specs.declared.kind.Kind.{Kind}
+use Rattle.fs_machine.specs.declared.shared.Core.{Core}
 use Rattle.fs_machine.specs.LogPart.{Outside, Passes}
-use Rattle.fs_machine.specs.Steps.{State}
-use Rattle.fs_machine.specs.Machines.{P, Moves, said_in}
+use Rattle.fs_machine.specs.Steps.{State, state_of}
+use Rattle.fs_machine.specs.Machines.{P}
 use Rattle.fs_machine.specs.Tied.{LeavesTied}
-use Rattle.syscalls.specs.declared.running.Running.{Running}
-use Rattle.syscalls.specs.Machines.{running_of, RunningFits}
-use Rattle.call_parts.specs.Spent.{reply_in}
-use Rattle.call_parts.specs.declared.answered.Answered.{Answered}
+use Rattle.syscalls.specs.Machines.{Running, running_of, RunningFits}
+use Rattle.syscalls.specs.Places.{HasBegun, StepsAt}
+use Rattle.syscalls.proofs.HasOnes.{has_running}
+use Rattle.syscalls.proofs.Staying.{stays}
+use Rattle.hands.proofs.HasOnes.{HasOne}
 use Rattle.hart_core.specs.Blocks.{blocks, code}
 use Rattle.hart_core.specs.Harts.{HartFits, AllFit, AreHarts}
-use Rattle.hart_core.proofs.Beginning.{HasOne, has_running}
-use Rattle.hart_core.proofs.Staying.{stays}
-use Rattle.hart_core.specs.Begun.{HasBegun}
 use Rattle.calls_on_blocks.specs.Theory.{block_calls}
 use Rattle.plain_tree.specs.declared.call.Call.{Call}
 use Rattle.fs_layout.specs.declared.superblock.Super.{Super}
@@ -44,29 +42,25 @@ plain_same (Do op m k) = λ i. Do op (λ a. no_mark (m a) i) (λ a. plain_same (
 
 -- ---- a step
 
--- what a machine's step is to its hart
-abbrev pub made : Stepped Running Answered Kind → State → HartMade blocks code
-made (Waits m) t = record { came = DidWait; left = Some (running_of m); shared = t; stopped = false }
-made (Ran m kind) t = record { came = DidRun kind; left = Some (running_of m); shared = t; stopped = false }
-made (Done answered kind) t = record { came = DidEnd answered.reply; left = None; shared = t; stopped = false }
-made (Stopped m) t = record { came = DidStop; left = Some (running_of m); shared = t; stopped = true }
-
 moved_on : (p : P Reply) (kind : Kind) (t : State) → HasOne p → hart_moved blocks code false kind p t ≡ record { came = DidRun kind; left = Some p; shared = t; stopped = false }
 moved_on (Ret a) kind t has = absurd has
 moved_on (Do op m k) kind t has = refl
 
-module _ (h : ℕ) (self : Running) (s t : State) where
-  pub waited : (m : Running) → Moves running_of reply_in h self (Waits m) s t → running_of m ≡ running_of self → t ≡ s → hart_step blocks code h Passes s false (Some (running_of self)) ≡ made (Waits m) t
-  waited m moves is same = hart_advances blocks code h Passes s (running_of self) _ moves ∙ (λ i. record { came = DidWait; left = Some (sym is i); shared = sym same i; stopped = false })
+-- a call that goes on has an operation to make
+module _ {D : Type 0} (contents : D → List (List ℕ)) (failures : D → ℕ) (Called : D → D → Type 0) (h : ℕ) (old new : Core D) where
+  abbrev s : State
+  s = state_of contents failures old
 
-  pub ran : (m : Running) (kind : Kind) → Moves running_of reply_in h self (Ran m kind) s t → RunningFits h t m → hart_step blocks code h Passes s false (Some (running_of self)) ≡ made (Ran m kind) t
-  ran m kind moves fits = hart_advances blocks code h Passes s (running_of self) _ moves ∙ moved_on (running_of m) kind t (has_running h t m fits)
+  abbrev t : State
+  t = state_of contents failures new
 
-  pub ended : (answered : Answered) (kind : Kind) → Moves running_of reply_in h self (Done answered kind) s t → hart_step blocks code h Passes s false (Some (running_of self)) ≡ made (Done answered kind) t
-  ended answered kind moves = hart_advances blocks code h Passes s (running_of self) _ moves
-
-  pub broke : (m : Running) → Moves running_of reply_in h self (Stopped m) s t → running_of m ≡ running_of self → hart_step blocks code h (said_in {M = Running} {R = Answered} (Stopped m) t) s false (Some (running_of self)) ≡ made (Stopped m) t
-  broke m moves is = hart_advances blocks code h (said_in {M = Running} {R = Answered} (Stopped m) t) s (running_of self) _ moves ∙ (λ i. record { came = DidStop; left = Some (sym is i); shared = t; stopped = true })
+  pub ran : (kind : Kind) (o p : Option Running) → StepsAt contents failures Called h o p (Ran kind) old new
+      → hart_step blocks code h Passes s false (program_at running_of o) ≡ record { came = DidRun kind; left = program_at running_of p; shared = t; stopped = false }
+  ran kind None p steps = absurd steps
+  ran kind (Some m) p steps =
+      hart_advances blocks code h Passes s (running_of m) _ steps.2.moves
+      ∙ moved_on (running_of steps.0) kind t (has_running h t steps.0 steps.2.fits)
+      ∙ (λ i. record { came = DidRun kind; left = program_at running_of (sym steps.1 i); shared = t; stopped = false })
 
 -- ---- the table
 
@@ -88,6 +82,12 @@ all_set h s t calls two left room is leaves all mine = record {
     each k false e =
         subst (HartFits t k) (sym (get_or-set_other calls h k left None (eqb-false k h e)))
         (place_stays k h s t (get_or calls k None) (eqb-false k h e) leaves (all.fits k))
+
+-- what a hart does
+pub is_at : {A : Type 0} (list : List (Option A)) (h : ℕ) → h < length list → slice_get list h ≡ Some (get_or list h None)
+is_at [] h lt = absurd (omega (arith, lt))
+is_at (m ∷ ms) zero lt = refl
+is_at (m ∷ ms) (suc h) lt = is_at ms h (omega (arith, lt))
 
 -- nothing is in any place
 pub none_of : {A : Type 0} (n h : ℕ) → ◌≡◌ {A = Option A} (get_or (replicate n None) h None) None
@@ -121,6 +121,11 @@ module _ (h : ℕ) (x : Outside) (s : State) (b : Bool) (calls : List (Option Ru
 
   pub honest_past : PlainHonest blocks code (Step h x) (plain_at blocks code running_of s b calls)
   honest_past = subst (λ (o : Option Running). PlainHonestStep blocks code h x s b (program_at running_of o)) (sym nobody) (none_asked b)
+
+-- what has begun has nothing in hand, so it goes with any state
+pub begun_fits : (sizes : Super) (call : Call) (place : Option Running) (h : ℕ) (s : State) → HasBegun sizes call place → HartFits s h place
+begun_fits sizes call None h s has = absurd has
+begun_fits sizes call (Some m) h s has = has.1 h s
 
 -- a call is begun
 pub begun : (h : ℕ) (s : State) (b : Bool) (calls two : List (Option Running)) (call : Running) → slice_get calls h ≡ Some None → two ≡ set calls h (Some call)

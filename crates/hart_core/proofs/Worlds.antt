@@ -17,8 +17,7 @@ use Rattle.fs_machine.specs.LogPart.{Outside, Passes}
 use Rattle.fs_machine.specs.Machines.{P}
 use Rattle.fs_machine.specs.Steps as steps
 use Rattle.fs_machine.specs.Steps.{State, Op}
-use Rattle.syscalls.specs.declared.running.Running.{Running}
-use Rattle.syscalls.specs.Machines.{running_of}
+use Rattle.syscalls.specs.Machines.{Running, running_of}
 use Rattle.inode_machine.specs.Theory as calls
 use Rattle.inode_machine.proofs.Frame.{put_elim}
 use Rattle.calls_on_blocks.specs.Layer.{SharedState}

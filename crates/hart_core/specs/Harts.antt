@@ -1,5 +1,5 @@
 -- What harts' machines over all that they share stand for.
-use Rattle.std.specs.Prelude.{◌≡◌, ◌<◌, ℕ, Bool, List, [], length, Option, Some, None, IsSome, get_or, is_some, replicate, slice_set}
+use Rattle.std.specs.Prelude.{◌≡◌, ℕ, Bool, List, length, Option, Some, None, IsSome, get_or, is_some, replicate}
 use Rattle.buffer_cache.specs.Limits.{hart_count}
 use Rattle.plain_tree.specs.declared.answer.Reply.{Reply}
 use Rattle.atomic_programs.specs.Calls.{Outcome as OutcomeOf, WasIdle, DidWait, DidRun, DidEnd, DidStop, WasStopped}
@@ -8,9 +8,7 @@ use Rattle.fs_machine.specs.declared.kind.Kind.{Kind}
 use Rattle.fs_machine.specs.declared.shared.Core.{Core}
 use Rattle.fs_machine.specs.LogPart.{Outside, Passes, Fails}
 use Rattle.fs_machine.specs.Steps.{State, state_of}
-use Rattle.call_parts.specs.declared.answered.Answered.{Answered}
-use Rattle.syscalls.specs.declared.running.Running.{Running}
-use Rattle.syscalls.specs.Machines.{running_of, RunningFits}
+use Rattle.syscalls.specs.Machines.{Running, running_of, RunningFits}
 use Rattle.hart_core.specs.declared.outcome.Outcome.{Outcome}
 use Rattle.hart_core.specs.declared.outcome.Outcome.TheVariants as outcome
 use Rattle.hart_core.specs.declared.outcome.Stop.TheVariants as stop
@@ -65,34 +63,9 @@ pub record AreHarts (s : State) (calls : List (Option Running)) : Type 0 where
   pub long : length calls ≡ hart_count
   pub fits : AllFit s calls
 
--- ---- the lists for references to inodes that calls are to free
-
--- of each hart its call, and its list while it has none
-pub record CallsOf : Type 0 where
-  pub calls : List (Option Running)
-  pub lists : List (Option (List ℕ))
-
--- the list that a call hands back
-abbrev pub list_in : Answered → List ℕ
-list_in a = a.list
-
--- a list to be given to a call
-abbrev pub IsSpare : Option (List ℕ) → Type 0
-IsSpare None = ⊥
-IsSpare (Some list) = list ≡ []
-
-abbrev pub SeatFits : Option Running → Option (List ℕ) → Type 0
-SeatFits None list = IsSpare list
-SeatFits (Some m) list = list ≡ None
-
--- a hart has a list just while it has no call
-pub record HaveLists (c : CallsOf) : Type 0 where
-  pub long : length c.lists ≡ hart_count
-  pub each : (h : ℕ) → h < hart_count → SeatFits (get_or c.calls h None) (get_or c.lists h None)
-
-pub record AreIdle (c : CallsOf) : Type 0 where
-  pub calls : c.calls ≡ replicate hart_count None
-  pub lists : c.lists ≡ replicate hart_count (Some [])
+-- no hart has a call
+abbrev pub AreIdle : List (Option Running) → Type 0
+AreIdle calls = calls ≡ replicate hart_count None
 
 -- which harts have a call, and whom each one's last one reserves
 abbrev pub busy_in : List (Option Running) → ℕ → Bool

@@ -2,7 +2,6 @@ pub mod Blocks
 pub mod Harts
 pub mod Mounting
 pub mod Starts
-pub mod Begun
 pub mod Worlds
 pub mod Events
 pub mod Runs

@@ -11,7 +11,7 @@ use Rattle.atomic_programs.specs.Tables.{plain_at}
 use Rattle.fs_machine.specs.declared.kind.Kind.{Kind}
 use Rattle.fs_machine.specs.LogPart.{Outside}
 use Rattle.syscalls.specs.Machines.{running_of}
-use Rattle.call_parts.specs.OnPaths.{IsSized}
+use Rattle.inode_parts.specs.Sizes.{IsSized}
 use Rattle.inode_machine.specs.Theory.{Refusal}
 use Rattle.inodes_on_blocks.specs.Mounted.{IsMountable}
 use Rattle.calls_on_blocks.specs.History.{first}

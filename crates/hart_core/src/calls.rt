@@ -1,59 +1,49 @@
 // The calls that eight harts have under way.
-ghost use Rattle.std.specs.Prelude.{◌≡◌, ◌<◌, [], ◌∷◌, false, Some, None, IfOk, get_or, is_some, replicate, slice_get, slice_set};
+ghost use Rattle.std.specs.Prelude.{◌≡◌, ◌<◌, [], ◌∷◌, false, None, IfOk, get_or, is_some, replicate, slice_set};
 ghost use Rattle.atomic_programs.specs.Plain.{PlainHonestStep, MayOf, hart_step};
 ghost use Rattle.atomic_programs.specs.Machines.{program_at};
 ghost use Rattle.fs_machine.specs.Steps.{state_of};
 ghost use Rattle.fs_machine.specs.Machines.{CallsOnce};
 ghost use Rattle.fs_machine.specs.Tied.{LeavesTied};
+ghost use Rattle.inode_parts.specs.Sizes.{IsSized};
 ghost use Rattle.syscalls.specs.Machines.{running_of};
-ghost use Rattle.call_parts.specs.OnPaths.{IsSized};
-ghost use Rattle.hart_core.specs.Begun.{HasBegun};
+ghost use Rattle.syscalls.specs.Places.{HasBegun};
+ghost use Rattle.whole_calls.specs.Wholes.{IsCall};
 ghost use Rattle.hart_core.specs.Blocks.{blocks, code};
-ghost use Rattle.hart_core.specs.Starts.{fault_of};
-ghost use Rattle.hart_core.specs.Harts.{outcome_of, outcome_with, said, AreIdle, HartFits, HaveLists, IsTold};
+ghost use Rattle.hart_core.specs.Harts.{outcome_of, outcome_with, said, AreIdle, HartFits, IsTold};
 
-use crate::beginnings::begin;
 use crate::in_place::step;
 use crate::outcome::Told;
 use block_device::Device;
 use buffer_cache::HARTS;
-use call_parts::Answered;
 use fs_layout::Super;
 use fs_machine::{Core, RetiredCore};
-use fs_tables::Listed;
 use plain_tree::{Call, Reply};
-use std::alloc::{AllocError, AllocFailed, Global};
+use std::alloc::{AllocError, Global};
 use std::marker::Model;
-use std::mem;
-use syscalls::Running;
+use syscalls::CallPlace;
 
-/// The calls that eight harts have under way, in memory of their own, so that whoever has them moves no more than where they are; and
-/// the lists of the harts without one, which their next calls are given. A contract sees what each hart does, and its list.
+/// The calls that eight harts have under way, each in its hart's place. A contract sees what each hart does.
 pub struct Calls {
-    under_way: Box<[Option<Running>; 8]>,
-    lists: [Option<Listed>; 8],
-    // A call leaves here what it hands back. It is taken from here in the same step.
-    answered: Option<Answered>,
+    places: [CallPlace; 8],
 }
 
 impl Model for Calls {
-    ghost use Rattle.std.specs.Prelude.{◌≡◌, None};
-    ghost use Rattle.hart_core.specs.Harts.{CallsOf};
+    ghost use Rattle.std.specs.Prelude.{List, Option};
+    ghost use Rattle.syscalls.specs.Machines.{Running};
 
-    ghost Value = { CallsOf };
+    ghost Value = { List (Option Running) };
 
-    ghost view = { λ c. record { calls = c.under_way.value; lists = c.lists } };
-
-    ghost invariant = { λ c. c.answered ≡ None };
+    ghost view = { λ c. c.places };
 }
 
-// Two empty lists.
-fn two_lists(alloc: Global) -> Result<(Listed, Listed), AllocError>
-    ensures { IfOk result (λ two. (two.0 ≡ []) × (two.1 ≡ [])) }
+// Two idle places.
+fn two_places(alloc: Global) -> Result<[CallPlace; 2], AllocError>
+    ensures { IfOk result (λ two. two ≡ None ∷ None ∷ []) }
 {
-    let one = Listed::new(alloc)?;
-    match Listed::new(alloc) {
-        Ok(other) => Ok((one, other)),
+    let one = CallPlace::idle(alloc)?;
+    match CallPlace::idle(alloc) {
+        Ok(other) => Ok([one, other]),
         Err(failed) => {
             one.end();
             Err(failed)
@@ -61,13 +51,16 @@ fn two_lists(alloc: Global) -> Result<(Listed, Listed), AllocError>
     }
 }
 
-// Four empty lists.
-fn four_lists(alloc: Global) -> Result<[Listed; 4], AllocError>
-    ensures { IfOk result (λ four. four ≡ [] ∷ [] ∷ [] ∷ [] ∷ []) }
+// Four idle places.
+fn four_places(alloc: Global) -> Result<[CallPlace; 4], AllocError>
+    ensures { IfOk result (λ four. four ≡ None ∷ None ∷ None ∷ None ∷ []) }
 {
-    let (a, b) = two_lists(alloc)?;
-    match two_lists(alloc) {
-        Ok((c, d)) => Ok([a, b, c, d]),
+    let [a, b] = two_places(alloc)?;
+    match two_places(alloc) {
+        Ok(others) => {
+            let [c, d] = others;
+            Ok([a, b, c, d])
+        }
         Err(failed) => {
             a.end();
             b.end();
@@ -76,62 +69,40 @@ fn four_lists(alloc: Global) -> Result<[Listed; 4], AllocError>
     }
 }
 
-// Ends empty lists.
-fn end_four(lists: [Listed; 4])
-    requires { lists ≡ [] ∷ [] ∷ [] ∷ [] ∷ [] }
+// Eight places, by four and four.
+fn eight_places(first: [CallPlace; 4], others: [CallPlace; 4]) -> [CallPlace; 8]
+    requires { (first ≡ None ∷ None ∷ None ∷ None ∷ []) × (others ≡ None ∷ None ∷ None ∷ None ∷ []) }
+    ensures { result ≡ replicate HARTS None }
 {
-    let [a, b, c, d] = lists;
+    let [a, b, c, d] = first;
+    let [e, f, g, h] = others;
+    [a, b, c, d, e, f, g, h]
+}
+
+// Ends idle places.
+fn end_four(places: [CallPlace; 4])
+    requires { places ≡ None ∷ None ∷ None ∷ None ∷ [] }
+{
+    let [a, b, c, d] = places;
     a.end();
     b.end();
     c.end();
     d.end();
 }
 
-// An empty list for each hart.
-fn eight_lists(alloc: Global) -> Result<[Option<Listed>; 8], AllocError>
-    ensures { IfOk result (λ eight. eight ≡ replicate HARTS (Some [])) }
-{
-    let first = four_lists(alloc)?;
-    match four_lists(alloc) {
-        Ok(others) => {
-            let [a, b, c, d] = first;
-            let [e, f, g, h] = others;
-            Ok([
-                Some(a),
-                Some(b),
-                Some(c),
-                Some(d),
-                Some(e),
-                Some(f),
-                Some(g),
-                Some(h),
-            ])
-        }
-        Err(failed) => {
-            end_four(first);
-            Err(failed)
-        }
-    }
-}
-
 impl Calls {
-    /// Eight harts that do nothing.
+    /// Eight harts that do nothing, and all the memory that their calls will take.
     pub fn idle(alloc: Global) -> Result<Calls, AllocError>
         ensures { IfOk result AreIdle }
     {
-        let lists = eight_lists(alloc)?;
-        let none = [None, None, None, None, None, None, None, None];
-        match Box::new(alloc, none) {
-            Ok(under_way) => Ok(Calls {
-                under_way,
-                lists,
-                answered: None,
+        let first = four_places(alloc)?;
+        match four_places(alloc) {
+            Ok(others) => Ok(Calls {
+                places: eight_places(first, others),
             }),
             Err(failed) => {
-                let AllocFailed { value: none } = failed;
-                end_idle(none);
-                end_lists(lists);
-                Err(AllocError)
+                end_four(first);
+                Err(failed)
             }
         }
     }
@@ -139,13 +110,13 @@ impl Calls {
     /// Whether a hart has a call.
     pub fn is_busy(&self, hart: u8) -> bool
         requires { hart < HARTS }
-        ensures { result ≡ is_some (get_or self.now.calls hart None) }
+        ensures { result ≡ is_some (get_or self.now hart None) }
     {
-        self.under_way[hart as usize].is_some()
+        self.places[hart as usize].is_busy()
     }
 
-    /// One operation of a hart's call in its place, unless the world has stopped. A call that has replied leaves its place, hands its
-    /// hart's list back, and has its reply stand in a place of its own.
+    /// One operation of a hart's call in its place, unless the world has stopped. A call that has replied leaves its place idle, and its
+    /// reply stands in a place of its own.
     #[inline(always)]
     pub fn step<D: Device>(
         &mut self,
@@ -155,29 +126,20 @@ impl Calls {
         stopped: &mut bool,
     ) -> Told
         requires eight { hart < HARTS }
-        requires may { stopped.old ≡ false → MayOf blocks code hart (state_of D.contents D.failures core.old) (program_at running_of (get_or self.old.calls hart None)) }
-        requires fits { HartFits (state_of D.contents D.failures core.old) hart (get_or self.old.calls hart None) }
-        requires seat { HaveLists self.old }
+        requires may { stopped.old ≡ false → MayOf blocks code hart (state_of D.contents D.failures core.old) (program_at running_of (get_or self.old hart None)) }
+        requires fits { HartFits (state_of D.contents D.failures core.old) hart (get_or self.old hart None) }
         requires none { replied.old ≡ None }
-        ensures makes { hart_step blocks code hart (said (outcome_with result replied.new) (state_of D.contents D.failures core.new)) (state_of D.contents D.failures core.old) stopped.old (program_at running_of (get_or self.old.calls hart None))
-            ≡ record { came = outcome_of (outcome_with result replied.new); left = program_at running_of (get_or self.new.calls hart None); shared = state_of D.contents D.failures core.new; stopped = stopped.new } }
-        ensures honest { PlainHonestStep blocks code hart (said (outcome_with result replied.new) (state_of D.contents D.failures core.new)) (state_of D.contents D.failures core.old) stopped.old (program_at running_of (get_or self.old.calls hart None)) }
-        ensures fits { HartFits (state_of D.contents D.failures core.new) hart (get_or self.new.calls hart None) }
-        ensures kept { self.new.calls ≡ slice_set self.old.calls hart (get_or self.new.calls hart None) }
-        ensures seat { HaveLists self.new }
+        ensures makes { hart_step blocks code hart (said (outcome_with result replied.new) (state_of D.contents D.failures core.new)) (state_of D.contents D.failures core.old) stopped.old (program_at running_of (get_or self.old hart None))
+            ≡ record { came = outcome_of (outcome_with result replied.new); left = program_at running_of (get_or self.new hart None); shared = state_of D.contents D.failures core.new; stopped = stopped.new } }
+        ensures honest { PlainHonestStep blocks code hart (said (outcome_with result replied.new) (state_of D.contents D.failures core.new)) (state_of D.contents D.failures core.old) stopped.old (program_at running_of (get_or self.old hart None)) }
+        ensures fits { HartFits (state_of D.contents D.failures core.new) hart (get_or self.new hart None) }
+        ensures kept { self.new ≡ slice_set self.old hart (get_or self.new hart None) }
         ensures told { IsTold result replied.new }
         ensures others { LeavesTied hart (state_of D.contents D.failures core.old) (state_of D.contents D.failures core.new) }
         ensures called { CallsOnce D.Called core.old.log.cache.device core.new.log.cache.device }
     {
-        let Calls {
-            under_way,
-            lists,
-            answered,
-        } = self;
         step(
-            &mut under_way[hart as usize],
-            &mut lists[hart as usize],
-            answered,
+            &mut self.places[hart as usize],
             replied,
             hart,
             core,
@@ -185,148 +147,52 @@ impl Calls {
         )
     }
 
-    /// Has an idle hart begin a call, on a disk of these sizes, with its list.
+    /// Has an idle hart begin a call, on a disk of these sizes.
     #[inline(always)]
     pub fn begin(&mut self, hart: u8, sizes: &Super, call: Call)
         requires eight { hart < HARTS }
-        requires idle { get_or self.old.calls hart None ≡ None }
-        requires faultless { fault_of call ≡ None }
+        requires idle { get_or self.old hart None ≡ None }
+        requires call { IsCall call }
         requires sized { IsSized sizes.now }
-        requires seat { HaveLists self.old }
-        ensures begun { HasBegun sizes.now call (get_or self.new.calls hart None) }
-        ensures kept { self.new.calls ≡ slice_set self.old.calls hart (get_or self.new.calls hart None) }
-        ensures seat { HaveLists self.new }
+        ensures begun { HasBegun sizes.now call (get_or self.new hart None) }
+        ensures kept { self.new ≡ slice_set self.old hart (get_or self.new hart None) }
     {
-        match mem::replace(&mut self.lists[hart as usize], None) {
-            None => unreachable!(),
-            Some(list) => begin(&mut self.under_way[hart as usize], sizes, call, list),
-        }
+        self.places[hart as usize].start(sizes, call);
     }
 
     /// Ends those of idle harts.
     pub fn end(self)
         requires { AreIdle self }
     {
-        let Calls {
-            under_way,
-            lists,
-            answered,
-        } = self;
-        end_idle(Box::into_inner(under_way));
-        end_lists(lists);
-        end_answered(answered);
+        let Calls { places } = self;
+        end_eight(places);
     }
 
     /// Ends them in mid-call, after all that harts share has ended.
     pub fn retire(self, retired: &RetiredCore) {
-        let Calls {
-            under_way,
-            lists,
-            answered,
-        } = self;
-        retire_all(Box::into_inner(under_way), retired);
-        retire_lists(lists, retired);
-        end_answered(answered);
+        let Calls { places } = self;
+        retire_eight(places, retired);
     }
 }
+
+// Ends what idle harts have.
+fn end_eight(places: [CallPlace; 8])
+    requires { places ≡ replicate HARTS None }
+{
+    let [a, b, c, d, e, f, g, h] = places;
+    end_four([a, b, c, d]);
+    end_four([e, f, g, h]);
+}
+
 // Ends what harts do.
-fn retire_all(calls: [Option<Running>; 8], retired: &RetiredCore) {
-    let [a, b, c, d, e, f, g, h] = calls;
-    retire(a, retired);
-    retire(b, retired);
-    retire(c, retired);
-    retire(d, retired);
-    retire(e, retired);
-    retire(f, retired);
-    retire(g, retired);
-    retire(h, retired);
-}
-
-// Ends what a hart does.
-fn retire(doing: Option<Running>, retired: &RetiredCore) {
-    match doing {
-        None => {}
-        Some(call) => call.retire(retired),
-    }
-}
-
-// Ends what an idle hart does.
-fn end(doing: Option<Running>)
-    requires { doing ≡ None }
-{
-    match doing {
-        None => {}
-        Some(_call) => unreachable!(),
-    }
-}
-
-// Ends what idle harts do.
-fn end_idle(calls: [Option<Running>; 8])
-    requires { calls ≡ replicate HARTS None }
-{
-    let [a, b, c, d, e, f, g, h] = calls;
-    end(a);
-    end(b);
-    end(c);
-    end(d);
-    end(e);
-    end(f);
-    end(g);
-    end(h);
-}
-
-// Nothing stands where a call leaves what it hands back.
-fn end_answered(answered: Option<Answered>)
-    requires { answered ≡ None }
-{
-    match answered {
-        None => {}
-        Some(_) => unreachable!(),
-    }
-}
-
-// Ends a list.
-fn end_list(list: Option<Listed>)
-    requires { list ≡ Some [] }
-{
-    match list {
-        None => unreachable!(),
-        Some(list) => list.end(),
-    }
-}
-
-// Ends the lists of idle harts.
-fn end_lists(lists: [Option<Listed>; 8])
-    requires { lists ≡ replicate HARTS (Some []) }
-{
-    let [a, b, c, d, e, f, g, h] = lists;
-    end_list(a);
-    end_list(b);
-    end_list(c);
-    end_list(d);
-    end_list(e);
-    end_list(f);
-    end_list(g);
-    end_list(h);
-}
-
-// Ends a list in mid-call.
-fn retire_list(list: Option<Listed>, retired: &RetiredCore) {
-    match list {
-        None => {}
-        Some(list) => list.retire(&retired.inodes),
-    }
-}
-
-// Ends lists in mid-call.
-fn retire_lists(lists: [Option<Listed>; 8], retired: &RetiredCore) {
-    let [a, b, c, d, e, f, g, h] = lists;
-    retire_list(a, retired);
-    retire_list(b, retired);
-    retire_list(c, retired);
-    retire_list(d, retired);
-    retire_list(e, retired);
-    retire_list(f, retired);
-    retire_list(g, retired);
-    retire_list(h, retired);
+fn retire_eight(places: [CallPlace; 8], retired: &RetiredCore) {
+    let [a, b, c, d, e, f, g, h] = places;
+    a.retire(retired);
+    b.retire(retired);
+    c.retire(retired);
+    d.retire(retired);
+    e.retire(retired);
+    f.retire(retired);
+    g.retire(retired);
+    h.retire(retired);
 }

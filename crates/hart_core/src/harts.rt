@@ -9,7 +9,7 @@ ghost use Rattle.inode_machine.specs.Exec.{is_at};
 ghost use Rattle.calls_on_blocks.specs.Theory.{block_calls, has_file, reserved};
 ghost use Rattle.hart_core.specs.Harts.{outcome_of, outcome_with, said, IsTold, shared_of, programs_of, busy_in, children_in, AreIdle};
 ghost use Rattle.hart_core.specs.Starts.{fault_of};
-ghost use Rattle.call_parts.specs.OnPaths.{IsSized};
+ghost use Rattle.inode_parts.specs.Sizes.{IsSized};
 ghost use Rattle.atomic_programs.specs.Prog.{plain};
 
 use crate::calls::Calls;
@@ -46,13 +46,13 @@ pub struct Harts<D: Device> {
 
 impl<D: Device> Model for Harts<D> {
     ghost use Rattle.fs_machine.specs.Steps.{state_of as shared_state};
-    ghost use Rattle.hart_core.specs.Harts.{HartsOf, AreHarts, HaveLists};
+    ghost use Rattle.hart_core.specs.Harts.{HartsOf, AreHarts};
 
     ghost Value = { HartsOf D };
 
-    ghost view = { λ w. record { core = w.core; stopped = w.stopped; children = w.children; calls = w.calls.calls } };
+    ghost view = { λ w. record { core = w.core; stopped = w.stopped; children = w.children; calls = w.calls } };
 
-    ghost invariant = { λ w. AreHarts (shared_state D.contents D.failures w.core) w.calls.calls × HaveLists w.calls };
+    ghost invariant = { λ w. AreHarts (shared_state D.contents D.failures w.core) w.calls };
 }
 
 impl<D: Device> Harts<D> {

@@ -7,7 +7,6 @@
 //! events show of calls.
 #![tactic(auto)]
 
-mod beginnings;
 mod calls;
 mod events;
 mod harts;

@@ -25,7 +25,6 @@ use Rattle.calls_on_blocks.specs.History.{first}
 use Rattle.calls_on_blocks.specs.Layer.{SharedState, layer, exec_shared}
 use Rattle.inodes_on_blocks.specs.Programs.{handlers}
 use Rattle.calls_on_blocks.specs.Theory.{served_calls, child_of, begin_in, block_calls, block_code}
-use Rattle.calls_on_blocks.proofs.Bridges.{programs_are_lowered}
 use Rattle.calls_on_blocks.proofs.History.{first_holds, first_idle}
 use Rattle.calls_on_blocks.proofs.Lawful.{is_code, lawful}
 use Rattle.calls_on_blocks.proofs.Starting.{begun_here, below_count}
@@ -122,7 +121,7 @@ other_hands_back sizes call e =
 -- every call's program on the blocks hands the call back
 hands_back : (sizes : Super) (call : Call) → EndsWith (HandsIt call) (plain ((block_calls sizes).program call))
 hands_back sizes (calls.Open path flags) = other_hands_back sizes (calls.Open path flags) refl
-hands_back sizes (calls.Read fd buffer) = subst (EndsWith (HandsIt (calls.Read fd buffer))) (sym ((programs_are_lowered sizes).read fd buffer)) (read_hands_back sizes.inodestart fd buffer)
+hands_back sizes (calls.Read fd buffer) = read_hands_back sizes fd buffer (layer sizes).none
 hands_back sizes (calls.Write fd bytes) = other_hands_back sizes (calls.Write fd bytes) refl
 hands_back sizes (calls.Link old new) = other_hands_back sizes (calls.Link old new) refl
 hands_back sizes (calls.Unlink path) = other_hands_back sizes (calls.Unlink path) refl

@@ -4,8 +4,7 @@ use Rattle.fs_layout.specs.Recovered.{sizes_of}
 use Rattle.block_device.specs.Fuse.{Fuse}
 use Rattle.plain_tree.specs.declared.call.Call.{Call}
 use Rattle.atomic_programs.specs.Machines.{program_at}
-use Rattle.syscalls.specs.declared.running.Running.{Running}
-use Rattle.syscalls.specs.Machines.{running_of}
+use Rattle.syscalls.specs.Machines.{Running, running_of}
 use Rattle.hart_core.specs.declared.events.Event.{Event}
 use Rattle.hart_core.specs.declared.events.Came.{Came}
 use Rattle.hart_core.specs.Mounting.{Rests}

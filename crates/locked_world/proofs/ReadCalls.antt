@@ -1,29 +1,46 @@
 -- A read hands back a buffer of the length that it was given.
-use Rattle.std.proofs.Common.{◌≡◌, ℕ, zero, suc, ◌+◌, ◌-◌, ◌*◌, ◌/◌, ◌%◌, ◌<◌, ◌≤◌, min, List, length, take, drop, replicate, Option, Some, None, refl, sym, ap, ◌∙◌, subst, arith, length-append, length-drop, length-take}
+use Rattle.std.proofs.Common.{◌≡◌, ℕ, zero, suc, ◌+◌, ◌-◌, ◌*◌, ◌/◌, ◌%◌, ◌≤◌, min, List, [], ◌++◌, length, take, drop, replicate, Option, Some, None, refl, ap, arith, length-append, length-drop, length-take}
 use Rattle.fs_layout.specs.Bytes.{overwrite}
 use Rattle.fs_layout.specs.declared.inode.Dinode.{Dinode}
-use Rattle.fs_layout.specs.Indirect.{numbers_in}
+use Rattle.fs_layout.specs.declared.superblock.Super.{Super}
 use Rattle.plain_tree.specs.declared.call.Call.TheVariants.{Read}
 use Rattle.plain_tree.specs.declared.answer.Reply.{Reply}
-use Rattle.atomic_programs.specs.Prog.{Ret, Do, bind}
-use Rattle.fs_tables.specs.declared.files.Want.TheVariants as want
-use Rattle.fs_machine.specs.Machines.{P}
+use Rattle.plain_tree.specs.declared.step.Action.TheVariants as actions
+use Rattle.atomic_programs.specs.Joined.{ActOf, Handover, lowered}
+use Rattle.atomic_programs.specs.Prog.{Prog, Ret, Do, bind, plain}
+use Rattle.fs_tables.specs.Inodes.{LockedState, Refuses, Locks}
 use Rattle.fs_machine.specs.Programs.{fetch, read_unless}
-use Rattle.fs_machine.specs.Steps.{Answer}
-use Rattle.inode_table.specs.Programs.{record_of}
+use Rattle.fs_machine.specs.Steps.{Op, Answer, Get}
 use Rattle.inode_data.specs.declared.addresses.Address.{Address}
 use Rattle.inode_data.specs.declared.addresses.Address.TheVariants.{Direct, InTable}
 use Rattle.inode_data.specs.Addresses.{address, table_of}
 use Rattle.inode_data.specs.Programs.{FetchedBlock, FilledMemory, filled_with, give_fetched, fetch_number, fetch_named, fetch_at, fetch_block, next_block, blocks_between, part_of, read_part, read_blocks, end_of, read_from}
-use Rattle.file_table.specs.Programs.{FileState, Denies, Loads, load_file}
-use Rattle.descriptor_calls.specs.Programs.{read_program, read_on, give_read}
+use Rattle.inode_machine.specs.Descriptors.{read_on, read_program, read_reply}
+use Rattle.inode_machine.specs.Parts.{own_step, say}
+use Rattle.inode_machine.specs.Rules.{machine}
+use Rattle.inode_machine.specs.World.{LockResult, NotLocked, LocksIt}
+use Rattle.inode_table.specs.Programs.{load_unless}
+use Rattle.inodes_on_blocks.specs.Files.{file_locked, give_read, read_file, with_file}
+use Rattle.inodes_on_blocks.specs.Lowering.{Carry}
+use Rattle.inodes_on_blocks.specs.Programs.{handlers}
+use Rattle.inodes_on_blocks.specs.Storing.{record_in}
+use Rattle.calls_on_blocks.specs.Layer.{layer}
 use Rattle.locked_world.specs.HandedBack.{HandsBack, FitsBlock, EndsWith}
 
-ends_bind : {A B : Type 0} (Is : B → Type 0) (Mid : A → Type 0) (p : P A) (f : A → P B) → EndsWith Mid p → ((a : A) → Mid a → EndsWith Is (f a)) → EndsWith Is (bind p f)
+-- wherever a program with marks ends
+abbrev pub Ends : {M A : Type 0} → (A → Type 0) → Prog Op Answer M A → Type 0
+Ends Is (Ret a) = Is a
+Ends Is (Do op m k) = (a : Answer op) → FitsBlock op a → Ends Is (k a)
+
+pub ends_plain : {M A : Type 0} (Is : A → Type 0) (p : Prog Op Answer M A) → Ends Is p → EndsWith Is (plain p)
+ends_plain Is (Ret a) e = e
+ends_plain Is (Do op m k) e = λ a fits. ends_plain Is (k a) (e a fits)
+
+ends_bind : {M A B : Type 0} (Is : B → Type 0) (Mid : A → Type 0) (p : Prog Op Answer M A) (f : A → Prog Op Answer M B) → Ends Mid p → ((a : A) → Mid a → Ends Is (f a)) → Ends Is (bind p f)
 ends_bind Is Mid (Ret a) f e g = g a e
 ends_bind Is Mid (Do op m k) f e g = λ a fits. ends_bind Is Mid (k a) f (e a fits) g
 
-ends_any : {A : Type 0} (p : P A) → EndsWith (λ a. Unit {0}) p
+ends_any : {M A : Type 0} (p : Prog Op Answer M A) → Ends (λ a. Unit {0}) p
 ends_any (Ret a) = tt
 ends_any (Do op m k) = λ a fits. ends_any (k a)
 
@@ -32,25 +49,29 @@ ends_any (Do op m k) = λ a fits. ends_any (k a)
 abbrev IsShort : FetchedBlock → Type 0
 IsShort f = length f.bytes ≤ 1024
 
-fetched_short : (b : ℕ) → EndsWith (λ (bytes : List ℕ). length bytes ≤ 1024) (fetch b)
+-- as an operation on whole inodes is marked
+abbrev M : Type 0
+M = ActOf machine
+
+fetched_short : (b : ℕ) → Ends {M = M} (λ (bytes : List ℕ). length bytes ≤ 1024) (fetch b)
 fetched_short b = λ o fits. by o fits
   where
-    by : (o : Option (List ℕ)) → FitsBlock (Rattle.fs_machine.specs.Steps.Get b) o → EndsWith (λ (bytes : List ℕ). length bytes ≤ 1024) (read_unless b o)
+    by : (o : Option (List ℕ)) → FitsBlock (Get b) o → Ends {M = M} (λ (bytes : List ℕ). length bytes ≤ 1024) (read_unless b o)
     by None fits = λ bytes short. short
     by (Some bytes) fits = fits
 
-number_short : (b : ℕ) → EndsWith IsShort (fetch_number b)
+number_short : (b : ℕ) → Ends {M = M} IsShort (fetch_number b)
 number_short b = ends_bind IsShort (λ (bytes : List ℕ). length bytes ≤ 1024) (fetch b) (give_fetched b) (fetched_short b) (λ bytes short. short)
 
-at_short : (d : Dinode) (a : Address) → EndsWith IsShort (fetch_at d a)
+at_short : (d : Dinode) (a : Address) → Ends {M = M} IsShort (fetch_at d a)
 at_short d (Direct i) = number_short _
 at_short d (InTable i) = ends_bind IsShort (λ (bytes : List ℕ). Unit {0}) (fetch (table_of d)) (fetch_named (table_of d) i) (ends_any (fetch (table_of d))) (λ bytes u a fits. number_short _)
 
 -- ---- what is read
 
-overwritten : (block part : List ℕ) (at : ℕ) → at + length part ≤ length block → length (overwrite block at part) ≡ length block
-overwritten block part at room =
-    omega (arith, room, length-append (take at block) (Rattle.std.proofs.Common.◌++◌ part (drop (at + length part) block)), length-append part (drop (at + length part) block), length-take at block, length-drop (at + length part) block)
+appended : (bytes part : List ℕ) (at : ℕ) → at ≡ length bytes → length (overwrite bytes at part) ≡ length bytes + length part
+appended bytes part at is =
+    omega (arith, is, length-append (take at bytes) (part ++ drop (at + length part) bytes), length-append part (drop (at + length part) bytes), length-take at bytes, length-drop (at + length part) bytes)
 
 part_few : (from upto : ℕ) (block : List ℕ) → length block ≤ 1024 → length (part_of from upto block) ≤ upto - from
 part_few from upto block short = omega (arith, length-take (upto - from) (drop (from % 1024) block))
@@ -58,29 +79,57 @@ part_few from upto block short = omega (arith, length-take (upto - from) (drop (
 part_within : (from upto : ℕ) (block : List ℕ) → length block ≤ 1024 → length (part_of from upto block) + from ≤ next_block from
 part_within from upto block short = omega (arith, short, length-take (upto - from) (drop (from % 1024) block), length-drop (from % 1024) block)
 
-blocks_keep : (n : ℕ) (d : Dinode) (from upto : ℕ) (m : FilledMemory) → m.count + (upto - from) ≤ length m.bytes → EndsWith (λ (f : FilledMemory). length f.bytes ≡ length m.bytes) (read_blocks n d from upto m)
+-- all that is read, behind what was read before
+abbrev AreFew : ℕ → FilledMemory → Type 0
+AreFew most f = length f.bytes ≤ most
+
+blocks_few : (n : ℕ) (d : Dinode) (from upto most : ℕ) (m : FilledMemory) → m.count ≡ length m.bytes → length m.bytes + (upto - from) ≤ most → Ends {M = M} (AreFew most) (read_blocks n d from upto m)
 unfolding read_blocks
-blocks_keep zero d from upto m room = refl
-blocks_keep (suc n) d from upto m room =
-    ends_bind (λ (f : FilledMemory). length f.bytes ≡ length m.bytes) IsShort (fetch_block d (from / 1024)) (read_part (read_blocks n d (next_block from) upto) from upto m) (at_short d (address (from / 1024)))
+blocks_few zero d from upto most m count room = omega (arith, room)
+blocks_few (suc n) d from upto most m count room =
+    ends_bind (AreFew most) IsShort (fetch_block d (from / 1024)) (read_part (read_blocks n d (next_block from) upto) from upto m) (at_short d (address (from / 1024)))
     (λ f short a fits.
     let part : List ℕ = part_of from upto f.bytes in
     let few = part_few from upto f.bytes short in
     let within = part_within from upto f.bytes short in
-    let same : length (filled_with m part).bytes ≡ length m.bytes = overwritten m.bytes part m.count (omega (arith, few, room)) in
-    let left : (filled_with m part).count + (upto - next_block from) ≤ length (filled_with m part).bytes = omega (arith, few, within, room, same) in
-    subst (λ (k : ℕ). EndsWith (λ (g : FilledMemory). length g.bytes ≡ k) (read_blocks n d (next_block from) upto (filled_with m part))) same (blocks_keep n d (next_block from) upto (filled_with m part) left))
+    let long : length (filled_with m part).bytes ≡ length m.bytes + length part = appended m.bytes part m.count count in
+    let same : (filled_with m part).count ≡ length (filled_with m part).bytes = omega (arith, long, count) in
+    let left : length (filled_with m part).bytes + (upto - next_block from) ≤ most = omega (arith, few, within, room, long) in
+    blocks_few n d (next_block from) upto most (filled_with m part) same left)
 
 -- ---- the call
 
-pub read_hands_back : (inodestart fd : ℕ) (buffer : List ℕ) → EndsWith (λ (reply : Reply). HandsBack (Read fd buffer) reply.call) (read_program inodestart fd buffer)
-read_hands_back inodestart fd buffer =
-    ends_bind (λ (reply : Reply). HandsBack (Read fd buffer) reply.call) (λ (s : FileState). Unit {0}) (load_file inodestart want.Read fd) (read_on fd buffer) (ends_any (load_file inodestart want.Read fd)) (λ s u. by s)
-  where
-    by : (s : FileState) → EndsWith (λ (reply : Reply). HandsBack (Read fd buffer) reply.call) (read_on fd buffer s)
-    by (Denies why) = refl
-    by (Loads file inode) =
-        let d : Dinode = record_of inode in
-        ends_bind (λ (reply : Reply). HandsBack (Read fd buffer) reply.call) (λ (f : FilledMemory). length f.bytes ≡ length buffer) (read_from d file.offset (length buffer) buffer) (give_read fd file.offset inode)
-        (blocks_keep (blocks_between file.offset (end_of d file.offset (length buffer))) d file.offset (end_of d file.offset (length buffer)) (record { count = 0; bytes = buffer }) (omega arith))
-        (λ f same a fits b fits'. ap (λ (k : ℕ). Read fd (replicate k 0)) same)
+module _ (sizes : Super) (fd : ℕ) (buffer : List ℕ) where
+  abbrev HandsIt : Reply → Type 0
+  HandsIt reply = HandsBack (Read fd buffer) reply.call
+
+  -- so many bytes at most were read
+  abbrev Fits : Handover (List ℕ) Carry → Type 0
+  Fits r = length r.answer ≤ length buffer
+
+  replies : (c : Carry) (b : List ℕ) → length b ≤ length buffer → Ends HandsIt (lowered machine (layer sizes) (handlers sizes) c (say (read_reply fd buffer b)))
+  replies c b few =
+      let same : length (b ++ drop (length b) buffer) ≡ length buffer = omega (arith, few, length-append b (drop (length b) buffer), length-drop (length b) buffer) in
+      λ a fits. ap (λ (k : ℕ). Read fd (replicate k 0)) same
+
+  reads : (c : Carry) (n offset : ℕ) → Ends HandsIt (lowered machine (layer sizes) (handlers sizes) c (read_on fd buffer (LocksIt n offset)))
+  reads c n offset =
+      ends_bind HandsIt Fits (read_file fd n offset (length buffer) c (λ b. own_step (actions.Read fd (length buffer)))) (λ r. lowered machine (layer sizes) (handlers sizes) r.carry (say (read_reply fd buffer r.answer)))
+      (ends_bind Fits (AreFew (length buffer)) (read_from (record_in c n) offset (length buffer) []) (give_read fd n offset (length buffer) (λ b. own_step (actions.Read fd (length buffer))) c)
+      (blocks_few (blocks_between offset (end_of (record_in c n) offset (length buffer))) (record_in c n) offset (end_of (record_in c n) offset (length buffer)) (length buffer) (record { count = 0; bytes = [] }) refl (omega arith))
+      (λ f few a fits. few))
+      (λ r few. replies r.carry r.answer few)
+
+  locked : (c : Carry) (a : LockedState) → Ends HandsIt (bind (file_locked sizes fd c a) (λ r. lowered machine (layer sizes) (handlers sizes) r.carry (read_on fd buffer r.answer)))
+  locked c (Refuses why) = refl
+  locked c (Locks f content) =
+      ends_bind HandsIt (λ r. Unit {0}) (bind (load_unless sizes.inodestart f.number content) (with_file (LocksIt f.number f.offset) c fd f.number f.offset)) (λ r. lowered machine (layer sizes) (handlers sizes) r.carry (read_on fd buffer r.answer))
+      (ends_any (bind (load_unless sizes.inodestart f.number content) (with_file (LocksIt f.number f.offset) c fd f.number f.offset)))
+      (λ r u. any r.carry r.answer)
+    where
+      any : (c : Carry) (a : LockResult) → Ends HandsIt (lowered machine (layer sizes) (handlers sizes) c (read_on fd buffer a))
+      any c (NotLocked why) = refl
+      any c (LocksIt n offset) = reads c n offset
+
+  pub read_hands_back : (c : Carry) → EndsWith HandsIt (plain (lowered machine (layer sizes) (handlers sizes) c (read_program fd buffer)))
+  read_hands_back c = ends_plain HandsIt (lowered machine (layer sizes) (handlers sizes) c (read_program fd buffer)) (λ a fits. locked c a)

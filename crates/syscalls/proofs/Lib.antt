@@ -1,1 +1,3 @@
-mod Lifting
+pub mod HasOnes
+pub mod Places
+pub mod Staying

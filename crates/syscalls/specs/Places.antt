@@ -1,81 +1,64 @@
--- A step of a call in its place.
-use Rattle.std.specs.Prelude.{◌≡◌, ℕ, List, [], Option, Some, None}
+-- The place of a hart's call, and a step of what stands there.
+use Rattle.std.specs.Prelude.{◌≡◌, ℕ, List, Bool, true, false, Option, Some, None, IsSome}
+use Rattle.fs_layout.specs.declared.superblock.Super.{Super}
 use Rattle.plain_tree.specs.declared.answer.Reply.{Reply}
-use Rattle.atomic_programs.specs.Machines.{Still, Left, OnDone, stepped_at}
+use Rattle.plain_tree.specs.declared.call.Call.{Call}
+use Rattle.atomic_programs.specs.Machines.{Left, Still, stepped_at}
 use Rattle.atomic_programs.specs.declared.machines.Came.{Came}
 use Rattle.atomic_programs.specs.declared.machines.Came.TheVariants.{Waits, Ran, Done, Stopped}
 use Rattle.fs_machine.specs.Steps.{State, state_of}
-use Rattle.fs_machine.specs.Machines.{P, Moves, Answers, CallsOnce}
-use Rattle.fs_machine.specs.Places.{StepsAt}
+use Rattle.fs_machine.specs.Machines.{Answers, CallsOnce, Moves}
 use Rattle.fs_machine.specs.Tied.{LeavesTied}
 use Rattle.fs_machine.specs.declared.kind.Kind.{Kind}
 use Rattle.fs_machine.specs.declared.shared.Core.{Core}
-use Rattle.call_parts.specs.Spent.{reply_in, with_list, IsSpent}
-use Rattle.call_parts.specs.declared.answered.Answered.{Answered}
-use Rattle.making_calls.specs.declared.open_old.OpenOld.TheVariants as open_old
-use Rattle.making_calls.specs.declared.open_new.OpenNew.TheVariants as open_new
-use Rattle.making_calls.specs.declared.mkdir.Mkdir.TheVariants as mkdir
-use Rattle.naming_calls.specs.declared.link.Link.TheVariants as link
-use Rattle.naming_calls.specs.declared.unlink.Unlink.TheVariants as unlink
-use Rattle.naming_calls.specs.declared.chdir.Chdir.TheVariants as chdir
-use Rattle.descriptor_calls.specs.declared.dup.Dup.TheVariants as dup
-use Rattle.descriptor_calls.specs.declared.close.Close.TheVariants as close
-use Rattle.descriptor_calls.specs.declared.fstat.Fstat.TheVariants as fstat
-use Rattle.descriptor_calls.specs.declared.read.Read.TheVariants as read
-use Rattle.descriptor_calls.specs.declared.write.Write.TheVariants as write
-use Rattle.descriptor_calls.specs.declared.inherit.Inherit.TheVariants as inherit
-use Rattle.syscalls.specs.Machines.{running_of, RunningFits}
-use Rattle.syscalls.specs.declared.running.Running.{Running}
-use Rattle.syscalls.specs.declared.running.Running.TheVariants as running
+use Rattle.inode_machine.specs.Programs.{program}
+use Rattle.inode_parts.specs.Parts.{lowered}
+use Rattle.inodes_on_blocks.specs.Lowering.{nothing}
+use Rattle.syscalls.specs.Machines.{Running, running_of, RunningFits}
 
--- it has replied
-abbrev pub HasEnded : Running → Type 0
-HasEnded (running.Open m) = m ≡ open_old.Gone
-HasEnded (running.Create m) = m ≡ open_new.Gone
-HasEnded (running.Link m) = m ≡ link.Gone
-HasEnded (running.Mkdir m) = m ≡ mkdir.Gone
-HasEnded (running.Chdir m) = m ≡ chdir.Gone
-HasEnded (running.Dup m list) = (m ≡ dup.Gone) × (list ≡ None)
-HasEnded (running.Close m list) = (m ≡ close.Gone) × (list ≡ None)
-HasEnded (running.Fstat m list) = (m ≡ fstat.Gone) × (list ≡ None)
-HasEnded (running.Read m list) = (m ≡ read.Gone) × (list ≡ None)
-HasEnded (running.Write m list) = (m ≡ write.Gone) × (list ≡ None)
-HasEnded (running.Unlink m) = m ≡ unlink.Gone
-HasEnded (running.Inherit m list) = (m ≡ inherit.Gone) × (list ≡ None)
+-- what is seen of a place, by whether a call is under way there
+abbrev pub call_at : Bool → Running → Option Running
+call_at true m = Some m
+call_at false m = None
 
--- a call stands there that has replied
-abbrev pub IsOver : Option Running → Type 0
-IsOver None = ⊥
-IsOver (Some call) = HasEnded call
+-- a call has begun there, on a disk of these sizes: all of its program is left, and it has nothing in hand
+abbrev pub HasBegun : Super → Call → Option Running → Type 0
+HasBegun sizes call None = ⊥
+HasBegun sizes call (Some m) = (running_of m ≡ lowered sizes nothing (program call)) × ((hart : ℕ) (s : State) → RunningFits hart s m)
 
--- what the step of a call without a path comes to, with the list beside it
-abbrev pub answered_with : List ℕ → Came Reply Kind → Came Answered Kind
-answered_with list Waits = Waits
-answered_with list (Ran kind) = Ran kind
-answered_with list (Done reply kind) = Done (with_list list reply) kind
-answered_with list Stopped = Stopped
+-- a step with its reply, which stands in a place of its own (one that is done has left one)
+abbrev pub with_reply : Came (Unit {0}) Kind → Option Reply → Came Reply Kind
+with_reply Waits place = Waits
+with_reply (Ran kind) place = Ran kind
+with_reply (Done end kind) (Some reply) = Done reply kind
+with_reply (Done end kind) None = Waits
+with_reply Stopped place = Stopped
 
--- and what is left of the list
-abbrev pub list_left : Came Reply Kind → Option (List ℕ) → Option (List ℕ)
-list_left Waits list = list
-list_left (Ran kind) list = list
-list_left (Done reply kind) list = None
-list_left Stopped list = list
+-- a reply stands there just where the step is done
+abbrev pub IsReplied : Came (Unit {0}) Kind → Option Reply → Type 0
+IsReplied Waits place = place ≡ None
+IsReplied (Ran kind) place = place ≡ None
+IsReplied (Done end kind) place = IsSome place
+IsReplied Stopped place = place ≡ None
+
+-- what is left in the place: the call, or nothing once it has replied
+abbrev pub left_in : Came Reply Kind → Running → Option Running
+left_in Waits m = Some m
+left_in (Ran kind) m = Some m
+left_in (Done reply kind) m = None
+left_in Stopped m = Some m
 
 module _ {D : Type 0} (contents : D → List (List ℕ)) (failures : D → ℕ) (Called : D → D → Type 0) where
-  -- the step of a call is the next operation of its program, and leaves this in its place
-  pub record StepsCall (hart : ℕ) (call left : Running) (result : Came Answered Kind) (old new : Core D) : Type 0 where
-    pub moves : Moves running_of reply_in hart call (stepped_at left result) (state_of contents failures old) (state_of contents failures new)
+  -- the step of a call is the next operation of its program, and leaves this of it
+  pub record StepsCall (hart : ℕ) (call left : Running) (result : Came Reply Kind) (old new : Core D) : Type 0 where
+    pub moves : Moves running_of (λ reply. reply) hart call (stepped_at left result) (state_of contents failures old) (state_of contents failures new)
     pub honest : Answers running_of hart call (stepped_at left result) (state_of contents failures old) (state_of contents failures new)
     pub still : Still running_of (stepped_at left result) call old new
-    pub fits : Left (RunningFits hart (state_of contents failures new)) IsSpent (stepped_at left result)
-    pub ended : OnDone result (HasEnded left)
+    pub fits : Left (RunningFits hart (state_of contents failures new)) (λ _. Unit {0}) (stepped_at left result)
     pub others : LeavesTied hart (state_of contents failures old) (state_of contents failures new)
     pub called : CallsOnce Called old.log.cache.device new.log.cache.device
 
-  -- the same of a call without a path, with the list beside it: it steps, and hands the list back with its reply
-  pub record StepsBeside {M : Type 0} (program : M → P Reply) (MachineFits : ℕ → State → M → Type 0) (gone : M) (hart : ℕ) (m left : M) (list after : Option (List ℕ)) (result : Came Answered Kind) (old new : Core D) : Type 0 where
-    pub came : Came Reply Kind
-    pub tells : result ≡ answered_with [] came
-    pub leaves : after ≡ list_left came list
-    pub steps : StepsAt contents failures Called program (λ reply. reply) MachineFits (λ _. Unit {0}) gone hart m left came old new
+  -- the step of a place in which a call is under way
+  abbrev pub StepsAt : (hart : ℕ) → Option Running → Option Running → Came Reply Kind → (old new : Core D) → Type 0
+  StepsAt hart None after result old new = ⊥
+  StepsAt hart (Some call) after result old new = (left : Running) × (after ≡ left_in result left) × StepsCall hart call left result old new

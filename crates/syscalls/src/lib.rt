@@ -1,10 +1,6 @@
-//! A call under way, whichever of the eleven it is.
-//!
-//! `specs/Machines` says which program is left of it: that of its own machine, which the crates below have.
-//! It takes at most 4096 bytes, beside those of its call and of the blocks that it holds.
+//! The call of a hart under way: any of the eleven, over whole inodes, run below part by part (xv6's sysfile.c and what it calls of fs.c).
 #![tactic(auto)]
 
-mod beside;
-mod running;
+mod place;
 
-pub use crate::running::Running;
+pub use place::CallPlace;

@@ -9,39 +9,36 @@ use Rattle.fs_machine.specs.Steps.{state_of}
 use Rattle.syscalls.specs.Machines.{running_of}
 use Rattle.hart_core.specs.Blocks.{blocks, code, MayStep}
 use Rattle.hart_core.specs.Harts.{HartsOf, said, outcome_of, outcome_with, programs_of}
-use Rattle.hart_core.proofs.Stepping.{all_set, idle_past, honest_past}
-use Rattle.hart_core.proofs.Seats.{is_at}
+use Rattle.hart_core.proofs.Stepping.{all_set, idle_past, honest_past, is_at}
 use Rattle.hart_core.proofs.harts.Harts.step.Goals as goal
 
 pub step-requires-clause-may : goal.step-requires-clause-may
 step-requires-clause-may g c = subst (λ (v : HartsOf _). MayStep c.args.hart (programs_of g.D.Device.contents g.D.Device.failures v)) (sym c.self.view_is) c.requires.may
 
 pub step-requires-clause-fits : goal.step-requires-clause-fits
-step-requires-clause-fits g c = c.self.invariant.0.fits c.args.hart
+step-requires-clause-fits g c = c.self.invariant.fits c.args.hart
 
 pub invariant_of-self : goal.invariant_of-self
 invariant_of-self g c =
     let w = c.self.inside in
-    let eight = c.self.invariant.0.long in
-    let less = c.if-hart-ge-HARTS.false in (
-      all_set c.args.hart (state_of g.D.Device.contents g.D.Device.failures w.core) (state_of g.D.Device.contents g.D.Device.failures c.step.new.core) w.calls.calls c.step.new.self.calls (get_or c.step.new.self.calls c.args.hart None)
-          (omega (arith, eight, less)) c.step.ensures.kept c.step.ensures.others c.self.invariant.0 c.step.ensures.fits,
-      c.step.ensures.seat,
-    )
+    let eight = c.self.invariant.long in
+    let less = c.if-hart-ge-HARTS.false in
+    all_set c.args.hart (state_of g.D.Device.contents g.D.Device.failures w.core) (state_of g.D.Device.contents g.D.Device.failures c.step.new.core) w.calls c.step.new.self (get_or c.step.new.self c.args.hart None)
+    (omega (arith, eight, less)) c.step.ensures.kept c.step.ensures.others c.self.invariant c.step.ensures.fits
 
 pub returns-clause-makes : goal.returns-clause-makes
 returns-clause-makes g c =
     let w = c.self.inside in
     let h = c.args.hart in
     let t = state_of g.D.Device.contents g.D.Device.failures c.step.new.core in
-    let eight = c.self.invariant.0.long in
+    let eight = c.self.invariant.long in
     let less = c.if-hart-ge-HARTS.false in
-    let left = get_or c.step.new.self.calls h None in
+    let left = get_or c.step.new.self h None in
     subst
     (λ (v : HartsOf _). plain_makes blocks code (Step h (said (outcome_with c.step.result c.step.new.replied) t)) (programs_of g.D.Device.contents g.D.Device.failures v)
-    ≡ record { came = outcome_of (outcome_with c.step.result c.step.new.replied); after = programs_of g.D.Device.contents g.D.Device.failures (record { core = c.step.new.core; stopped = c.step.new.stopped; children = w.children; calls = c.step.new.self.calls }) })
+    ≡ record { came = outcome_of (outcome_with c.step.result c.step.new.replied); after = programs_of g.D.Device.contents g.D.Device.failures (record { core = c.step.new.core; stopped = c.step.new.stopped; children = w.children; calls = c.step.new.self }) })
     c.self.view_is
-    (step_gives blocks code running_of (state_of g.D.Device.contents g.D.Device.failures w.core) w.stopped w.calls.calls h (get_or w.calls.calls h None) left (set w.calls.calls h None) c.step.new.self.calls (is_at w.calls.calls h (omega (arith, eight, less))) refl (c.step.ensures.kept ∙ sym (set-set w.calls.calls h None left)) (said (outcome_with c.step.result c.step.new.replied) t)
+    (step_gives blocks code running_of (state_of g.D.Device.contents g.D.Device.failures w.core) w.stopped w.calls h (get_or w.calls h None) left (set w.calls h None) c.step.new.self (is_at w.calls h (omega (arith, eight, less))) refl (c.step.ensures.kept ∙ sym (set-set w.calls h None left)) (said (outcome_with c.step.result c.step.new.replied) t)
     (outcome_of (outcome_with c.step.result c.step.new.replied)) t c.step.new.stopped c.step.ensures.makes)
 
 pub returns-clause-honest : goal.returns-clause-honest
@@ -49,27 +46,27 @@ returns-clause-honest g c =
     let w = c.self.inside in
     let h = c.args.hart in
     let t = state_of g.D.Device.contents g.D.Device.failures c.step.new.core in
-    let eight = c.self.invariant.0.long in
+    let eight = c.self.invariant.long in
     let less = c.if-hart-ge-HARTS.false in
-    let left = get_or c.step.new.self.calls h None in
+    let left = get_or c.step.new.self h None in
     subst (λ (v : HartsOf _). PlainHonest blocks code (Step h (said (outcome_with c.step.result c.step.new.replied) t)) (programs_of g.D.Device.contents g.D.Device.failures v)) c.self.view_is
-    (honest_here blocks code running_of (state_of g.D.Device.contents g.D.Device.failures w.core) w.stopped w.calls.calls h (get_or w.calls.calls h None) left (set w.calls.calls h None) c.step.new.self.calls (is_at w.calls.calls h (omega (arith, eight, less))) refl (c.step.ensures.kept ∙ sym (set-set w.calls.calls h None left))
+    (honest_here blocks code running_of (state_of g.D.Device.contents g.D.Device.failures w.core) w.stopped w.calls h (get_or w.calls h None) left (set w.calls h None) c.step.new.self (is_at w.calls h (omega (arith, eight, less))) refl (c.step.ensures.kept ∙ sym (set-set w.calls h None left))
     (said (outcome_with c.step.result c.step.new.replied) t) c.step.ensures.honest)
 
 -- there is no such hart
 pub returns-then-hart-ge-HARTS-clause-makes : goal.returns-then-hart-ge-HARTS-clause-makes
 returns-then-hart-ge-HARTS-clause-makes g c =
     let w = c.self.inside in
-    let long = c.self.invariant.0.long in
+    let long = c.self.invariant.long in
     let past = c.if-hart-ge-HARTS.true in
     subst
     (λ (v : HartsOf _). plain_makes blocks code (Step c.args.hart Passes) (programs_of g.D.Device.contents g.D.Device.failures v) ≡ record { came = WasIdle; after = programs_of g.D.Device.contents g.D.Device.failures v }) c.self.view_is
-    (idle_past c.args.hart Passes (state_of g.D.Device.contents g.D.Device.failures w.core) w.stopped w.calls.calls (omega (arith, long, past)))
+    (idle_past c.args.hart Passes (state_of g.D.Device.contents g.D.Device.failures w.core) w.stopped w.calls (omega (arith, long, past)))
 
 pub returns-then-hart-ge-HARTS-clause-honest : goal.returns-then-hart-ge-HARTS-clause-honest
 returns-then-hart-ge-HARTS-clause-honest g c =
     let w = c.self.inside in
-    let long = c.self.invariant.0.long in
+    let long = c.self.invariant.long in
     let past = c.if-hart-ge-HARTS.true in
     subst (λ (v : HartsOf _). PlainHonest blocks code (Step c.args.hart Passes) (programs_of g.D.Device.contents g.D.Device.failures v)) c.self.view_is
-    (honest_past c.args.hart Passes (state_of g.D.Device.contents g.D.Device.failures w.core) w.stopped w.calls.calls (omega (arith, long, past)))
+    (honest_past c.args.hart Passes (state_of g.D.Device.contents g.D.Device.failures w.core) w.stopped w.calls (omega (arith, long, past)))

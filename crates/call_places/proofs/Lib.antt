@@ -1,3 +1,0 @@
-pub mod HasOnes
-pub mod Places
-pub mod Staying

@@ -1,5 +1,0 @@
-use Rattle.call_places.proofs.Places.{has_nothing}
-use Rattle.call_places.proofs.place.end_machine.Goals as goal
-
-pub end-requires : goal.end-requires
-end-requires c = has_nothing c.args.machine.hand c.requires

@@ -1,9 +1,0 @@
-pub mod Turns
-pub mod Moving
-pub mod Chdirs
-pub mod Unlinking
-pub mod LowerTurns
-pub mod UnlinkTurns
-pub mod Links
-pub mod AddTurns
-pub mod LinkTurns

@@ -1,6 +1,0 @@
-mod ElementLemmas
-pub mod Few
-pub mod Inside
-mod Visits
-mod Steps
-mod Lookups

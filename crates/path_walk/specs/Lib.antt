@@ -1,4 +1,0 @@
-pub mod Elements
-pub mod Programs
-pub mod Machines
-pub mod Laws

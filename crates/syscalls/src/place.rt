@@ -1,0 +1,170 @@
+//! The place of a hart's call.
+ghost use Rattle.std.specs.Prelude.{◌≡◌, ◌<◌, None, IfOk, IsSome, is_some};
+ghost use Rattle.std.specs.Option.{MatchOption};
+ghost use Rattle.fs_machine.specs.Steps.{state_of};
+ghost use Rattle.fs_machine.specs.Machines.{MayNext};
+ghost use Rattle.whole_calls.specs.Wholes.{IsCall};
+ghost use Rattle.hand_controls.specs.Calling.{IsEmpty};
+ghost use Rattle.inode_parts.specs.Sizes.{IsSized};
+ghost use Rattle.syscalls.specs.Machines.{running_of, RunningFits};
+ghost use Rattle.syscalls.specs.Places.{with_reply, HasBegun, IsReplied, StepsAt};
+
+use atomic_programs::machines::{Came, put};
+use block_device::Device;
+use buffer_cache::HARTS;
+use call_hands::calls_run_by_parts;
+use fs_layout::Super;
+use fs_machine::{Core, Kind, RetiredCore};
+use hands::{Answer, Hand, Machine};
+use inode_parts::Lowered;
+use plain_tree::{Call, Reply};
+use std::alloc::{AllocError, AllocFailed, Global};
+use std::marker::Model;
+
+/// The place of a hart's call. It is idle, or a call is under way there, with the part of its present operation and all that its hart has in
+/// hand. The memory for that is taken once: to begin a call takes none, and a call that has replied leaves the place as it found it. A
+/// contract sees the call under way, if one is.
+///
+/// Code that lets a place go doesn't compile: an idle one is ended, or any after all that harts share has ended.
+pub struct CallPlace {
+    is_busy: bool,
+    machine: Box<Machine<Lowered>>,
+}
+
+impl Model for CallPlace {
+    ghost use Rattle.std.specs.Prelude.{◌≡◌, false, Option};
+    ghost use Rattle.hand_controls.specs.Calling.{IsEmpty};
+    ghost use Rattle.syscalls.specs.Machines.{Running};
+    ghost use Rattle.syscalls.specs.Places.{call_at};
+
+    ghost Value = { Option Running };
+
+    ghost view = { λ p. call_at p.is_busy p.machine.value };
+
+    ghost invariant = { λ p. p.is_busy ≡ false → IsEmpty p.machine.value.hand };
+}
+
+// A call under way takes less than so many bytes, beside those of its call, of its list and of the buffers and inodes that it holds.
+const MOST_BYTES: usize = 1024;
+
+const _: () = prove!(size_of::<Machine<Lowered>>() < MOST_BYTES);
+
+// What stands in an idle place, and its memory.
+fn idle_machine(alloc: Global) -> Result<Machine<Lowered>, AllocError>
+    ensures { IfOk result (λ m. IsEmpty m.hand) }
+{
+    let control = Lowered::idle(alloc)?;
+    let hand = Hand::new(alloc)?;
+    Ok(Machine {
+        control,
+        hand,
+        told: Answer::Nothing,
+    })
+}
+
+// Ends what stands in an idle place.
+fn end_machine(machine: Machine<Lowered>)
+    requires { IsEmpty machine.hand }
+{
+    let Machine {
+        control: _,
+        hand,
+        told: _,
+    } = machine;
+    hand.end();
+}
+
+impl CallPlace {
+    /// An idle place, and the memory for what is to stand there.
+    pub fn idle(alloc: Global) -> Result<CallPlace, AllocError>
+        ensures { IfOk result (λ place. place ≡ None) }
+    {
+        let machine = idle_machine(alloc)?;
+        match Box::new(alloc, machine) {
+            Ok(machine) => Ok(CallPlace {
+                is_busy: false,
+                machine,
+            }),
+            Err(failed) => {
+                let AllocFailed { value: machine } = failed;
+                end_machine(machine);
+                Err(AllocError)
+            }
+        }
+    }
+
+    /// Whether a call is under way.
+    #[inline(always)]
+    pub fn is_busy(&self) -> bool
+        ensures { result ≡ is_some self.now }
+    {
+        self.is_busy
+    }
+
+    /// A call begins in an idle place, on a disk of these sizes.
+    #[inline(always)]
+    pub fn start(&mut self, sizes: &Super, call: Call)
+        requires idle { self.old ≡ None }
+        requires call { IsCall call }
+        requires sized { IsSized sizes.now }
+        ensures { HasBegun sizes.now call self.new }
+    {
+        let Machine {
+            control,
+            hand,
+            told: _,
+        } = &mut *self.machine;
+        calls_run_by_parts();
+        control.start(sizes, call, hand);
+        self.is_busy = true;
+    }
+
+    /// One operation of the call under way. Once it has replied the place is idle, and the reply stands in a place of its own, which is empty
+    /// before.
+    #[inline(always)]
+    pub fn step<D: Device>(
+        &mut self,
+        replied: &mut Option<Reply>,
+        hart: u8,
+        core: &mut Core<D>,
+    ) -> Came<(), Kind>
+        requires eight { hart < HARTS }
+        requires busy { IsSome self.old }
+        requires may { MatchOption self.old ⊥ (λ call. MayNext hart (running_of call) (state_of D.contents D.failures core.old)) }
+        requires fits { MatchOption self.old ⊥ (λ call. RunningFits hart (state_of D.contents D.failures core.old) call) }
+        requires none { replied.old ≡ None }
+        ensures steps { StepsAt D.contents D.failures D.Called hart self.old self.new (with_reply result replied.new) core.old core.new }
+        ensures replied { IsReplied result replied.new }
+    {
+        match self.machine.step(hart, core) {
+            Came::Waits => Came::Waits,
+            Came::Ran(kind) => Came::Ran(kind),
+            Came::Done((), kind) => {
+                self.is_busy = false;
+                put(replied, self.machine.control.reply());
+                Came::Done((), kind)
+            }
+            Came::Stopped => Came::Stopped,
+        }
+    }
+
+    /// Ends an idle place.
+    pub fn end(self)
+        requires { self ≡ None }
+    {
+        let CallPlace {
+            is_busy: _,
+            machine,
+        } = self;
+        end_machine(Box::into_inner(machine));
+    }
+
+    /// Ends it in mid-call too, after all that harts share has ended.
+    pub fn retire(self, retired: &RetiredCore) {
+        let CallPlace {
+            is_busy: _,
+            machine,
+        } = self;
+        Box::into_inner(machine).retire(retired);
+    }
+}
