@@ -1,5 +1,5 @@
 pub mod First
-mod FirstClear
-mod Takes
-mod Runs
+pub mod FirstClear
+pub mod HasOnes
 pub mod OneBit
+pub mod Runs

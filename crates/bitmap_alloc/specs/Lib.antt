@@ -1,5 +1,6 @@
-pub mod First
 pub mod Bytes
-pub mod Programs
-pub mod Machines
+pub mod First
+pub mod FreeingBlocks
 pub mod Laws
+pub mod Programs
+pub mod Taking

@@ -5,7 +5,7 @@ use Rattle.plain_tree.specs.declared.answer.Reply.{Reply}
 use Rattle.plain_tree.specs.declared.call.Call.TheVariants as calls
 use Rattle.plain_tree.specs.Widths.{descriptor_count}
 use Rattle.atomic_programs.specs.Prog.{Ret, Do, unmarked}
-use Rattle.hand_controls.specs.Calling.{IsEmpty}
+use Rattle.hands.specs.Empty.{IsEmpty}
 use Rattle.inode_machine.specs.Descriptors.{close_on, close_program, stat_on, stat_program, stat_reply}
 use Rattle.inode_machine.specs.Inodes.{Face}
 use Rattle.inode_machine.specs.Moving.{inherit_end, inherit_program, lend_from, lend_on, lent_directory}

@@ -7,7 +7,7 @@ use Rattle.plain_tree.specs.declared.answer.Reply.{Reply}
 use Rattle.plain_tree.specs.declared.call.Call.TheVariants as calls
 use Rattle.plain_tree.specs.Calls.{piece_count}
 use Rattle.atomic_programs.specs.Prog.{Do, unmarked}
-use Rattle.hand_controls.specs.Calling.{IsEmpty}
+use Rattle.hands.specs.Empty.{IsEmpty}
 use Rattle.inode_machine.specs.Descriptors.{checked_reply, dup_on, dup_program, joined_on, read_on, read_program, read_reply, write_from, write_piece, write_program, write_reply, wrote_on}
 use Rattle.inode_machine.specs.Parts.{P, failed, full, say}
 use Rattle.inode_machine.specs.World as above

@@ -9,7 +9,7 @@ use Rattle.hands.specs.declared.hand.Hand.{Hand}
 use Rattle.hands.specs.declared.hand.Seat.{Seat}
 use Rattle.hands.specs.declared.hand.Seat.TheVariants.{One, Two}
 use Rattle.hands.specs.Hands.{first_in, inode_at, reference_at, with_aside, with_first, with_inode, with_listed, with_reference, with_seated, with_txn}
-use Rattle.hand_controls.specs.HeldInodes.{unloaded}
+use Rattle.inode_table.specs.HeldInodes.{unloaded}
 use Rattle.inode_machine.specs.Parts.{with_last}
 use Rattle.inode_machine.specs.World as above
 use Rattle.inode_parts.specs.Carries.{note_at}

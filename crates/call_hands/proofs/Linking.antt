@@ -12,7 +12,7 @@ use Rattle.plain_tree.specs.declared.answer.Reply.{Reply}
 use Rattle.plain_tree.specs.declared.call.Call.TheVariants as calls
 use Rattle.plain_tree.specs.declared.step.Action.TheVariants as steps
 use Rattle.atomic_programs.specs.Prog.{Do, unmarked}
-use Rattle.hand_controls.specs.Calling.{IsEmpty}
+use Rattle.hands.specs.Empty.{IsEmpty}
 use Rattle.tree_moves.specs.Moves.Move.{Begin}
 use Rattle.inode_machine.specs.Inodes.{Face, face_or, is_directory_sort, is_live_face}
 use Rattle.inode_machine.specs.Naming as naming

@@ -13,7 +13,7 @@ use Rattle.plain_tree.specs.declared.call.Call.TheVariants as calls
 use Rattle.plain_tree.specs.declared.step.Action.TheVariants as steps
 use Rattle.tree_laws.proofs.Maps.{eq_self}
 use Rattle.atomic_programs.specs.Prog.{Do, unmarked}
-use Rattle.hand_controls.specs.Calling.{IsEmpty}
+use Rattle.hands.specs.Empty.{IsEmpty}
 use Rattle.inode_machine.specs.Inodes.{Face, OfDirectory, Sight, face_or, is_live_face}
 use Rattle.inode_machine.specs.Naming.{is_refused, mkdir_in, mkdir_on, mkdir_other, mkdir_program, mkdir_refused, mkdir_with, name_directory}
 use Rattle.inode_machine.specs.Opening.{entered_file, mends_unless_new, unmake}

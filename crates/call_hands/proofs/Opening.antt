@@ -11,7 +11,7 @@ use Rattle.plain_tree.specs.declared.answer.Reply.{Reply}
 use Rattle.plain_tree.specs.declared.call.Call.TheVariants as calls
 use Rattle.plain_tree.specs.declared.step.Action.TheVariants as steps
 use Rattle.atomic_programs.specs.Prog.{Do, unmarked}
-use Rattle.hand_controls.specs.Calling.{IsEmpty}
+use Rattle.hands.specs.Empty.{IsEmpty}
 use Rattle.inode_machine.specs.Inodes.{OfFile, Sight, Sort, face_or, is_live_face, open_refusal}
 use Rattle.inode_machine.specs.Opening.{create_found, create_in, empties, entered_file, file_for, installed_on, installs, make_on, make_other, make_with, mends_unless_new, open_at, open_end, open_face, open_made, open_new, open_old, open_program, opened_reply, take_descriptor, truncates, unmake}
 use Rattle.inode_machine.specs.Parts.{P, Stop, failed, full, give_up, is_there, looks_where, own_step, start, stopped, tail, walk}

@@ -10,9 +10,9 @@ use Rattle.hands.specs.declared.hand.Hand.{Hand}
 use Rattle.hands.specs.declared.hand.Seat.{Seat}
 use Rattle.hands.specs.declared.hand.Seat.TheVariants.{One, Two}
 use Rattle.hands.specs.Hands.{inode_at, reference_at, with_aside, with_inode, with_listed, with_reference, with_txn}
-use Rattle.hand_controls.specs.Calling.{IsEmpty}
-use Rattle.hand_controls.specs.Emptying.{HasNoBuffer}
-use Rattle.hand_controls.specs.HeldInodes.{unloaded, without_content}
+use Rattle.hands.specs.Empty.{IsEmpty}
+use Rattle.inode_data.specs.Emptying.{HasNoBuffer}
+use Rattle.inode_table.specs.HeldInodes.{unloaded, without_content}
 use Rattle.inode_parts.specs.Carries.{note_at}
 use Rattle.inode_parts.specs.Clears.{HasFound}
 use Rattle.inode_parts.specs.OneSteps.{free_seat, locks, other, refers, seat_of_lock, seat_of_reference}

@@ -9,7 +9,7 @@ use Rattle.plain_tree.specs.declared.call.Call.TheVariants as calls
 use Rattle.plain_tree.specs.declared.step.Action.TheVariants as steps
 use Rattle.tree_laws.proofs.Maps.{eq_self}
 use Rattle.atomic_programs.specs.Prog.{Do, unmarked}
-use Rattle.hand_controls.specs.Calling.{IsEmpty}
+use Rattle.hands.specs.Empty.{IsEmpty}
 use Rattle.tree_moves.specs.Moves.Move.{Look}
 use Rattle.inode_machine.specs.Inodes.{AtEntries, Face, Sight, face_or, is_directory_sort, is_live_face}
 use Rattle.inode_machine.specs.Naming.{always, clear_name, is_missing, lower_parent, or_missing, unlink_child, unlink_dots, unlink_found, unlink_in, unlink_named, unlink_other, unlink_program}

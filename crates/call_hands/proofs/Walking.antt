@@ -10,7 +10,7 @@ use Rattle.plain_tree.specs.declared.step.Action.{Action}
 use Rattle.plain_tree.specs.declared.step.Action.TheVariants as steps
 use Rattle.atomic_programs.specs.Prog.{Do, unmarked}
 use Rattle.hands.specs.declared.hand.Seat.{Seat}
-use Rattle.hand_controls.specs.Calling.{IsEmpty}
+use Rattle.hands.specs.Empty.{IsEmpty}
 use Rattle.inode_machine.specs.Inodes.{AtName, AtNothing, Query, Sight, is_directory_face}
 use Rattle.tree_moves.specs.Moves.Move.{Begin}
 use Rattle.inode_machine.specs.Naming.{in_parent}

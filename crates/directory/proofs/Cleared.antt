@@ -8,7 +8,7 @@ use Rattle.fs_layout.specs.Bytes.{record_at, IsBytes}
 use Rattle.fs_layout.specs.Entry.{dirent_of, dirent_at}
 use Rattle.fs_layout.proofs.Entries.{dirent_of-spell, spell-dirent_of}
 use Rattle.directory.specs.Slots.{is_free, is_clear, u64_at}
-use Rattle.directory.proofs.Slot.{slot_in, zeros_at}
+use Rattle.directory.proofs.OneSlot.{slot_in, zeros_at}
 use Rattle.directory.proofs.Words.{same_row, u64_at-part}
 
 no_word : (k : ℕ) → u64_at (replicate 16 0) 0 ≡ 0

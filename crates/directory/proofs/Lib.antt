@@ -1,10 +1,10 @@
-mod Words
-mod Slot
-mod Named
-mod Cleared
-mod Used
-mod EntryNumbers
+pub mod Cleared
+pub mod EntryNumbers
+pub mod HasOnes
+pub mod Named
 pub mod Searches
-mod Puts
-mod Entrances
-mod Spelled
+pub mod OneSlot
+pub mod Puts
+pub mod Spelled
+pub mod Used
+pub mod Words

@@ -14,7 +14,7 @@ use Rattle.fs_layout.proofs.Branches.{which_branch}
 use Rattle.fs_layout.proofs.Entries.{dirent_of-spell, spell-dirent_of, number-part, name_parts}
 use Rattle.fs_layout.proofs.Numbers.{u16_at-lt, u16_bytes-at, length-u16_bytes}
 use Rattle.directory.specs.Slots.{is_named, field_of, has_words, u64_at}
-use Rattle.directory.proofs.Slot.{IsSlot, slot_in, field_fits, zeros_at}
+use Rattle.directory.proofs.OneSlot.{IsSlot, slot_in, field_fits, zeros_at}
 use Rattle.directory.proofs.Words.{same_row, u64_at-part, u64_at-drop}
 
 pub free_not_used : (field : List ℕ) (n : ℕ) (name : List ℕ) → free_of field ≡ Some (Used n name) → ⊥

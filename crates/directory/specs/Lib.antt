@@ -1,6 +1,9 @@
-pub mod Slots
-pub mod Programs
-pub mod Machines
-pub mod Putting
+pub mod Clearing
+pub mod EnterParts
 pub mod Entering
+pub mod Filling
 pub mod Laws
+pub mod Programs
+pub mod Searching
+pub mod Slots
+pub mod Sought

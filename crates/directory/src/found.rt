@@ -2,8 +2,8 @@
 ghost use Rattle.std.specs.Prelude.{◌≡◌, ◌+◌, ◌-◌, ◌*◌, ◌≤◌, ◌<◌, IfSome};
 ghost use Rattle.fs_layout.specs.Widths.{dirents_per_block};
 ghost use Rattle.inode_data.specs.Widths.{most_blocks};
-ghost use Rattle.directory.specs.Programs.{slot_count, block_count, slots_in, first_in, found_at, found_in};
-ghost use Rattle.directory.specs.Machines.{aim_of, IsSlot, IsSought};
+ghost use Rattle.directory.specs.Programs.{slot_count, block_count, slots_in, first_in, found_at, found_in, is_directory, is_live_directory};
+ghost use Rattle.directory.specs.Sought.{aim_of, IsSlot, IsSought};
 
 use crate::slots::{first_free, first_named, first_used, number_at};
 use fs_layout::Dinode;
@@ -12,6 +12,9 @@ use inode_data::MOST_BLOCKS;
 
 /// How many slots a directory may have.
 pub const MOST_SLOTS: usize = DIRENTS_PER_BLOCK * MOST_BLOCKS;
+
+// The type of a directory.
+const DIRECTORY: i16 = 1;
 
 // The slots "." and "..".
 const DOTS: usize = 2;
@@ -101,4 +104,18 @@ pub fn found_in(block: &Block, inode: &Dinode, k: usize, sought: Sought) -> Opti
         Some(place) => Some(found_at(block, k, place)),
         None => None,
     }
+}
+
+/// Whether it is a directory.
+pub fn is_directory(inode: &Dinode) -> bool
+    ensures { result ≡ is_directory inode.now }
+{
+    inode.kind == DIRECTORY
+}
+
+/// Whether it is one that has a link.
+pub fn is_live_directory(inode: &Dinode) -> bool
+    ensures { result ≡ is_live_directory inode.now }
+{
+    is_directory(inode) && inode.nlink > 0
 }

@@ -1,222 +1,172 @@
 //! A directory searched, a block at a time.
-ghost use Rattle.std.specs.Prelude.{◌≡◌, ◌+◌, ◌≤◌, ℕ, List, IsSome};
-ghost use Rattle.atomic_programs.specs.Machines.{Still, Left as LeftOf};
-ghost use Rattle.fs_machine.specs.Steps.{State, state_of};
-ghost use Rattle.fs_machine.specs.Machines.{MayNext, Moves, Answers, CallsOnce};
-ghost use Rattle.fs_machine.specs.Tied.{LeavesTied};
-ghost use Rattle.inode_table.specs.Programs.{record_of};
-ghost use Rattle.inode_data.specs.Beginnings.{begun_of, IfBegun};
+ghost use Rattle.std.specs.Prelude.{◌≡◌, ◌+◌, ◌≤◌, ◌<◌, ℕ, List, Some, None, IsSome, IfSome, IfNone};
+ghost use Rattle.std.specs.Option.{MatchOption};
+ghost use Rattle.atomic_programs.specs.Prog.{asks};
+ghost use Rattle.inode_data.specs.Beginnings.{IfBegun};
 ghost use Rattle.inode_data.specs.Widths.{most_blocks};
-ghost use Rattle.directory.specs.Programs.{Aim, Named, is_directory, is_live_directory, lookup, search, search_from};
-ghost use Rattle.directory.specs.Machines.{aim_of, found_of, in_search, inode_of, search_of, IsSlot, IsSought, SearchFits};
-ghost use Rattle.directory.specs.declared.search.Search.TheVariants as searching;
+ghost use Rattle.directory.specs.Programs.{Aim, Entry, Named, found_in, lookup, search, search_from};
+ghost use Rattle.directory.specs.Sought.{aim_of, IsSlot, IsSought};
+ghost use Rattle.hands.specs.Hands.{bytes_at};
+ghost use Rattle.hands.specs.Ops.{op_in, answer_in, CanDo, Prepared, IsAfter};
+ghost use Rattle.hands.specs.Controls.{Goes, left_after};
+ghost use Rattle.hands.specs.declared.hand.Hand.{Hand as HandState};
+ghost use Rattle.hands.specs.declared.hand.Place.TheVariants.{First};
+ghost use Rattle.inode_data.specs.Locating.{Leaves};
+ghost use Rattle.fs_layout.specs.declared.inode.Dinode.{Dinode as DinodeState};
+ghost use Rattle.inode_data.specs.InHand.{NoBuffers};
+ghost use Rattle.directory.specs.Searching.{begun_left, entries, search_left, search_asked, SearchReady};
 
-use crate::found::{Found, Sought, block_count, found_in};
-use atomic_programs::machines::Stepped;
-use block_device::Device;
-use buffer_cache::Buffer;
+use crate::found::{Found, Sought, block_count, found_in, is_directory, is_live_directory};
 use fs_layout::Dinode;
-use fs_machine::{Core, Kind, RetiredCore};
-use fs_tables::Inode;
-use inode_data::{Begun, FetchBlock, record, went_on};
-use sleep_lock::Guard;
+use hands::{Answer, Hand, Op, Part, Place};
+use inode_data::{Begun, FetchBlock, fetch_of};
 
-// The type of a directory.
-const DIRECTORY: i16 = 1;
-
-/// What a search has in hand: the directory, whose lock its hart has, and the blocks to come.
-pub struct Searching {
-    pub inode: Guard<Inode>,
-    /// This block is looked at next ..
+/// The blocks of a directory that a search has to look at yet.
+#[derive(Clone, Copy, Drop)]
+pub struct Blocks {
+    /// This one is looked at next ..
     pub block: usize,
     /// .. and so many behind it.
     pub left: usize,
 }
 
-impl Searching {
-    /// Ends it in mid-call, after all that harts share has ended.
-    pub(crate) fn retire(self, retired: &RetiredCore) {
-        let Searching {
-            inode,
-            block: _,
-            left: _,
-        } = self;
-        inode.retire_in_row(&retired.inodes);
-    }
-}
-
-/// What a search ends with.
-pub struct Searched {
-    pub inode: Guard<Inode>,
-    pub found: Option<Found>,
-}
-
-/// Looks for a slot of a directory, a block at a time, and stops at the first. What is sought is told with each step
-/// (xv6: `dirlookup`; for a used slot past the first two `isdirempty`).
+/// Looks for a slot of a directory, a block at a time, and stops at the first. It is told the directory's record and what is sought.
+#[derive(Clone, Copy, Drop)]
 pub enum Search {
     /// The next block is fetched.
-    Fetching(Searching, FetchBlock),
-    /// It is there.
-    There(Searching, Guard<Buffer>),
+    Fetching(Blocks, FetchBlock),
+    /// It was looked at, and is given back.
+    Giving(Blocks, Option<Found>),
 }
 
 impl Search {
     /// Over all slots of a directory.
-    pub fn begin(inode: Guard<Inode>) -> Begun<Search, Searched>
-        requires loaded { IsSome inode.value.content }
-        ensures program { (aim : Aim) → begun_of (search_of aim) found_of result ≡ search aim (record_of inode.value) }
-        ensures inode { IfBegun (λ m. inode_of m ≡ inode) (λ r. r.inode ≡ inode) result }
-        ensures slot { IfBegun (λ _. Unit {0}) (λ r. IsSlot r.found) result }
-        ensures fits { (hart : ℕ) (s : State) → IfBegun (SearchFits hart s) (λ _. Unit {0}) result }
+    pub fn begin(inode: &Dinode) -> Begun<Search, Option<Found>>
+        ensures program { (aim : Aim) (h : HandState) → begun_left aim inode.now result h ≡ search aim inode.now }
+        ensures ready { (h : HandState) → NoBuffers h → IfBegun (λ m. SearchReady m h) (λ _. Unit {0}) result }
+        ensures slot { IfBegun (λ _. Unit {0}) IsSlot result }
     {
-        let left = block_count(&record(&inode));
-        next(inode, 0, left)
+        next(inode, 0, block_count(inode))
     }
 
     /// For what a directory has under a name. Where it has no link, or is no directory, nothing is found and no block touched.
-    pub fn lookup(inode: Guard<Inode>) -> Begun<Search, Searched>
-        requires loaded { IsSome inode.value.content }
-        ensures program { (name : List ℕ) → begun_of (search_of (Named name)) found_of result ≡ lookup name (record_of inode.value) }
-        ensures inode { IfBegun (λ m. inode_of m ≡ inode) (λ r. r.inode ≡ inode) result }
-        ensures slot { IfBegun (λ _. Unit {0}) (λ r. IsSlot r.found) result }
-        ensures fits { (hart : ℕ) (s : State) → IfBegun (SearchFits hart s) (λ _. Unit {0}) result }
+    pub fn lookup(inode: &Dinode) -> Begun<Search, Option<Found>>
+        ensures program { (name : List ℕ) (h : HandState) → begun_left (Named name) inode.now result h ≡ lookup name inode.now }
+        ensures ready { (h : HandState) → NoBuffers h → IfBegun (λ m. SearchReady m h) (λ _. Unit {0}) result }
+        ensures slot { IfBegun (λ _. Unit {0}) IsSlot result }
     {
-        if is_live_directory(&record(&inode)) {
+        if is_live_directory(inode) {
             Search::begin(inode)
         } else {
-            Begun::Is(Searched { inode, found: None })
+            Begun::Is(None)
         }
     }
 
-    /// One operation.
-    #[tactic(auto, unfolding(crate::specs::Machines::search_of, crate::specs::Machines::SearchFits, fs_machine::specs::Premises::Honest))]
-    pub fn step<D: Device>(
-        self,
-        hart: u8,
-        sought: Sought,
-        core: &mut Core<D>,
-    ) -> Stepped<Search, Searched, Kind>
-        requires sought { IsSought sought }
-        requires may { MayNext hart (search_of (aim_of sought) self) (state_of D.contents D.failures core.old) }
-        requires fits { SearchFits hart (state_of D.contents D.failures core.old) self }
-        ensures moves { Moves (search_of (aim_of sought.entry)) found_of hart self result (state_of D.contents D.failures core.old) (state_of D.contents D.failures core.new) }
-        ensures honest { Answers (search_of (aim_of sought.entry)) hart self result (state_of D.contents D.failures core.old) (state_of D.contents D.failures core.new) }
-        ensures still { Still (search_of (aim_of sought.entry)) result self core.old core.new }
-        ensures inode { LeftOf (λ m. inode_of m ≡ inode_of self) (λ r. r.inode ≡ inode_of self) result }
-        ensures slot { LeftOf (λ _. Unit {0}) (λ r. IsSlot r.found) result }
-        ensures fits { LeftOf (SearchFits hart (state_of D.contents D.failures core.new)) (λ _. Unit {0}) result }
-        ensures others { LeavesTied hart (state_of D.contents D.failures core.old) (state_of D.contents D.failures core.new) }
-        ensures called { CallsOnce D.Called core.old.log.cache.device core.new.log.cache.device }
-        ensures tables { core.new.tables ≡ core.old.tables }
+    /// For a used slot past the first two: whether a directory is empty. In what is no directory there is none.
+    pub fn entries(inode: &Dinode) -> Begun<Search, Option<Found>>
+        ensures program { (h : HandState) → begun_left Entry inode.now result h ≡ entries inode.now }
+        ensures ready { (h : HandState) → NoBuffers h → IfBegun (λ m. SearchReady m h) (λ _. Unit {0}) result }
+        ensures slot { IfBegun (λ _. Unit {0}) IsSlot result }
     {
-        // With `return` a result is copied once.
-        match self {
-            Search::Fetching(at, fetch) => return fetching(at, fetch.step(hart, core)),
-            Search::There(at, guard) => return look(at, guard, hart, sought, core),
+        if is_directory(inode) {
+            Search::begin(inode)
+        } else {
+            Begun::Is(None)
         }
     }
 
-    /// Ends it in mid-call, after all that harts share has ended.
-    pub fn retire(self, retired: &RetiredCore) {
+    /// The next operation.
+    pub fn op(&self, hand: &mut Hand) -> Op
+        requires ready { SearchReady self.now hand.old }
+        ensures op { result ≡ search_asked self.now }
+        ensures asks { (aim : Aim) (d : DinodeState) → asks (search_left aim d self.now hand.old) ≡ Some (op_in hand.new result) }
+        ensures can { CanDo result hand.new }
+        ensures prepared { Prepared result hand.old hand.new }
+    {
         match self {
-            Search::Fetching(searching, fetch) => {
-                searching.retire(retired);
-                fetch.retire(retired);
-            }
-            Search::There(searching, guard) => {
-                searching.retire(retired);
-                guard.retire_in_row(&retired.buffers);
-            }
+            Search::Fetching(_, fetch) => fetch.op(hand),
+            Search::Giving(_, _) => Op::Give(Place::First),
         }
     }
-}
 
-/// Whether it is a directory.
-pub fn is_directory(inode: &Dinode) -> bool
-    ensures { result ≡ is_directory inode.now }
-{
-    inode.kind == DIRECTORY
-}
-
-/// Whether it is one that has a link.
-pub fn is_live_directory(inode: &Dinode) -> bool
-    ensures { result ≡ is_live_directory inode.now }
-{
-    is_directory(inode) && inode.nlink > 0
-}
-
-// The block is looked at, and its buffer put back.
-#[tactic(auto, unfolding(crate::specs::Machines::search_of, crate::specs::Machines::SearchFits, fs_machine::specs::Premises::Honest))]
-fn look<D: Device>(
-    at: Searching,
-    guard: Guard<Buffer>,
-    hart: u8,
-    sought: Sought,
-    core: &mut Core<D>,
-) -> Stepped<Search, Searched, Kind>
-    requires sought { IsSought sought }
-    requires may { MayNext hart (search_of (aim_of sought) (searching.There at guard)) (state_of D.contents D.failures core.old) }
-    requires fits { SearchFits hart (state_of D.contents D.failures core.old) (searching.There at guard) }
-    ensures moves { Moves (search_of (aim_of sought.entry)) found_of hart (searching.There at guard) result (state_of D.contents D.failures core.old) (state_of D.contents D.failures core.new) }
-    ensures honest { Answers (search_of (aim_of sought.entry)) hart (searching.There at guard) result (state_of D.contents D.failures core.old) (state_of D.contents D.failures core.new) }
-    ensures still { Still (search_of (aim_of sought.entry)) result (searching.There at guard) core.old core.new }
-    ensures inode { LeftOf (λ m. inode_of m ≡ at.inode) (λ r. r.inode ≡ at.inode) result }
-    ensures slot { LeftOf (λ _. Unit {0}) (λ r. IsSlot r.found) result }
-    ensures fits { LeftOf (SearchFits hart (state_of D.contents D.failures core.new)) (λ _. Unit {0}) result }
-    ensures others { LeavesTied hart (state_of D.contents D.failures core.old) (state_of D.contents D.failures core.new) }
-    ensures called { CallsOnce D.Called core.old.log.cache.device core.new.log.cache.device }
-    ensures tables { core.new.tables ≡ core.old.tables }
-{
-    let Searching { inode, block, left } = at;
-    let found = found_in(guard.value().bytes(), &record(&inode), block, sought);
-    core.put_back(hart, guard);
-    // With `return` a result is copied once.
-    match found {
-        Some(found) => return Stepped::Done(
-            Searched {
-                inode,
-                found: Some(found),
-            },
-            Kind::Put,
-        ),
-        None => return went_on(next(inode, block + 1, left), Kind::Put),
+    /// How it goes on.
+    #[tactic(auto, using(hands::proofs::Going::goes_bind))]
+    pub fn next(
+        &mut self,
+        inode: &Dinode,
+        sought: Sought,
+        answer: &Answer,
+        hand: &Hand,
+    ) -> Option<Option<Found>>
+        requires sought { IsSought sought }
+        requires came { (before : HandState) × SearchReady self.old before × IsAfter (search_asked self.old) before answer.now hand.now }
+        ensures goes { (before : HandState) → SearchReady self.old before → IsAfter (search_asked self.old) before answer.now hand.now
+            → Goes (search_left (aim_of sought.entry) inode.now self.old before) (answer_in (search_asked self.old) answer.now hand.now)
+            (left_after (search_left (aim_of sought.entry) inode.now) (λ found _. found) result self.new hand.now) }
+        ensures ready { IfNone result (SearchReady self.new hand.now) }
+        ensures slot { IfSome result IsSlot }
+        ensures over { IfSome result (λ _. NoBuffers hand.now) }
+        ensures beside { (before : HandState) → SearchReady self.old before → IsAfter (search_asked self.old) before answer.now hand.now
+            → Leaves before hand.now }
+    {
+        match self {
+            Search::Fetching(at, fetch) => {
+                let at = *at;
+                match fetch.next(answer, hand) {
+                    None => None,
+                    Some(_) => {
+                        let found = found_at(hand, inode, at.block, sought);
+                        *self = Search::Giving(at, found);
+                        None
+                    }
+                }
+            }
+            Search::Giving(at, found) => {
+                let at = *at;
+                match *found {
+                    Some(found) => Some(Some(found)),
+                    None => match next(inode, at.block + 1, at.left) {
+                        Begun::Is(found) => Some(found),
+                        Begun::Runs(search) => {
+                            *self = search;
+                            None
+                        }
+                    },
+                }
+            }
+        }
     }
 }
 
 // So many blocks from one on.
-#[tactic(auto, unfolding(crate::specs::Machines::search_of, crate::specs::Machines::SearchFits, crate::specs::Programs::search_from))]
-fn next(inode: Guard<Inode>, block: usize, left: usize) -> Begun<Search, Searched>
-    requires loaded { IsSome inode.value.content }
-    requires within { block + left ≤ most_blocks }
-    ensures program { (aim : Aim) → begun_of (search_of aim) found_of result ≡ search_from left aim (record_of inode.value) block }
-    ensures inode { IfBegun (λ m. inode_of m ≡ inode) (λ r. r.inode ≡ inode) result }
-    ensures slot { IfBegun (λ _. Unit {0}) (λ r. IsSlot r.found) result }
-    ensures fits { (hart : ℕ) (s : State) → IfBegun (SearchFits hart s) (λ _. Unit {0}) result }
+#[tactic(auto, unfolding(crate::specs::Programs::search_from))]
+fn next(inode: &Dinode, block: usize, left: usize) -> Begun<Search, Option<Found>>
+    requires { block + left ≤ most_blocks }
+    ensures program { (aim : Aim) (h : HandState) → begun_left aim inode.now result h ≡ search_from left aim inode.now block }
+    ensures ready { (h : HandState) → NoBuffers h → IfBegun (λ m. SearchReady m h) (λ _. Unit {0}) result }
+    ensures slot { IfBegun (λ _. Unit {0}) IsSlot result }
 {
     if left == 0 {
-        return Begun::Is(Searched { inode, found: None });
+        return Begun::Is(None);
     }
-    let fetch = FetchBlock::new(&record(&inode), block);
-    let at = Searching {
-        inode,
+    let fetch = fetch_of(inode, block);
+    let at = Blocks {
         block,
         left: left - 1,
     };
     Begun::Runs(Search::Fetching(at, fetch))
 }
 
-// What a fetch's step comes to, while the next block is fetched.
-fn fetching(
-    at: Searching,
-    stepped: Stepped<FetchBlock, Guard<Buffer>, Kind>,
-) -> Stepped<Search, Searched, Kind>
-    ensures { result ≡ in_search at stepped }
+// What is found in the block in hand.
+fn found_at(hand: &Hand, inode: &Dinode, k: usize, sought: Sought) -> Option<Found>
+    requires valid { MatchOption hand.now.first ⊥ (λ g. IsSome g.value.content) }
+    requires block { k < most_blocks }
+    requires sought { IsSought sought }
+    ensures found { result ≡ found_in (aim_of sought.entry) inode.now k (bytes_at First hand.now) }
+    ensures slot { IsSlot result }
 {
-    // With `return` a result is copied once.
-    match stepped {
-        Stepped::Waits(fetch) => return Stepped::Waits(Search::Fetching(at, fetch)),
-        Stepped::Ran(fetch, kind) => return Stepped::Ran(Search::Fetching(at, fetch), kind),
-        Stepped::Done(guard, kind) => return Stepped::Ran(Search::There(at, guard), kind),
-        Stepped::Stopped(fetch) => return Stepped::Stopped(Search::Fetching(at, fetch)),
+    match &hand.first {
+        Some(guard) => found_in(guard.value().bytes(), inode, k, sought),
+        None => unreachable!(),
     }
 }

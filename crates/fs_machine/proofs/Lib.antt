@@ -1,9 +1,7 @@
 pub mod Ran
 pub mod Parts
 pub mod Held
-pub mod Commits
 pub mod Keeping
-pub mod Nested
 pub mod Owning
 pub mod Owned
 pub mod Showing

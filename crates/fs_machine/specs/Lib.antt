@@ -7,7 +7,6 @@ pub mod Did
 pub mod Machines
 pub mod Places
 pub mod Programs
-pub mod Fetching
 pub mod Whole
 pub mod Locked
 pub mod Joining

@@ -1,5 +1,8 @@
-pub mod Queues
+pub mod Controls
+pub mod Empty
+pub mod Fetching
+pub mod Finishing
 pub mod Hands
 pub mod Ops
 pub mod Performs
-pub mod Controls
+pub mod Queues

@@ -5,12 +5,16 @@
 #![tactic(auto)]
 
 mod control;
+mod fetch;
+mod finish;
 mod hand;
 mod op;
 mod perform;
 mod queue;
 
 pub use control::{Control, Machine, Part, Routine};
+pub use fetch::{Fetch, Fetched};
+pub use finish::Finish;
 pub use hand::{Hand, Place, Seat};
 pub use op::{Answer, Did, Op};
 pub use queue::Queue;

@@ -1,10 +1,8 @@
-pub mod Beginnings
-mod NextRead
-pub mod Nested
-pub mod Following
-pub mod NextFree
-mod Freed
-mod Locations
-mod PartWritings
+pub mod Asking
 pub mod ContentFronts
+pub mod Goings
+pub mod HasOnes
+pub mod NextFree
+pub mod PartReadings
+pub mod PartWritings
 pub mod ReadLaw

@@ -6,7 +6,7 @@ use Rattle.atomic_programs.specs.Prog.{bind}
 use Rattle.fs_machine.specs.Machines.{P}
 use Rattle.bitmap_alloc.specs.Programs.{free_block}
 use Rattle.inode_data.specs.Freeing.{free_numbers}
-use Rattle.inode_data.specs.Truncating.{IsNext}
+use Rattle.inode_data.specs.Numbers.{IsNext}
 
 none_free : {A : Type 0} (bitmap : ℕ) (numbers : List ℕ) (after : P A) → ((k : ℕ) → get_or numbers k 0 ≡ 0) → free_numbers bitmap numbers after ≡ after
 none_free bitmap [] after zeros = refl

@@ -1,137 +1,81 @@
--- The programs that are left of a block's locating.
-use Rattle.std.specs.Prelude.{◌≡◌, ◌<◌, ◌≤◌, ℕ, Option, Some, None, slice_index}
-use Rattle.sleep_lock.specs.SleepLock.{GuardState}
-use Rattle.buffer_cache.specs.Buffers.{BufferState}
+-- A block of a content, taken where it is missing.
+use Rattle.std.specs.Prelude.{◌≡◌, ◌<◌, ◌≤◌, ℕ, Option, Some, None, IsSome}
+use Rattle.std.specs.Option.{MatchOption}
 use Rattle.fs_layout.specs.declared.inode.Dinode.{Dinode}
-use Rattle.fs_layout.specs.Indirect.{numbers_in}
 use Rattle.fs_layout.specs.Widths.{bits_per_block, numbers_per_block}
-use Rattle.atomic_programs.specs.Prog.{bind}
-use Rattle.atomic_programs.specs.declared.machines.Stepped.{Stepped}
-use Rattle.fs_machine.specs.declared.fetch.Fetch.TheVariants.{Get}
-use Rattle.fs_machine.specs.declared.kind.Kind.{Kind}
-use Rattle.fs_machine.specs.Steps.{State}
+use Rattle.atomic_programs.specs.Prog.{Ret, Do, bind, unmarked}
+use Rattle.fs_machine.specs.Steps as steps
 use Rattle.fs_machine.specs.Machines.{P}
-use Rattle.fs_machine.specs.Tied.{bytes_of}
-use Rattle.fs_machine.specs.Fetching.{fetch_of, block_of, FetchFits, IsFetched}
-use Rattle.bitmap_alloc.specs.Machines.{take_of, TakeFits, TakeApart}
 use Rattle.inode_data.specs.Widths.{direct}
-use Rattle.inode_data.specs.Beginnings.{went_on_as}
-use Rattle.inode_table.specs.Programs.{no_record}
 use Rattle.inode_data.specs.Writing.{located, with_address, name_direct, name_in_table, look_up, with_table}
-use Rattle.inode_data.specs.declared.begun.Begun.{Begun}
-use Rattle.inode_data.specs.declared.begun.Begun.TheVariants.{Runs, Is}
-use Rattle.inode_data.specs.declared.location.Located.{Located}
-use Rattle.inode_data.specs.declared.location.Locating.{Locating}
-use Rattle.inode_data.specs.declared.location.Locate.{Locate}
-use Rattle.inode_data.specs.declared.location.Locate.TheVariants as locating
+use Rattle.inode_data.specs.declared.locate.Located.{Located}
+use Rattle.hands.specs.declared.hand.Hand.{Hand}
+use Rattle.hands.specs.declared.hand.Place.TheVariants.{First, Second}
+use Rattle.hands.specs.declared.op.Op.{Op}
+use Rattle.hands.specs.declared.op.Op.TheVariants as ops
+use Rattle.hands.specs.Hands.{buffer_at, block_at, bytes_at, with_buffer}
+use Rattle.hands.specs.Fetching.{fetch_left, fetch_asked, fetch_block, fetch_place, FetchReady}
+use Rattle.bitmap_alloc.specs.Taking.{marks, take_left, take_asked, take_place, TakeReady}
+use Rattle.bitmap_alloc.specs.declared.take_block.TakeBlock.{TakeBlock}
+use Rattle.inode_data.specs.declared.locate.Locate.{Locate}
+use Rattle.inode_data.specs.declared.locate.Stage.{Stage}
+use Rattle.inode_data.specs.declared.locate.Stage.TheVariants.{Direct, NewTable, Table, NewEntry, Name, Give}
+use Rattle.inode_data.specs.declared.locate.Begun.{Begun}
+use Rattle.inode_data.specs.declared.locate.Begun.TheVariants.{Is, Runs}
 
-unfoldable pub locate_of : Locate → P Located
-locate_of (locating.Direct l i (Some m)) = bind (take_of m) (name_direct i l.inode)
-locate_of (locating.Direct l i None) = located l.inode None
-locate_of (locating.NewTable l i (Some m)) = bind (take_of m) (with_table l.sizes i l.inode)
-locate_of (locating.NewTable l i None) = located l.inode None
-locate_of (locating.Table l i None) = located l.inode None
-locate_of (locating.Table l i (Some f)) = bind (fetch_of f) (look_up l.sizes i l.inode (block_of f))
-locate_of (locating.Entry l i table) = look_up l.sizes i l.inode table.value.block (bytes_of table)
-locate_of (locating.NewEntry l i table (Some m)) = bind (take_of m) (name_in_table i l.inode table.value.block (bytes_of table))
-locate_of (locating.NewEntry l i table None) = located l.inode None
-locate_of (locating.Name l i table number) = name_in_table i l.inode table.value.block (bytes_of table) number
-locate_of locating.Gone = located no_record None
+abbrev pub stage_left : Locate → Stage → Hand → P Located
+stage_left l (Direct i m) h = bind (take_left m h) (name_direct i l.inode)
+stage_left l (NewTable i m) h = bind (take_left m h) (with_table l.sizes i l.inode)
+stage_left l (Table i f) h = bind (fetch_left f h) (look_up l.sizes i l.inode (fetch_block f))
+stage_left l (NewEntry i m) h = bind (take_left m h) (name_in_table i l.inode (block_at Second h) (bytes_at Second h))
+stage_left l (Name i number) h = name_in_table i l.inode (block_at Second h) (bytes_at Second h) number
+stage_left l (Give number) h = Do (steps.Put (block_at Second h) None) unmarked (λ _. located l.inode (Some number))
 
--- its guards go with the state, and the bitmap has a bit for each block of the disk
-unfoldable pub LocateFits : ℕ → State → Locate → Type 0
-LocateFits hart s (locating.Direct l i (Some m)) = (i < direct) × TakeFits hart s m
-LocateFits hart s (locating.Direct l i None) = ⊥
-LocateFits hart s (locating.NewTable l i None) = ⊥
-LocateFits hart s (locating.NewTable l i (Some m)) = (i < numbers_per_block) × (l.sizes.size ≤ bits_per_block) × TakeFits hart s m
-LocateFits hart s (locating.Table l i None) = ⊥
-LocateFits hart s (locating.Table l i (Some f)) = (i < numbers_per_block) × (l.sizes.size ≤ bits_per_block) × FetchFits hart s f
-LocateFits hart s (locating.Entry l i table) = (i < numbers_per_block) × (l.sizes.size ≤ bits_per_block) × IsFetched hart table.value.block table s
-LocateFits hart s (locating.NewEntry l i table None) = ⊥
-LocateFits hart s (locating.NewEntry l i table (Some m)) = (i < numbers_per_block) × IsFetched hart table.value.block table s × TakeFits hart s m × TakeApart table.value.block m
-LocateFits hart s (locating.Name l i table number) = (i < numbers_per_block) × IsFetched hart table.value.block table s
-LocateFits hart s locating.Gone = ⊥
+abbrev pub locate_left : Locate → Hand → P Located
+locate_left l h = stage_left l l.stage h
 
--- ---- from one state to the next
+abbrev pub stage_asked : Stage → Op
+stage_asked (Direct i m) = take_asked m
+stage_asked (NewTable i m) = take_asked m
+stage_asked (Table i f) = fetch_asked f
+stage_asked (NewEntry i m) = take_asked m
+stage_asked (Name i number) = marks number Second
+stage_asked (Give number) = ops.Give Second
 
--- a block is taken for a place of the inode
-abbrev pub IsTakingDirect : Locate → Type 0
-IsTakingDirect (locating.Direct l i m) = Unit {0}
-IsTakingDirect _ = ⊥
+abbrev pub locate_asked : Locate → Op
+locate_asked l = stage_asked l.stage
 
-abbrev pub HasTakenDirect : Locate → Type 0
-HasTakenDirect (locating.Direct l i m) = (i < direct) × (m ≡ None)
-HasTakenDirect _ = ⊥
+-- a block is taken by way of the first place
+abbrev pub Takes : TakeBlock → Hand → Type 0
+Takes m h = TakeReady m h × (take_place m ≡ First)
+
+abbrev pub HasTable : Hand → Type 0
+HasTable h = MatchOption (buffer_at Second h) ⊥ (λ g. IsSome g.value.content)
+
+abbrev pub StageReady : Stage → Hand → Type 0
+StageReady (Direct i m) h = Takes m h × (i < direct) × (h.second ≡ None)
+StageReady (NewTable i m) h = Takes m h × (i < numbers_per_block) × (h.second ≡ None)
+StageReady (Table i f) h = FetchReady f h × (fetch_place f ≡ Second) × (i < numbers_per_block) × (h.first ≡ None) × IsSome h.txn
+StageReady (NewEntry i m) h = Takes m h × (i < numbers_per_block) × HasTable h
+StageReady (Name i number) h = HasTable h × (i < numbers_per_block) × (h.first ≡ None) × IsSome h.txn
+StageReady (Give number) h = HasTable h × (h.first ≡ None) × IsSome h.txn
+
+abbrev pub LocateReady : Locate → Hand → Type 0
+LocateReady l h = StageReady l.stage h × (l.sizes.size ≤ bits_per_block)
+
+-- nothing but the buffers changes in hand
+abbrev pub Leaves : Hand → Hand → Type 0
+Leaves before h = with_buffer First None (with_buffer Second None h) ≡ with_buffer First None (with_buffer Second None before)
+
+-- one that has begun
+abbrev pub begun_left : Begun → Hand → P Located
+begun_left (Is l) h = Ret l
+begun_left (Runs m) h = locate_left m h
+
+abbrev pub IfBegun : (Locate → Type 0) → Begun → Type 0
+IfBegun P (Is l) = Unit {0}
+IfBegun P (Runs m) = P m
 
 abbrev pub named_direct : ℕ → Dinode → Option ℕ → Located
 named_direct i d None = record { inode = d; number = None }
 named_direct i d (Some b) = record { inode = with_address i b d; number = Some b }
-
-abbrev pub NamedAs : Option ℕ → Locate → Located → Type 0
-NamedAs number (locating.Direct l i m) r = r ≡ named_direct i l.inode number
-NamedAs number _ r = Unit {0}
-
--- an indirect block is taken
-abbrev pub IsTakingTable : Locate → Type 0
-IsTakingTable (locating.NewTable l i m) = Unit {0}
-IsTakingTable _ = ⊥
-
-abbrev pub HasTakenTable : Locate → Type 0
-HasTakenTable (locating.NewTable l i m) = m ≡ None
-HasTakenTable _ = ⊥
-
-abbrev pub after_table : Locating → ℕ → Option ℕ → Begun Locate Located
-after_table l i None = Is (record { inode = l.inode; number = None })
-after_table l i (Some t) = Runs (locating.Table (record { inode = with_address direct t l.inode; sizes = l.sizes }) i (Some (Get t)))
-
-abbrev pub TableTo : Option ℕ → Kind → Locate → Stepped Locate Located Kind → Type 0
-TableTo table kind (locating.NewTable l i m) stepped = stepped ≡ went_on_as (after_table l i table) kind
-TableTo table kind _ stepped = Unit {0}
-
--- it is fetched
-abbrev pub IsFetchingTable : Locate → Type 0
-IsFetchingTable (locating.Table l i f) = Unit {0}
-IsFetchingTable _ = ⊥
-
-abbrev pub HasFetchedTable : Locate → Type 0
-HasFetchedTable (locating.Table l i f) = f ≡ None
-HasFetchedTable _ = ⊥
-
-abbrev pub entry_in : GuardState BufferState → Locate → Locate
-entry_in table (locating.Table l i f) = locating.Entry l i table
-entry_in table _ = locating.Gone
-
--- it is there, and has this number at the place
-abbrev pub IsLooking : Locate → Type 0
-IsLooking (locating.Entry l i table) = Unit {0}
-IsLooking _ = ⊥
-
-abbrev pub HasNumber : ℕ → Locate → Type 0
-HasNumber number (locating.Entry l i table) = number ≡ slice_index (numbers_in (bytes_of table)) i
-HasNumber number _ = ⊥
-
--- a block is taken for a place of it
-abbrev pub IsTakingEntry : Locate → Type 0
-IsTakingEntry (locating.NewEntry l i table m) = Unit {0}
-IsTakingEntry _ = ⊥
-
-abbrev pub HasTakenEntry : Locate → Type 0
-HasTakenEntry (locating.NewEntry l i table m) = m ≡ None
-HasTakenEntry _ = ⊥
-
-abbrev pub name_in : Option ℕ → Locate → Locate
-name_in number (locating.NewEntry l i table m) = locating.Name l i table number
-name_in number _ = locating.Gone
-
--- it is there, without a number at the place
-abbrev pub IsMissing : Locate → Type 0
-IsMissing (locating.Entry l i table) = (l.sizes.size ≤ bits_per_block) × (slice_index (numbers_in (bytes_of table)) i ≡ 0)
-IsMissing _ = ⊥
-
-abbrev pub MissingTo : Locate → Locate → Type 0
-MissingTo self next = (locate_of next ≡ locate_of self) × IsTakingEntry next × ((hart : ℕ) (s : State) → LocateFits hart s self → LocateFits hart s next)
-
--- it goes back
-abbrev pub IsNaming : Locate → Type 0
-IsNaming (locating.Name l i table number) = Unit {0}
-IsNaming _ = ⊥

@@ -1,28 +1,26 @@
--- The programs that are left of a writing.
-use Rattle.std.specs.Prelude.{◌≡◌, ℕ, ◌+◌, ◌/◌, ◌^◌, ◌<◌, ◌≤◌, List, length, drop, Some, None}
-use Rattle.sleep_lock.specs.SleepLock.{GuardState}
-use Rattle.buffer_cache.specs.Buffers.{BufferState}
+-- A part of a content written.
+use Rattle.std.specs.Prelude.{◌≡◌, ℕ, ◌+◌, ◌/◌, ◌^◌, ◌<◌, ◌≤◌, List, length, drop, None, IsSome}
 use Rattle.fs_layout.specs.Widths.{bits_per_block, block_len}
 use Rattle.fs_layout.specs.declared.inode.Dinode.{Dinode}
 use Rattle.atomic_programs.specs.Prog.{Ret, bind}
-use Rattle.fs_tables.specs.declared.inodes.Inode.{Inode}
-use Rattle.fs_machine.specs.Steps.{State}
 use Rattle.fs_machine.specs.Machines.{P}
-use Rattle.fs_machine.specs.Tied.{bytes_of}
-use Rattle.fs_machine.specs.Fetching.{fetch_of, block_of, FetchFits, IsFetched}
-use Rattle.inode_table.specs.Programs.{inode_block, no_record}
-use Rattle.inode_table.specs.Machines.{store_of, StoreFits}
+use Rattle.inode_table.specs.Programs.{inode_block}
 use Rattle.inode_data.specs.Widths.{most_blocks}
-use Rattle.inode_data.specs.Records.{record_in, with_record}
 use Rattle.inode_data.specs.Writing.{WriteResult, front_of, put_part, write_located, write_blocks, store_written}
-use Rattle.inode_data.specs.Locating.{locate_of, LocateFits}
-use Rattle.inode_data.specs.declared.location.Located.{Located}
-use Rattle.inode_data.specs.declared.location.Locate.TheVariants as locating
+use Rattle.inode_data.specs.declared.locate.Located.{Located}
+use Rattle.hands.specs.declared.hand.Hand.{Hand}
+use Rattle.hands.specs.declared.hand.Place.TheVariants.{First}
+use Rattle.hands.specs.declared.op.Op.{Op}
+use Rattle.hands.specs.declared.op.Op.TheVariants as ops
+use Rattle.hands.specs.Hands.{block_at, bytes_at}
+use Rattle.hands.specs.Fetching.{fetch_left, fetch_asked, fetch_block, fetch_place, FetchReady}
+use Rattle.inode_data.specs.Locating.{locate_left, locate_asked, LocateReady}
+use Rattle.inode_table.specs.Storing.{store_left, store_asked, store_place, StoreReady}
+use Rattle.inode_data.specs.InHand.{HasBlock, NoBuffers}
 use Rattle.inode_data.specs.declared.write_part.Writing.{Writing}
-use Rattle.inode_data.specs.declared.write_part.PartWritten.{PartWritten}
+use Rattle.inode_data.specs.declared.write_part.Written.{Written}
 use Rattle.inode_data.specs.declared.write_part.WritePart.{WritePart}
-use Rattle.inode_table.specs.declared.store_inode.StoreInode.TheVariants as storing
-use Rattle.inode_data.specs.declared.write_part.WritePart.TheVariants as writing
+use Rattle.inode_data.specs.declared.write_part.WritePart.TheVariants.{Locating, Fetching, There, Storing}
 
 -- the bytes that are left, and how many of them go into the next block
 abbrev pub bytes_left : Writing → List ℕ → List ℕ
@@ -41,7 +39,7 @@ blocks_behind w bytes d = write_blocks w.left w.sizes (w.at + next_count w bytes
 
 -- the inode is stored after these
 abbrev pub stored : Writing → WriteResult → P WriteResult
-stored w written = store_written w.sizes w.inode.value.number written
+stored w written = store_written w.sizes w.number written
 
 -- all that is left, where so many blocks are, and the inode is so
 abbrev pub write_rest : Writing → Dinode → List ℕ → P WriteResult
@@ -56,114 +54,54 @@ abbrev pub after_fetch : Writing → Dinode → List ℕ → ℕ → List ℕ �
 after_fetch w d bytes b block = bind (put_part (blocks_behind w bytes d) b w.at (bytes_left w bytes) block) (stored w)
 
 -- the record was stored
-abbrev pub give_written : Dinode → ℕ → Unit {0} → P WriteResult
-give_written d upto _ = Ret (record { inode = d; upto = upto })
+abbrev pub written_as : Written → WriteResult
+written_as r = record { inode = r.inode; upto = r.upto }
 
--- that of nothing
-abbrev pub no_writing : P WriteResult
-no_writing = Ret (record { inode = no_record; upto = 0 })
+abbrev pub give_written : Written → Unit {0} → P WriteResult
+give_written r _ = Ret (written_as r)
 
-unfoldable pub write_of : List ℕ → WritePart → P WriteResult
-write_of bytes (writing.Locating w m) = bind (locate_of m) (after_location w bytes)
-write_of bytes (writing.Fetching w d (Some f)) = bind (fetch_of f) (after_fetch w d bytes (block_of f))
-write_of bytes (writing.Fetching w d None) = no_writing
-write_of bytes (writing.There w d guard) = after_fetch w d bytes guard.value.block (bytes_of guard)
-write_of bytes (writing.Storing inode d upto m) = bind (store_of m) (give_written d upto)
-write_of bytes writing.Gone = no_writing
+abbrev pub write_left : List ℕ → WritePart → Hand → P WriteResult
+write_left bytes (Locating w m) h = bind (locate_left m h) (after_location w bytes)
+write_left bytes (Fetching w d f) h = bind (fetch_left f h) (after_fetch w d bytes (fetch_block f))
+write_left bytes (There w d) h = after_fetch w d bytes (block_at First h) (bytes_at First h)
+write_left bytes (Storing r m) h = bind (store_left m h) (give_written r)
 
--- what the result stands for
-abbrev pub written_of : PartWritten → WriteResult
-written_of r = record { inode = record_in r.inode; upto = r.upto }
+abbrev pub write_asked : WritePart → Op
+write_asked (Locating w m) = locate_asked m
+write_asked (Fetching w d f) = fetch_asked f
+write_asked (There w d) = ops.Record First
+write_asked (Storing r m) = store_asked m
 
 -- a writing that has so many blocks before it, the next one too: each is one of a content, on a disk whose blocks have bits
 pub record IsWriting (count : ℕ) (w : Writing) : Type 0 where
   pub within : w.at / block_len + count ≤ most_blocks
   pub size : w.sizes.size ≤ bits_per_block
-  pub block : inode_block w.sizes.inodestart w.inode.value.number < 2 ^ 32
+  pub block : inode_block w.sizes.inodestart w.number < 2 ^ 32
 
--- its guards go with the state
-unfoldable pub WriteFits : ℕ → List ℕ → State → WritePart → Type 0
-WriteFits hart bytes s (writing.Locating w m) = IsWriting (w.left + 1) w × (w.done ≤ length bytes) × LocateFits hart s m
-WriteFits hart bytes s (writing.Fetching w d (Some f)) = IsWriting (w.left + 1) w × (w.done ≤ length bytes) × FetchFits hart s f
-WriteFits hart bytes s (writing.Fetching w d None) = ⊥
-WriteFits hart bytes s (writing.There w d guard) = IsWriting (w.left + 1) w × (w.done ≤ length bytes) × IsFetched hart guard.value.block guard s
-WriteFits hart bytes s (writing.Storing inode d upto m) = StoreFits hart s m
-WriteFits hart bytes s writing.Gone = ⊥
+-- it is in the midst of the bytes, with the next block before it
+abbrev pub IsAmid : List ℕ → Writing → Type 0
+IsAmid bytes w = IsWriting (w.left + 1) w × (w.done ≤ length bytes)
+
+-- the bytes were written up to an offset that a content may have
+abbrev pub IsWithin : Written → Type 0
+IsWithin r = r.upto / block_len ≤ most_blocks
+
+abbrev pub WriteReady : List ℕ → WritePart → Hand → Type 0
+WriteReady bytes (Locating w m) h = IsAmid bytes w × LocateReady m h
+WriteReady bytes (Fetching w d f) h = IsAmid bytes w × FetchReady f h × (fetch_place f ≡ First) × (h.second ≡ None) × IsSome h.txn
+WriteReady bytes (There w d) h = IsAmid bytes w × HasBlock h × IsSome h.txn
+WriteReady bytes (Storing r m) h = StoreReady m h × (store_place m ≡ First) × (h.second ≡ None) × IsWithin r
+
+-- a part that begins where so many of the bytes were written
+abbrev pub BeginsAmid : ℕ → WritePart → Type 0
+BeginsAmid done m = (bytes : List ℕ) (h : Hand) → NoBuffers h → IsSome h.txn → done ≤ length bytes → WriteReady bytes m h
 
 -- the next block was written
 pub record IsPast (w : Writing) (bytes : List ℕ) (next : Writing) : Type 0 where
-  pub inode : next.inode ≡ w.inode
+  pub number : next.number ≡ w.number
   pub sizes : next.sizes ≡ w.sizes
   pub at : next.at ≡ w.at + next_count w bytes
   pub done : next.done ≡ w.done + next_count w bytes
   pub left : next.left ≡ w.left
   pub ready : IsWriting w.left next
   pub there : next.done ≤ length bytes
-
--- the inode's guard
-abbrev no_guard : GuardState Inode
-no_guard = record { number = 0; hart = 0; value = record { number = 0; content = None } }
-
-abbrev pub writer_of : WritePart → GuardState Inode
-writer_of (writing.Locating w m) = w.inode
-writer_of (writing.Fetching w d f) = w.inode
-writer_of (writing.There w d guard) = w.inode
-writer_of (writing.Storing inode d upto m) = inode
-writer_of writing.Gone = no_guard
-
--- the writing's end, with the record that was stored
-abbrev pub finished : GuardState Inode → Dinode → ℕ → PartWritten
-finished inode d upto = record { inode = with_record d inode; upto = upto }
-
--- ---- from one state to the next
-
--- the next block is sought
-abbrev pub IsLocating : WritePart → Type 0
-IsLocating (writing.Locating w m) = Unit {0}
-IsLocating _ = ⊥
-
-abbrev pub HasLocated : WritePart → Type 0
-HasLocated (writing.Locating w m) = IsWriting (w.left + 1) w × (m ≡ locating.Gone)
-HasLocated _ = ⊥
-
--- what a search that is done goes on with
-abbrev pub FoundIn : Writing → Located → WritePart → Type 0
-FoundIn w l next =
-    ((bytes : List ℕ) → write_of bytes next ≡ after_location w bytes l)
-    × (writer_of next ≡ w.inode)
-    × ((hart : ℕ) (bytes : List ℕ) (s : State) → w.done ≤ length bytes → WriteFits hart bytes s next)
-
-abbrev pub FoundTo : Located → WritePart → WritePart → Type 0
-FoundTo l (writing.Locating w m) next = FoundIn w l next
-FoundTo l _ next = Unit {0}
-
--- it is fetched
-abbrev pub IsFetching : WritePart → Type 0
-IsFetching (writing.Fetching w d f) = Unit {0}
-IsFetching _ = ⊥
-
-abbrev pub HasFetched : WritePart → Type 0
-HasFetched (writing.Fetching w d f) = f ≡ None
-HasFetched _ = ⊥
-
-abbrev pub fetched_in : GuardState BufferState → WritePart → WritePart
-fetched_in guard (writing.Fetching w d f) = writing.There w d guard
-fetched_in guard _ = writing.Gone
-
--- it is there
-abbrev pub IsThere : WritePart → Type 0
-IsThere (writing.There w d guard) = Unit {0}
-IsThere _ = ⊥
-
--- the inode is stored
-abbrev pub IsStoring : WritePart → Type 0
-IsStoring (writing.Storing inode d upto m) = Unit {0}
-IsStoring _ = ⊥
-
-abbrev pub HasStored : WritePart → Type 0
-HasStored (writing.Storing inode d upto m) = m ≡ storing.Gone
-HasStored _ = ⊥
-
-abbrev pub StoredAs : WritePart → PartWritten → Type 0
-StoredAs (writing.Storing inode d upto m) r = r ≡ finished inode d upto
-StoredAs _ r = Unit {0}

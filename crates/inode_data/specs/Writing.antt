@@ -13,7 +13,7 @@ use Rattle.inode_table.specs.Programs.{store}
 use Rattle.inode_data.specs.Widths.{direct}
 use Rattle.inode_data.specs.Addresses.{address, table_of}
 use Rattle.inode_data.specs.Programs.{blocks_between}
-use Rattle.inode_data.specs.declared.location.Located.{Located}
+use Rattle.inode_data.specs.declared.locate.Located.{Located}
 use Rattle.inode_data.specs.declared.addresses.Address.{Address}
 use Rattle.inode_data.specs.declared.addresses.Address.TheVariants.{Direct, InTable}
 

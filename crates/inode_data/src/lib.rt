@@ -1,30 +1,30 @@
-//! Contents of inodes: read, written and given back.
+//! The content of an inode: its blocks found, read, written and given back (xv6's `bmap`, `readi`, `writei` and `itrunc` of fs.c).
 //!
-//! `specs/Programs` says what is done, operation by operation; the types with a `step` are machines that do it.
-//! A read touches each block once, and none past the size. A part is written block by block, as far as blocks are had, and the inode is
-//! stored in each case. An emptying gives each block back that the inode names, and stores the record last.
+//! `specs/Programs`, `specs/Writing` and `specs/Freeing` say what is done, operation by operation; `FetchBlock`, `Locate`, `ReadPart`,
+//! `WritePart`, `Truncate` and `FreeInode` are parts that do it. A part is told what the inode's record is, and which memory a content
+//! is read into or written from; it uses the places for buffers and changes nothing else in hand.
 #![tactic(auto)]
 
 mod addresses;
 mod begun;
-mod copies;
-mod dropping;
 mod fetch_block;
-mod freeing;
+mod free_inode;
 pub mod laws;
-mod location;
+mod locate;
+mod locating;
+mod numbers;
+mod place;
 mod read_part;
-mod records;
-mod truncation;
+mod truncate;
 mod write_part;
 
 pub use crate::addresses::{Address, DIRECT, MOST_BLOCKS, address_of};
-pub use crate::begun::{Begun, went_on};
-pub use crate::dropping::DropReference;
+pub use crate::begun::Begun;
 pub use crate::fetch_block::FetchBlock;
-pub use crate::freeing::FreeInode;
-pub use crate::location::{Locate, Located, Locating};
+pub use crate::free_inode::FreeInode;
+pub use crate::locate::{Locate, Located, Stage};
+pub use crate::numbers::{next_listed, next_own};
+pub use crate::place::fetch_of;
 pub use crate::read_part::{ReadPart, Reading};
-pub use crate::records::{record, with_record};
-pub use crate::truncation::{Emptying, Truncate, next_listed, next_own};
-pub use crate::write_part::{PartWritten, WritePart, Writing};
+pub use crate::truncate::{Emptying, Truncate};
+pub use crate::write_part::{WritePart, Writing, Written};

@@ -1,37 +1,30 @@
 //! A part of a content read.
-ghost use Rattle.std.specs.Prelude.{◌≡◌, ◌≢◌, ◌<◌, ◌≤◌, ◌+◌, ◌-◌, ◌%◌, ◌++◌, ℕ, min, take, length, IsSome};
-ghost use Rattle.fs_layout.specs.Widths.{block_len};
-ghost use Rattle.atomic_programs.specs.Prog.{OperationResult, WentOn, Ret};
-ghost use Rattle.atomic_programs.specs.Machines.{Left as LeftOf, stepped_at};
-ghost use Rattle.fs_machine.specs.Steps.{State, state_of};
-ghost use Rattle.fs_machine.specs.Machines.{MayNext};
-ghost use Rattle.fs_machine.specs.Places.{StepsAt};
-ghost use Rattle.inode_data.specs.Records.{record_in};
-ghost use Rattle.fs_layout.specs.Bytes.{overwrite};
-ghost use Rattle.inode_data.specs.Programs.{blocks_between, read_blocks, read_from};
-ghost use Rattle.inode_data.specs.Machines.{BlockFetchFits};
+ghost use Rattle.std.specs.Prelude.{◌≡◌, ◌+◌, ◌-◌, ◌≤◌, ℕ, List, length, Some, None, IsSome, IfSome, IfNone};
+ghost use Rattle.std.specs.Option.{MatchOption};
+ghost use Rattle.atomic_programs.specs.Prog.{asks};
+ghost use Rattle.fs_layout.specs.declared.inode.Dinode.{Dinode as DinodeState};
 ghost use Rattle.inode_data.specs.Beginnings.{begun_of, IfBegun};
-ghost use Rattle.inode_data.specs.Reading.{filled_in, read_of, reader_of, there_in, HasFetched, IsAfter, IsFetching, IsReading, IsThere, ReadFits};
-ghost use Rattle.inode_data.specs.declared.read_part.ReadPart.TheVariants as reading;
+ghost use Rattle.inode_data.specs.Programs.{end_of, read_blocks, read_from};
+ghost use Rattle.hands.specs.Hands.{bytes_at};
+ghost use Rattle.hands.specs.Ops.{op_in, answer_in, CanDo, Prepared, IsAfter};
+ghost use Rattle.hands.specs.Controls.{Goes, left_after};
+ghost use Rattle.hands.specs.declared.hand.Hand.{Hand as HandState};
+ghost use Rattle.hands.specs.declared.hand.Place.TheVariants.{First};
+ghost use Rattle.inode_data.specs.Locating.{Leaves};
+ghost use Rattle.inode_data.specs.InHand.{NoBuffers};
+ghost use Rattle.inode_data.specs.PartReading.{filled_in, filled_to, in_all, read_count, read_left, read_asked, HasRead, HasRoom, IsReading, ReadReady};
 
 use crate::addresses::MOST_BLOCKS;
 use crate::begun::Begun;
-use crate::copies::copy_into;
 use crate::fetch_block::FetchBlock;
-use crate::records::record;
-use atomic_programs::machines::{Came, Stepped, put};
-use block_device::Device;
-use buffer_cache::Buffer;
+use crate::place::{blocks, copy_into, fetch_of};
+use fs_layout::Dinode;
 use fs_layout::widths::{BLOCK_LEN, Block};
-use fs_machine::{Core, Kind, RetiredCore};
-use fs_tables::Inode;
-use sleep_lock::Guard;
-use std::mem;
+use hands::{Answer, Hand, Op, Part, Place};
 
-/// What a read has in hand: the inode, whose lock its hart has, and the bytes.
+/// What a read has to do yet.
+#[derive(Clone, Copy, Drop)]
 pub struct Reading {
-    pub inode: Guard<Inode>,
-    pub bytes: Vec<u8>,
     /// So many of the bytes were read.
     pub filled: usize,
     /// From this offset of the content on it goes on ..
@@ -42,228 +35,136 @@ pub struct Reading {
     pub left: usize,
 }
 
-impl Reading {
-    /// Ends it in mid-call, after all that harts share has ended.
-    pub fn retire(self, retired: &RetiredCore) {
-        let Reading {
-            inode,
-            bytes: _,
-            filled: _,
-            from: _,
-            upto: _,
-            left: _,
-        } = self;
-        inode.retire_in_row(&retired.inodes);
-    }
-}
-
-/// Reads bytes of a content into memory of the call (xv6: `readi`).
+/// Reads bytes of a content, block by block. The inode's record and the memory are lent to each step.
+#[derive(Clone, Copy, Drop)]
 pub enum ReadPart {
     /// The block of the next bytes is fetched.
-    Fetching(Reading, Option<FetchBlock>),
-    /// That block is there.
-    There(Reading, Guard<Buffer>),
-    /// It has ended, or is being changed.
-    Gone,
+    Fetching(Reading, FetchBlock),
+    /// They were read, and it is given back.
+    Giving(Reading),
 }
 
 impl ReadPart {
-    /// At most `count` bytes from an offset on, and none past the size: of the inode of this guard, into these bytes.
-    #[tactic(auto, unfolding(crate::specs::Reading::read_of, crate::specs::Reading::ReadFits))]
-    pub fn begin(
-        inode: Guard<Inode>,
-        bytes: Vec<u8>,
-        offset: u32,
-        count: u32,
-    ) -> Begun<ReadPart, Reading>
-        requires loaded { IsSome inode.value.content }
-        requires room { count ≤ length bytes.items }
-        ensures program { begun_of read_of filled_in result ≡ read_from (record_in inode) offset count bytes.items }
-        ensures inode { IfBegun (λ m. reader_of m ≡ inode) (λ r. r.inode ≡ inode) result }
-        ensures fits { (hart : ℕ) (s : State) → IfBegun (ReadFits hart s) (λ _. Unit {0}) result }
+    /// At most `count` bytes from an offset on, and none past the size. How many these were is answered.
+    pub fn begin(inode: &Dinode, offset: u32, count: u32) -> Begun<ReadPart, usize>
+        ensures program { (bytes : List ℕ) (h : HandState) → begun_of (λ m. read_left inode.now bytes m h) (λ n. filled_to n bytes) result
+            ≡ read_from inode.now offset count bytes }
+        ensures ready { (bytes : List ℕ) (h : HandState) → NoBuffers h → count ≤ length bytes
+            → IfBegun (λ m. ReadReady bytes m h) (λ _. Unit {0}) result }
+        ensures count { IfBegun (λ m. read_count m ≡ end_of inode.now offset count - offset) (λ n. n ≡ end_of inode.now offset count - offset) result }
     {
         let from = offset as usize;
-        let upto = (from + count as usize).min(
-            (record(&inode).size as usize).min(BLOCK_LEN * MOST_BLOCKS),
-        );
-        next(Reading {
-            inode,
-            bytes,
+        let upto = (from + count as usize).min((inode.size as usize).min(BLOCK_LEN * MOST_BLOCKS));
+        let reading = Reading {
             filled: 0,
             from,
             upto,
             left: blocks(from, upto),
-        })
+        };
+        next(inode, &reading)
     }
 
-    /// One operation, in its place.
-    #[tactic(auto, unfolding(crate::specs::Reading::read_of, crate::specs::Reading::ReadFits))]
-    pub fn step<D: Device>(&mut self, hart: u8, core: &mut Core<D>) -> Came<Reading, Kind>
-        requires may { MayNext hart (read_of self.old) (state_of D.contents D.failures core.old) }
-        requires fits { ReadFits hart (state_of D.contents D.failures core.old) self.old }
-        ensures steps { StepsAt D.contents D.failures D.Called read_of filled_in ReadFits (λ _. Unit {0}) reading.Gone hart self.old self.new result core.old core.new }
-        ensures inode { LeftOf (λ m. reader_of m ≡ reader_of self.old) (λ r. r.inode ≡ reader_of self.old) (stepped_at self.new result) }
-        ensures tables { core.new.tables ≡ core.old.tables }
+    /// The next operation.
+    pub fn op(&self, hand: &mut Hand) -> Op
+        requires ready { (bytes : List ℕ) × ReadReady bytes self.now hand.old }
+        ensures op { result ≡ read_asked self.now }
+        ensures asks { (d : DinodeState) (bytes : List ℕ) → asks (read_left d bytes self.now hand.old) ≡ Some (op_in hand.new result) }
+        ensures can { CanDo result hand.new }
+        ensures prepared { Prepared result hand.old hand.new }
     {
-        // With `return` a result is copied once.
         match self {
-            ReadPart::Fetching(_, _) => return self.fetch(hart, core),
-            ReadPart::There(_, _) => return self.copy(hart, core),
-            ReadPart::Gone => unreachable!(),
+            ReadPart::Fetching(_, fetch) => fetch.op(hand),
+            ReadPart::Giving(_) => Op::Give(Place::First),
         }
     }
 
-    // A step while the block is fetched.
-    #[tactic(auto, unfolding(crate::specs::Reading::read_of, crate::specs::Reading::ReadFits))]
-    fn fetch<D: Device>(&mut self, hart: u8, core: &mut Core<D>) -> Came<Reading, Kind>
-        requires at { IsFetching self.old }
-        requires may { MayNext hart (read_of self.old) (state_of D.contents D.failures core.old) }
-        requires fits { ReadFits hart (state_of D.contents D.failures core.old) self.old }
-        ensures steps { StepsAt D.contents D.failures D.Called read_of filled_in ReadFits (λ _. Unit {0}) reading.Gone hart self.old self.new result core.old core.new }
-        ensures inode { LeftOf (λ m. reader_of m ≡ reader_of self.old) (λ r. r.inode ≡ reader_of self.old) (stepped_at self.new result) }
-        ensures tables { core.new.tables ≡ core.old.tables }
+    /// How it goes on.
+    #[tactic(auto, using(hands::proofs::Going::goes_bind))]
+    pub fn next(
+        &mut self,
+        inode: &Dinode,
+        memory: &mut [u8],
+        answer: &Answer,
+        hand: &Hand,
+    ) -> Option<usize>
+        requires came { (before : HandState) × ReadReady memory.old self.old before × IsAfter (read_asked self.old) before answer.now hand.now }
+        ensures goes { (before : HandState) → ReadReady memory.old self.old before → IsAfter (read_asked self.old) before answer.now hand.now
+            → Goes (read_left inode.now memory.old self.old before) (answer_in (read_asked self.old) answer.now hand.now)
+            (left_after (read_left inode.now memory.new) (λ n _. filled_to n memory.new) result self.new hand.now) }
+        ensures ready { IfNone result (ReadReady memory.new self.new hand.now) }
+        ensures over { IfSome result (λ _. NoBuffers hand.now) }
+        ensures still { IfNone result (read_count self.new ≡ read_count self.old) }
+        ensures count { IfSome result (λ n. (n ≡ read_count self.old) × (n ≤ length memory.new)) }
+        ensures beside { (before : HandState) → ReadReady memory.old self.old before → IsAfter (read_asked self.old) before answer.now hand.now
+            → Leaves before hand.now }
     {
-        // With `return` a result is copied once.
         match self {
-            ReadPart::Fetching(_, place) => match mem::replace(place, None) {
-                Some(fetch) => match fetch.step(hart, core) {
-                    Stepped::Waits(fetch) => {
-                        put(place, fetch);
-                        return Came::Waits;
-                    }
-                    Stepped::Ran(fetch, kind) => {
-                        put(place, fetch);
-                        return Came::Ran(kind);
-                    }
-                    Stepped::Done(guard, kind) => {
-                        self.there(guard);
-                        return Came::Ran(kind);
-                    }
-                    Stepped::Stopped(fetch) => {
-                        put(place, fetch);
-                        return Came::Stopped;
-                    }
-                },
-                None => unreachable!(),
+            ReadPart::Fetching(reading, fetch) => match fetch.next(answer, hand) {
+                None => None,
+                Some(_) => {
+                    let reading = copied(reading, memory, hand);
+                    *self = ReadPart::Giving(reading);
+                    None
+                }
             },
-            _ => unreachable!(),
-        }
-    }
-
-    // The block has been fetched.
-    fn there(&mut self, guard: Guard<Buffer>)
-        requires { HasFetched self.old }
-        ensures { self.new ≡ there_in guard self.old }
-    {
-        match mem::replace(self, ReadPart::Gone) {
-            ReadPart::Fetching(reading, place) => {
-                match place {
-                    None => {}
-                    Some(_) => unreachable!(),
+            ReadPart::Giving(reading) => match next(inode, reading) {
+                Begun::Is(count) => Some(count),
+                Begun::Runs(part) => {
+                    *self = part;
+                    None
                 }
-                self.put(ReadPart::There(reading, guard));
-            }
-            _ => unreachable!(),
+            },
         }
-    }
-
-    // The block's part is copied, and its buffer put back.
-    #[tactic(auto, unfolding(crate::specs::Reading::read_of, crate::specs::Reading::ReadFits, fs_machine::specs::Premises::Honest))]
-    fn copy<D: Device>(&mut self, hart: u8, core: &mut Core<D>) -> Came<Reading, Kind>
-        requires at { IsThere self.old }
-        requires may { MayNext hart (read_of self.old) (state_of D.contents D.failures core.old) }
-        requires fits { ReadFits hart (state_of D.contents D.failures core.old) self.old }
-        ensures steps { StepsAt D.contents D.failures D.Called read_of filled_in ReadFits (λ _. Unit {0}) reading.Gone hart self.old self.new result core.old core.new }
-        ensures inode { LeftOf (λ m. reader_of m ≡ reader_of self.old) (λ r. r.inode ≡ reader_of self.old) (stepped_at self.new result) }
-        ensures tables { core.new.tables ≡ core.old.tables }
-    {
-        // With `return` a result is copied once.
-        match mem::replace(self, ReadPart::Gone) {
-            ReadPart::There(mut reading, guard) => {
-                after(&mut reading, guard.value().bytes());
-                core.put_back(hart, guard);
-                match next(reading) {
-                    Begun::Runs(part) => {
-                        self.put(part);
-                        return Came::Ran(Kind::Put);
-                    }
-                    Begun::Is(reading) => return Came::Done(reading, Kind::Put),
-                }
-            }
-            _ => unreachable!(),
-        }
-    }
-
-    fn put(&mut self, next: ReadPart)
-        requires { self.old ≡ reading.Gone }
-        ensures { self.new ≡ next }
-    {
-        match mem::replace(self, next) {
-            ReadPart::Gone => {}
-            _ => unreachable!(),
-        }
-    }
-
-    /// Ends it in mid-call, after all that harts share has ended.
-    pub fn retire(self, retired: &RetiredCore) {
-        match self {
-            ReadPart::Fetching(reading, fetch) => {
-                reading.retire(retired);
-                match fetch {
-                    None => {}
-                    Some(fetch) => fetch.retire(retired),
-                }
-            }
-            ReadPart::There(reading, guard) => {
-                reading.retire(retired);
-                guard.retire_in_row(&retired.buffers);
-            }
-            ReadPart::Gone => {}
-        }
-    }
-}
-
-// How many blocks have bytes from one offset up to another.
-pub(crate) fn blocks(from: usize, upto: usize) -> usize
-    ensures { result ≡ blocks_between from upto }
-{
-    if from < upto {
-        (upto - 1) / BLOCK_LEN + 1 - from / BLOCK_LEN
-    } else {
-        0
     }
 }
 
 // Goes on with the next block, where one is left.
-#[tactic(auto, unfolding(crate::specs::Reading::read_of, crate::specs::Reading::ReadFits, crate::specs::Programs::read_blocks))]
-fn next(reading: Reading) -> Begun<ReadPart, Reading>
-    requires { IsReading reading.left reading }
-    ensures program { begun_of read_of filled_in result ≡ read_blocks reading.left (record_in reading.inode) reading.from reading.upto (filled_in reading) }
-    ensures inode { IfBegun (λ m. reader_of m ≡ reading.inode) (λ r. r.inode ≡ reading.inode) result }
-    ensures fits { (hart : ℕ) (s : State) → IfBegun (ReadFits hart s) (λ _. Unit {0}) result }
+#[tactic(auto, unfolding(crate::specs::Programs::read_blocks))]
+fn next(inode: &Dinode, reading: &Reading) -> Begun<ReadPart, usize>
+    requires { IsReading reading.now.left reading.now }
+    ensures program { (bytes : List ℕ) (h : HandState)
+        → begun_of (λ m. read_left inode.now bytes m h) (λ n. filled_to n bytes) result
+        ≡ read_blocks reading.now.left inode.now reading.now.from reading.now.upto (filled_in reading.now bytes) }
+    ensures ready { (bytes : List ℕ) (h : HandState) → NoBuffers h → HasRoom reading.now bytes
+        → IfBegun (λ m. ReadReady bytes m h) (λ _. Unit {0}) result }
+    ensures count { IfBegun (λ m. read_count m ≡ in_all reading.now) (λ n. n ≡ in_all reading.now) result }
 {
     if reading.left == 0 {
-        return Begun::Is(reading);
+        return Begun::Is(reading.filled);
     }
-    let mut reading = reading;
-    reading.left -= 1;
-    let fetch = FetchBlock::new(&record(&reading.inode), reading.from / BLOCK_LEN);
-    Begun::Runs(ReadPart::Fetching(reading, Some(fetch)))
+    let reading = Reading {
+        left: reading.left - 1,
+        ..*reading
+    };
+    let fetch = fetch_of(inode, reading.from / BLOCK_LEN);
+    Begun::Runs(ReadPart::Fetching(reading, fetch))
+}
+
+// Copies the part of the block in hand behind what was read before.
+fn copied(reading: &Reading, memory: &mut [u8], hand: &Hand) -> Reading
+    requires ready { IsReading (reading.now.left + 1) reading.now }
+    requires room { HasRoom reading.now memory.old }
+    requires valid { MatchOption hand.now.first ⊥ (λ g. IsSome g.value.content) }
+    ensures { HasRead reading.now memory.old (bytes_at First hand.now) result memory.new }
+{
+    match &hand.first {
+        Some(guard) => copied_from(reading, memory, guard.value().bytes()),
+        None => unreachable!(),
+    }
 }
 
 // Copies the block's part behind what was read before.
-fn after(reading: &mut Reading, block: &Block)
-    requires { IsReading (reading.old.left + 1) reading.old }
-    ensures { IsAfter reading.old block.now reading.new }
+fn copied_from(reading: &Reading, memory: &mut [u8], block: &Block) -> Reading
+    requires ready { IsReading (reading.now.left + 1) reading.now }
+    requires room { HasRoom reading.now memory.old }
+    ensures { HasRead reading.now memory.old block.now result memory.new }
 {
     let start = reading.from % BLOCK_LEN;
     let count = (reading.upto - reading.from).min(BLOCK_LEN - start);
-    let end = reading.filled + count;
-    copy_into(
-        &mut reading.bytes,
-        reading.filled,
-        &block[start..start + count],
-    );
-    reading.filled = end;
-    reading.from += BLOCK_LEN - start;
+    copy_into(memory, reading.filled, &block[start..start + count]);
+    Reading {
+        filled: reading.filled + count,
+        from: reading.from + (BLOCK_LEN - start),
+        ..*reading
+    }
 }

@@ -11,9 +11,9 @@ use Rattle.hands.specs.declared.hand.Place.TheVariants.{First, Second}
 use Rattle.hands.specs.declared.hand.Seat.{Seat}
 use Rattle.hands.specs.declared.hand.Seat.TheVariants.{One, Two}
 use Rattle.hands.specs.Hands.{inode_at, recorded, with_buffer, with_record}
-use Rattle.hand_controls.specs.Emptying.{HasNoBuffer}
-use Rattle.hand_controls.specs.HeldInodes.{unloaded, without_content, IsLoadedAt}
-use Rattle.content_parts.specs.InHand.{beside_buffers}
+use Rattle.inode_data.specs.Emptying.{HasNoBuffer}
+use Rattle.inode_table.specs.HeldInodes.{unloaded, without_content, IsLoadedAt}
+use Rattle.inode_data.specs.InHand.{beside_buffers}
 use Rattle.inode_parts.specs.Carries.{note_at, with_note}
 use Rattle.inode_parts.specs.Changes.{beside_inode, IsAmid}
 use Rattle.inode_parts.specs.Holding.{Changed, Reloaded, StandBeside}

@@ -5,8 +5,8 @@ use Rattle.fs_layout.specs.declared.superblock.Super.{Super}
 use Rattle.inode_table.specs.Programs.{inode_block}
 use Rattle.hands.specs.declared.hand.Hand.{Hand}
 use Rattle.hands.specs.Hands.{inode_at}
-use Rattle.hand_controls.specs.Emptying.{HasNoBuffer}
-use Rattle.hand_controls.specs.HeldInodes.{number_in}
+use Rattle.inode_data.specs.Emptying.{HasNoBuffer}
+use Rattle.inode_table.specs.HeldInodes.{number_in}
 use Rattle.inode_machine.specs.Inodes.{AtNothing, Query}
 use Rattle.inode_parts.specs.Changes.{MayChange}
 use Rattle.inode_parts.specs.Claims.{ClaimBegins}

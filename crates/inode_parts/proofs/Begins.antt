@@ -26,19 +26,19 @@ use Rattle.inode_machine.specs.World as above
 use Rattle.inodes_on_tables.specs.Shown.{new_file}
 use Rattle.inodes_on_blocks.specs.Handlers.{Acts, joining_to, lent_to, with_dying, is_listed, is_dying}
 use Rattle.inodes_on_blocks.specs.Lowering.{Carry, Had, Apart, record_had}
-use Rattle.whole_calls.specs.Asks.{joined_in, loan_in, op_in}
-use Rattle.whole_calls.specs.declared.asks.Ask.{Ask}
-use Rattle.whole_calls.specs.declared.asks.Ask.TheVariants as ask
-use Rattle.whole_calls.specs.declared.elements.Element.{Element}
-use Rattle.whole_calls.specs.declared.asks.Query.{Query}
-use Rattle.whole_calls.specs.declared.asks.Sort.{Sort}
-use Rattle.whole_calls.specs.declared.asks.Heard.TheVariants as heard
+use Rattle.path_walk.specs.Asks.{joined_in, loan_in, op_in}
+use Rattle.path_walk.specs.declared.asks.Ask.{Ask}
+use Rattle.path_walk.specs.declared.asks.Ask.TheVariants as ask
+use Rattle.path_walk.specs.declared.elements.Element.{Element}
+use Rattle.path_walk.specs.declared.asks.Query.{Query}
+use Rattle.path_walk.specs.declared.asks.Sort.{Sort}
+use Rattle.path_walk.specs.declared.asks.Heard.TheVariants as heard
 use Rattle.inode_parts.specs.Expecting.{BeginsWith}
 use Rattle.inode_parts.specs.Carries.{carry_in, had_at, had_of}
 use Rattle.inode_parts.specs.Parts.{IsPart, Part, one}
 use Rattle.inode_parts.specs.OneSteps.{Begins, HasReference, IsAlone, MayRefer, StepReady, free_seat, joining_heard, loan_heard, locks, seat_of_lock, seat_of_reference, still}
 use Rattle.inode_parts.specs.Leaving.{having}
-use Rattle.inode_parts.specs.InodeParts.{ends_with, part_for, part_left, PartReady, one_or_leave, PartTold, FillsAs}
+use Rattle.inode_parts.specs.InodeParts.{ends_with, is_short, part_for, part_left, PartReady, one_or_leave, PartTold, FillsAs}
 use Rattle.inode_parts.specs.declared.note.Note.{Note}
 use Rattle.inode_parts.specs.declared.note.Note.TheVariants as note
 use Rattle.inode_parts.specs.declared.note.Notes.{Notes}
@@ -153,6 +153,27 @@ module _ (sizes : Super) (path : List ℕ) (m : Notes) (h : Hand) where
 pub other_fills : (text : List ℕ) (a : Ask) (q : Part) → ((fd n offset count : ℕ) → a ≢ ask.ReadFile fd n offset count) → FillsAs a text q
 other_fills text (ask.ReadFile fd n offset count) q other = absurd (other fd n offset count refl)
 other_fills text a q other = tt
+
+-- what is short begins with what it asks, and fills nothing
+pub short_so : (path : List ℕ) (m : Notes) (a : Ask) (h : Hand) → is_short a ≡ true → BeginsWith path (op_in path a) (having h m) → Begins (op_in path a) h
+short_so path m (ask.Store n count) h short has = absurd (cc short)
+short_so path m (ask.Empty n) h short has = absurd (cc short)
+short_so path m (ask.Enter d e n) h short has = absurd (cc short)
+short_so path m (ask.Clear d e) h short has = absurd (cc short)
+short_so path m (ask.Fill n d) h short has = absurd (cc short)
+short_so path m (ask.Free n) h short has = absurd (cc short)
+short_so path m (ask.Claim sort) h short has = absurd (cc short)
+short_so path m (ask.LockOpen fd n) h short has = absurd (cc short)
+short_so path m (ask.LockFile fd) h short has = absurd (cc short)
+short_so path m (ask.StatFile fd) h short has = absurd (cc short)
+short_so path m (ask.Take n query) h short has = absurd (cc short)
+short_so path m (ask.ReadFile fd n offset count) h short has = absurd (cc short)
+short_so path m (ask.WriteFile fd n offset index) h short has = absurd (cc short)
+short_so path m a h short has = has
+
+pub short_fills : (text : List ℕ) (a : Ask) (q : Part) → is_short a ≡ true → FillsAs a text q
+short_fills text (ask.ReadFile fd n offset count) q short = absurd (cc short)
+short_fills text a q short = tt
 
 -- what isn't one of the longer ones is one below, or leaves a transaction
 pub short_begins : (path : List ℕ) (m : Notes) (a : Ask) (h : Hand) → BeginsWith path (op_in path a) (having h m)

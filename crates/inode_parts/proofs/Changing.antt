@@ -14,12 +14,12 @@ use Rattle.hands.specs.declared.hand.Seat.{Seat}
 use Rattle.hands.specs.declared.hand.Seat.TheVariants.{One, Two}
 use Rattle.hands.specs.Controls.{bare, without_record}
 use Rattle.hands.specs.Hands.{inode_at, no_inode, recorded, with_record}
-use Rattle.hand_controls.specs.Emptying.{beside_emptying}
-use Rattle.hand_controls.specs.HeldInodes.{record_in, without_content, IsLoadedAt}
-use Rattle.hand_controls.specs.declared.truncate.Emptying.{Emptying}
-use Rattle.content_parts.specs.InHand.{beside_buffers}
+use Rattle.inode_data.specs.Emptying.{beside_emptying}
+use Rattle.inode_table.specs.HeldInodes.{record_in, without_content, IsLoadedAt}
+use Rattle.inode_data.specs.declared.truncate.Emptying.{Emptying}
+use Rattle.inode_data.specs.InHand.{beside_buffers}
 use Rattle.inodes_on_blocks.specs.Lowering.{NothingMore, Had, Apart, Has}
-use Rattle.whole_calls.specs.declared.asks.Heard.{Heard}
+use Rattle.path_walk.specs.declared.asks.Heard.{Heard}
 use Rattle.inode_parts.specs.Carries.{carry_in, had_at, with_note}
 use Rattle.inode_parts.specs.Changes.{changed}
 use Rattle.inode_parts.specs.OneSteps.{IsAlone, locks}

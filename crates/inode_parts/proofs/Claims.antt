@@ -15,22 +15,21 @@ use Rattle.hands.specs.Hands.{reference_at, with_reference}
 use Rattle.hands.specs.declared.hand.Hand.{Hand}
 use Rattle.hands.specs.declared.hand.Seat.{Seat}
 use Rattle.hands.specs.declared.hand.Seat.TheVariants.{One, Two}
-use Rattle.hand_controls.specs.Making.{beside_new, new_left, new_value}
-use Rattle.hand_controls.specs.Making as making
-use Rattle.hand_controls.specs.declared.new_inode.Claimed.{Claimed as Searched}
-use Rattle.hand_controls.specs.declared.new_inode.Claimed.TheVariants as searched
-use Rattle.hand_controls.specs.declared.new_inode.NewInode.{NewInode}
-use Rattle.hand_controls.proofs.Goings.{goes_to, goes_with}
+use Rattle.inode_table.specs.Making.{beside_new, new_left, new_value}
+use Rattle.inode_table.specs.Making as making
+use Rattle.inode_table.specs.declared.new_inode.Made.TheVariants as searched
+use Rattle.inode_table.specs.declared.new_inode.NewInode.{NewInode}
+use Rattle.hands.proofs.Goings.{goes_to, goes_with}
 use Rattle.inode_machine.specs.Inodes.{OfDevice, OfDirectory, OfFile, Sort}
 use Rattle.inode_machine.specs.World as above
 use Rattle.inode_machine.specs.World.Op.{Claim}
 use Rattle.inodes_on_tables.specs.Shown.{kind_of}
 use Rattle.inodes_on_blocks.specs.Lowering.{Carry}
 use Rattle.inodes_on_blocks.specs.Making.{claim_at, claim_from, claim_in}
-use Rattle.whole_calls.specs.Asks.{claimed_in, claimed_of}
-use Rattle.whole_calls.specs.declared.asks.Claimed.{Claimed}
-use Rattle.whole_calls.specs.declared.asks.Heard.{Heard}
-use Rattle.whole_calls.specs.declared.asks.Heard.TheVariants as heard
+use Rattle.path_walk.specs.Asks.{claimed_in, claimed_of}
+use Rattle.path_walk.specs.declared.asks.Claimed.{Claimed}
+use Rattle.path_walk.specs.declared.asks.Heard.{Heard}
+use Rattle.path_walk.specs.declared.asks.Heard.TheVariants as heard
 use Rattle.inode_parts.specs.Carries.{carry_in, handed}
 use Rattle.inode_parts.specs.Claims.{claim_ends, claimed_by}
 use Rattle.inode_parts.specs.Holding.{without_numbers, LeavesClaim}
@@ -119,10 +118,10 @@ module _ (k : Seat) (start h : Hand) (at : k ≡ free_seat start) (free : HasFre
   none_so : reference_at k h ≡ None → without_numbers h ≡ without_numbers start
   none_so there = put_so None there ∙ ap (λ (o : Option ℕ). without_numbers (with_reference (free_seat start) o start)) (sym free) ∙ ap without_numbers (as_it_was (free_seat start) start)
 
-  left_so : (out : Searched) → reference_at k h ≡ making.claimed_of out → LeavesClaim (claimed_of (claimed_by (new_value out h))) start h
+  left_so : (out : Made) → reference_at k h ≡ making.claimed_of out → LeavesClaim (claimed_of (claimed_by (new_value out h))) start h
   left_so (searched.Inode n) there = put_so (Some n) there
   left_so searched.NoPlace there = none_so there
   left_so searched.NoInode there = none_so there
 
-  pub claim_leaves : (out : Searched) (x : Claimed) → reference_at k h ≡ making.claimed_of out → x ≡ claimed_by (new_value out h) → LeavesClaim (claimed_of x) start h
+  pub claim_leaves : (out : Made) (x : Claimed) → reference_at k h ≡ making.claimed_of out → x ≡ claimed_by (new_value out h) → LeavesClaim (claimed_of x) start h
   claim_leaves out x there e = subst (λ (x : Claimed). LeavesClaim (claimed_of x) start h) (sym e) (left_so out there)

@@ -23,15 +23,15 @@ use Rattle.hands.specs.declared.hand.Seat.{Seat}
 use Rattle.hands.specs.declared.hand.Seat.TheVariants.{One, Two}
 use Rattle.hands.specs.Controls.{Goes}
 use Rattle.hands.specs.Hands.{inode_at, inode_in, no_inode}
-use Rattle.hand_controls.specs.HeldInodes.{IsLoadedAt}
-use Rattle.hand_controls.proofs.Goings.{goes_with}
-use Rattle.content_parts.specs.Clearing.{clear_left}
-use Rattle.content_parts.specs.InHand.{beside_buffers}
+use Rattle.inode_table.specs.HeldInodes.{IsLoadedAt}
+use Rattle.hands.proofs.Goings.{goes_with}
+use Rattle.directory.specs.Clearing.{clear_left}
+use Rattle.inode_data.specs.InHand.{beside_buffers}
 use Rattle.inode_machine.specs.World as above
 use Rattle.inodes_on_blocks.specs.Handlers as handlers
 use Rattle.inodes_on_blocks.specs.Lowering.{NothingMore, Had, Apart, Carry, Has, record_had}
 use Rattle.inodes_on_blocks.specs.Naming.{clear_in, clear_slot, put_named, slot_found, slot_of}
-use Rattle.whole_calls.specs.declared.asks.Heard.TheVariants as heard
+use Rattle.path_walk.specs.declared.asks.Heard.TheVariants as heard
 use Rattle.inode_parts.specs.Carries.{carry_in, had_at, had_of, note_at}
 use Rattle.inode_parts.specs.Changes.{changed}
 use Rattle.inode_parts.specs.Clears.{clear_part_left, slot_in, ClearBegins, HasFound}

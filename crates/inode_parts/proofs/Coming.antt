@@ -9,10 +9,10 @@ use Rattle.hands.specs.Hands.{inode_at, with_inode}
 use Rattle.hands.specs.declared.hand.Hand.{Hand}
 use Rattle.hands.specs.declared.hand.Seat.{Seat}
 use Rattle.hands.specs.declared.hand.Seat.TheVariants.{One, Two}
-use Rattle.hand_controls.specs.HeldInodes.{number_in, IsLoadedAt}
-use Rattle.hand_controls.specs.LoadingHeld.{beside_lock}
-use Rattle.hand_controls.specs.LockingFiles.{HasFile}
-use Rattle.hand_controls.specs.declared.lock_file.HeldFile.{HeldFile}
+use Rattle.inode_table.specs.HeldInodes.{number_in, IsLoadedAt}
+use Rattle.inode_table.specs.LoadingHeld.{beside_lock}
+use Rattle.file_table.specs.LockingFiles.{HasFile}
+use Rattle.file_table.specs.declared.lock_file.HeldFile.{HeldFile}
 use Rattle.inode_parts.specs.Leaving.{having}
 use Rattle.inode_parts.specs.Carries.{note_at, with_note}
 use Rattle.inode_parts.specs.Coming.{Comes}

@@ -15,15 +15,15 @@ use Rattle.inode_data.specs.Freeing.{store_record, truncate, without_content}
 use Rattle.hands.specs.declared.hand.Hand.{Hand}
 use Rattle.hands.specs.Controls.{Goes}
 use Rattle.hands.specs.Hands.{inode_in, with_record}
-use Rattle.hand_controls.specs.Emptying.{beside_emptying, emptying_of, truncate_left}
-use Rattle.hand_controls.specs.HeldInodes.{record_in, IsLoadedAt}
-use Rattle.hand_controls.specs.declared.truncate.Emptying.{Emptying}
-use Rattle.hand_controls.proofs.Goings.{goes_with}
+use Rattle.inode_data.specs.Emptying.{beside_emptying, emptying_of, truncate_left}
+use Rattle.inode_table.specs.HeldInodes.{record_in, IsLoadedAt}
+use Rattle.inode_data.specs.declared.truncate.Emptying.{Emptying}
+use Rattle.hands.proofs.Goings.{goes_with}
 use Rattle.inode_machine.specs.World as above
 use Rattle.inodes_on_blocks.specs.Handlers as handlers
 use Rattle.inodes_on_blocks.specs.Lowering.{NothingMore, Carry, Has, record_had}
 use Rattle.inodes_on_blocks.specs.Storing.{put_record}
-use Rattle.whole_calls.specs.declared.asks.Heard.TheVariants as heard
+use Rattle.path_walk.specs.declared.asks.Heard.TheVariants as heard
 use Rattle.inode_parts.specs.Carries.{carry_in, handed, with_note}
 use Rattle.inode_parts.specs.Changes.{changed}
 use Rattle.inode_parts.specs.OneSteps.{HasLock, seat_of_lock}

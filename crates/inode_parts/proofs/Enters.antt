@@ -28,17 +28,17 @@ use Rattle.hands.specs.declared.hand.Hand.{Hand}
 use Rattle.hands.specs.declared.hand.Seat.{Seat}
 use Rattle.hands.specs.Controls.{Goes}
 use Rattle.hands.specs.Hands.{inode_in}
-use Rattle.hand_controls.proofs.Goings.{goes_with}
-use Rattle.content_parts.specs.Entering.{enter_left}
-use Rattle.content_parts.specs.InHand.{beside_buffers}
+use Rattle.hands.proofs.Goings.{goes_with}
+use Rattle.directory.specs.EnterParts.{enter_left}
+use Rattle.inode_data.specs.InHand.{beside_buffers}
 use Rattle.inode_machine.specs.World as above
 use Rattle.inodes_on_blocks.specs.Entering.{entered_to, put_grown, seek_free}
 use Rattle.inodes_on_blocks.specs.Handlers as handlers
 use Rattle.inodes_on_blocks.specs.Handlers.{acts}
 use Rattle.inodes_on_blocks.specs.Lowering.{NothingMore, Carry, Has, record_had}
-use Rattle.whole_calls.specs.Asks as whole
-use Rattle.whole_calls.specs.declared.asks.Entered.TheVariants as entry
-use Rattle.whole_calls.specs.declared.asks.Heard.TheVariants as heard
+use Rattle.path_walk.specs.Asks as whole
+use Rattle.path_walk.specs.declared.asks.Entered.TheVariants as entry
+use Rattle.path_walk.specs.declared.asks.Heard.TheVariants as heard
 use Rattle.inode_parts.specs.Carries.{carry_in}
 use Rattle.inode_parts.specs.Enters.{enter_part_left, entered, entered_so}
 use Rattle.inode_parts.specs.OneSteps.{HasLock, seat_of_lock}

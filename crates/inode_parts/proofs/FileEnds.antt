@@ -8,12 +8,12 @@ use Rattle.fs_tables.specs.declared.files.Refused.{Refused}
 use Rattle.hands.specs.Hands.{inode_at}
 use Rattle.hands.specs.declared.hand.Hand.{Hand}
 use Rattle.hands.specs.declared.hand.Seat.{Seat}
-use Rattle.hand_controls.specs.HeldInodes.{record_in}
-use Rattle.hand_controls.specs.LockingFiles.{HasFile}
-use Rattle.hand_controls.specs.declared.lock_file.HeldFile.{HeldFile}
+use Rattle.inode_table.specs.HeldInodes.{record_in}
+use Rattle.file_table.specs.LockingFiles.{HasFile}
+use Rattle.file_table.specs.declared.lock_file.HeldFile.{HeldFile}
 use Rattle.inodes_on_blocks.specs.Handlers.{cause_of}
-use Rattle.whole_calls.specs.declared.asks.Heard.TheVariants as heard
-use Rattle.whole_calls.specs.declared.asks.Locked.TheVariants as locked
+use Rattle.path_walk.specs.declared.asks.Heard.TheVariants as heard
+use Rattle.path_walk.specs.declared.asks.Locked.TheVariants as locked
 use Rattle.inode_parts.specs.Carries.{carry_in, handed, with_note}
 use Rattle.inode_parts.specs.FileLocks.{file_ends, open_ends}
 use Rattle.inode_parts.specs.OneSteps.{other}

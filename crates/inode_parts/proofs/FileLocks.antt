@@ -13,9 +13,9 @@ use Rattle.fs_machine.specs.Steps as steps
 use Rattle.inode_table.specs.Programs.{load_unless}
 use Rattle.hands.specs.Hands.{inode_at}
 use Rattle.hands.specs.declared.hand.Hand.{Hand}
-use Rattle.hand_controls.specs.LockingFiles.{load_locked, load_open, lock_file_loaded, lock_open_loaded, locks, opens, file_left, file_seat, open_left, open_seat}
-use Rattle.hand_controls.specs.declared.lock_file.LockFile.{LockFile}
-use Rattle.hand_controls.specs.declared.lock_open.LockOpen.{LockOpen}
+use Rattle.file_table.specs.LockingFiles.{load_locked, load_open, lock_file_loaded, lock_open_loaded, locks, opens, file_left, file_seat, open_left, open_seat}
+use Rattle.file_table.specs.declared.lock_file.LockFile.{LockFile}
+use Rattle.file_table.specs.declared.lock_open.LockOpen.{LockOpen}
 use Rattle.inode_machine.specs.World as above
 use Rattle.inodes_on_blocks.specs.Files.{file_locked, open_locked, with_file}
 use Rattle.inodes_on_blocks.specs.Handlers.{P}

@@ -17,16 +17,16 @@ use Rattle.inode_data.specs.Programs.{FilledMemory, blocks_between, end_of, read
 use Rattle.hands.specs.Controls.{Goes}
 use Rattle.hands.specs.Hands.{inode_at, inode_in, with_inode}
 use Rattle.hands.specs.declared.hand.Hand.{Hand}
-use Rattle.hand_controls.specs.HeldInodes.{record_in}
-use Rattle.hand_controls.proofs.Goings.{goes_with}
-use Rattle.content_parts.specs.InHand.{beside_buffers}
-use Rattle.content_parts.specs.PartReading.{filled_to, read_count, read_left, ReadReady}
-use Rattle.content_parts.specs.declared.read_part.ReadPart.{ReadPart}
-use Rattle.content_parts.specs.declared.read_part.ReadPart.TheVariants.{Fetching, Giving}
+use Rattle.inode_table.specs.HeldInodes.{record_in}
+use Rattle.hands.proofs.Goings.{goes_with}
+use Rattle.inode_data.specs.InHand.{beside_buffers}
+use Rattle.inode_data.specs.PartReading.{filled_to, read_count, read_left, ReadReady}
+use Rattle.inode_data.specs.declared.read_part.ReadPart.{ReadPart}
+use Rattle.inode_data.specs.declared.read_part.ReadPart.TheVariants.{Fetching, Giving}
 use Rattle.inode_machine.specs.World as above
 use Rattle.inodes_on_blocks.specs.Files.{give_read}
 use Rattle.inodes_on_blocks.specs.Lowering.{Carry, nothing, record_had}
-use Rattle.whole_calls.specs.declared.asks.Heard.TheVariants as heard
+use Rattle.path_walk.specs.declared.asks.Heard.TheVariants as heard
 use Rattle.inode_parts.specs.Carries.{carry_in, handed}
 use Rattle.inode_parts.specs.FileReads.{read_file_left, read_over, FillsFrom, MayMove}
 use Rattle.inode_parts.specs.LockedFiles.{moved}

@@ -11,16 +11,16 @@ use Rattle.fs_machine.specs.Steps as steps
 use Rattle.hands.specs.Hands.{inode_at}
 use Rattle.hands.specs.declared.hand.Hand.{Hand}
 use Rattle.hands.specs.declared.hand.Seat.{Seat}
-use Rattle.hand_controls.specs.HeldInodes.{record_in}
-use Rattle.hand_controls.specs.LockingFiles.{load_locked, lock_file_loaded, file_left, file_seat, HasFile}
-use Rattle.hand_controls.specs.declared.lock_file.HeldFile.{HeldFile}
-use Rattle.hand_controls.specs.declared.lock_file.LockFile.{LockFile}
+use Rattle.inode_table.specs.HeldInodes.{record_in}
+use Rattle.file_table.specs.LockingFiles.{load_locked, lock_file_loaded, file_left, file_seat, HasFile}
+use Rattle.file_table.specs.declared.lock_file.HeldFile.{HeldFile}
+use Rattle.file_table.specs.declared.lock_file.LockFile.{LockFile}
 use Rattle.inode_machine.specs.World as above
 use Rattle.inodes_on_blocks.specs.Lowering.{NothingMore, Carry, Has}
 use Rattle.inodes_on_blocks.specs.Reading.{stat_loaded, stat_locked}
 use Rattle.plain_tree.specs.Tree.{put}
-use Rattle.whole_calls.specs.declared.asks.Face.{Face}
-use Rattle.whole_calls.specs.declared.asks.Heard.TheVariants as heard
+use Rattle.path_walk.specs.declared.asks.Face.{Face}
+use Rattle.path_walk.specs.declared.asks.Heard.TheVariants as heard
 use Rattle.inode_parts.specs.Carries.{carry_in, handed, with_note}
 use Rattle.inode_parts.specs.Faces.{face_by}
 use Rattle.inode_parts.specs.FileStats.{stat_ends}

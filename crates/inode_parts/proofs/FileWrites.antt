@@ -22,22 +22,23 @@ use Rattle.hands.specs.Hands.{inode_at, inode_in, recorded, with_inode, with_rec
 use Rattle.hands.specs.declared.hand.Hand.{Hand}
 use Rattle.hands.specs.declared.hand.Seat.{Seat}
 use Rattle.hands.specs.declared.hand.Seat.TheVariants.{One, Two}
-use Rattle.hand_controls.specs.Emptying.{HasNoBuffer}
-use Rattle.hand_controls.specs.HeldInodes.{number_in, record_in, IsLoadedAt}
-use Rattle.hand_controls.proofs.Goings.{goes_to, goes_with, recorded-in}
-use Rattle.content_parts.specs.InHand.{beside_buffers}
-use Rattle.content_parts.specs.PartWriting.{write_left, written_as, WriteReady}
-use Rattle.content_parts.specs.declared.write_part.WritePart.{WritePart}
-use Rattle.content_parts.specs.declared.write_part.WritePart.TheVariants as write
-use Rattle.content_parts.specs.declared.write_part.Written.{Written}
+use Rattle.inode_data.specs.Emptying.{HasNoBuffer}
+use Rattle.inode_table.specs.HeldInodes.{number_in, record_in, IsLoadedAt}
+use Rattle.hands.proofs.Goings.{goes_to, goes_with}
+use Rattle.inode_table.proofs.Goings.{recorded-in}
+use Rattle.inode_data.specs.InHand.{beside_buffers}
+use Rattle.inode_data.specs.PartWriting.{write_left, written_as, WriteReady}
+use Rattle.inode_data.specs.declared.write_part.WritePart.{WritePart}
+use Rattle.inode_data.specs.declared.write_part.WritePart.TheVariants as write
+use Rattle.inode_data.specs.declared.write_part.Written.{Written}
 use Rattle.inode_machine.specs.World as above
 use Rattle.inodes_on_blocks.specs.Handlers.{Acts}
 use Rattle.inodes_on_blocks.specs.Lowering.{Apart, Carry, nothing, record_had}
 use Rattle.inodes_on_blocks.specs.Writing.{give_written, refused_in, write_unless, wrote_to}
-use Rattle.whole_calls.specs.Asks.{wrote_of}
-use Rattle.whole_calls.specs.declared.asks.Heard.TheVariants as heard
-use Rattle.whole_calls.specs.declared.asks.Wrote.{Wrote}
-use Rattle.whole_calls.specs.declared.asks.Wrote.TheVariants as wrote
+use Rattle.path_walk.specs.Asks.{wrote_of}
+use Rattle.path_walk.specs.declared.asks.Heard.TheVariants as heard
+use Rattle.path_walk.specs.declared.asks.Wrote.{Wrote}
+use Rattle.path_walk.specs.declared.asks.Wrote.TheVariants as wrote
 use Rattle.inode_parts.specs.Carries.{carry_in, handed}
 use Rattle.inode_parts.specs.FileWrites.{ended_as, write_done, write_file_left, write_over, wrote_upto, WriteFileReady}
 use Rattle.inode_parts.specs.LockedFiles.{moved}

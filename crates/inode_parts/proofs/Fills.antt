@@ -16,15 +16,15 @@ use Rattle.hands.specs.declared.hand.Hand.{Hand}
 use Rattle.hands.specs.declared.hand.Seat.{Seat}
 use Rattle.hands.specs.Controls.{Goes}
 use Rattle.hands.specs.Hands.{inode_in}
-use Rattle.hand_controls.proofs.Goings.{goes_with}
-use Rattle.content_parts.specs.Filling.{dots, fill as fill_names, fill_left, filled_by}
-use Rattle.content_parts.specs.InHand.{beside_buffers}
-use Rattle.content_parts.specs.declared.fill.Filled.{Filled}
+use Rattle.hands.proofs.Goings.{goes_with}
+use Rattle.directory.specs.Filling.{dots, fill as fill_names, fill_left, filled_by}
+use Rattle.inode_data.specs.InHand.{beside_buffers}
+use Rattle.directory.specs.declared.fill.Filled.{Filled}
 use Rattle.inode_machine.specs.World as above
 use Rattle.inodes_on_blocks.specs.Entering.{filled_to, put_grown}
 use Rattle.inodes_on_blocks.specs.Lowering.{NothingMore, Carry, Has, record_had}
-use Rattle.whole_calls.specs.Asks as whole
-use Rattle.whole_calls.specs.declared.asks.Heard.TheVariants as heard
+use Rattle.path_walk.specs.Asks as whole
+use Rattle.path_walk.specs.declared.asks.Heard.TheVariants as heard
 use Rattle.inode_parts.specs.Carries.{carry_in}
 use Rattle.inode_parts.specs.Fills.{fill_part_left, filled}
 use Rattle.inode_parts.specs.OneSteps.{HasLock, seat_of_lock}

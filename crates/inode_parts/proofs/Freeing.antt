@@ -14,10 +14,10 @@ use Rattle.inode_data.specs.Freeing.{freed, store_record, truncate, without_cont
 use Rattle.hands.specs.Hands.{inode_at, inode_in}
 use Rattle.hands.specs.declared.hand.Hand.{Hand}
 use Rattle.hands.specs.declared.hand.Seat.{Seat}
-use Rattle.hand_controls.specs.Emptying.{beside_emptying, IsEmptying}
-use Rattle.hand_controls.specs.FreeingInodes.{free_record, freeing_left, store_free}
-use Rattle.hand_controls.specs.HeldInodes.{number_in, record_in as record_at}
-use Rattle.hand_controls.specs.declared.free_inode.FreeInode.{FreeInode}
+use Rattle.inode_data.specs.Emptying.{beside_emptying, IsEmptying}
+use Rattle.inode_data.specs.FreeingInodes.{free_record, freeing_left, store_free}
+use Rattle.inode_table.specs.HeldInodes.{number_in, record_in as record_at}
+use Rattle.inode_data.specs.declared.free_inode.FreeInode.{FreeInode}
 use Rattle.inode_machine.specs.World as above
 use Rattle.inodes_on_blocks.specs.Emptying.{give_content}
 use Rattle.inodes_on_blocks.specs.Handlers.{P}

@@ -12,14 +12,15 @@ use Rattle.hands.specs.Hands.{inode_at, inode_in, no_inode}
 use Rattle.hands.specs.declared.hand.Hand.{Hand}
 use Rattle.hands.specs.declared.hand.Seat.{Seat}
 use Rattle.hands.specs.declared.hand.Seat.TheVariants.{One, Two}
-use Rattle.hand_controls.specs.Emptying.{beside_emptying}
-use Rattle.hand_controls.specs.FreeingInodes.{freeing_left, freeing_of, IsUnloadedAt}
-use Rattle.hand_controls.specs.HeldInodes.{number_in, without_content}
-use Rattle.hand_controls.specs.declared.free_inode.FreeInode.{FreeInode}
-use Rattle.hand_controls.specs.declared.truncate.Emptying.{Emptying}
-use Rattle.hand_controls.proofs.Goings.{goes_to, goes_with, number-kept}
+use Rattle.inode_data.specs.Emptying.{beside_emptying}
+use Rattle.inode_data.specs.FreeingInodes.{freeing_left, freeing_of, IsUnloadedAt}
+use Rattle.inode_table.specs.HeldInodes.{number_in, without_content}
+use Rattle.inode_data.specs.declared.free_inode.FreeInode.{FreeInode}
+use Rattle.inode_data.specs.declared.truncate.Emptying.{Emptying}
+use Rattle.hands.proofs.Goings.{goes_to, goes_with}
+use Rattle.inode_data.proofs.Goings.{number-kept}
 use Rattle.inodes_on_blocks.specs.Lowering.{Emptied}
-use Rattle.whole_calls.specs.declared.asks.Heard.TheVariants as heard
+use Rattle.path_walk.specs.declared.asks.Heard.TheVariants as heard
 use Rattle.inode_parts.specs.Carries.{carry_in, handed, had_of, with_note}
 use Rattle.inode_parts.specs.Frees.{free_ends}
 use Rattle.inode_parts.specs.OneSteps.{IsAlone, other}

@@ -1,23 +1,25 @@
 -- A part that is ready has an operation to make, and so has a call with it.
 use Rattle.std.proofs.Common.{ℕ, List}
 use Rattle.plain_tree.specs.Calls.{piece}
-use Rattle.hands.proofs.HasOnes.{HasOne, first}
+use Rattle.hands.proofs.HasOnes.{HasOne, first, finish_has}
 use Rattle.hands.specs.declared.hand.Hand.{Hand}
-use Rattle.hand_controls.proofs.HasOnes.{file_has, finish_has, freeing_has, lock_has, new_has, open_has, record_has, truncate_has}
-use Rattle.hand_controls.specs.Emptying.{truncate_left}
-use Rattle.hand_controls.specs.Finishing.{finish_left}
-use Rattle.hand_controls.specs.FreeingInodes.{freeing_left}
-use Rattle.hand_controls.specs.LockingFiles.{file_left, open_left}
-use Rattle.hand_controls.specs.LockingInodes.{lock_left}
-use Rattle.hand_controls.specs.Making.{new_left}
-use Rattle.hand_controls.specs.StoringRecords.{record_left}
-use Rattle.content_parts.proofs.HasOnes.{clear_has, enter_has, fill_has, read_has, search_has, write_has}
-use Rattle.content_parts.specs.Clearing.{clear_left}
-use Rattle.content_parts.specs.Entering.{enter_left}
-use Rattle.content_parts.specs.Filling.{fill_left}
-use Rattle.content_parts.specs.PartReading.{read_left}
-use Rattle.content_parts.specs.PartWriting.{write_left}
-use Rattle.content_parts.specs.Searching.{search_left}
+use Rattle.file_table.proofs.HasOnes.{file_has, open_has}
+use Rattle.inode_data.proofs.HasOnes.{freeing_has, truncate_has, read_has, write_has}
+use Rattle.inode_table.proofs.HasOnes.{lock_has, new_has, record_has}
+use Rattle.inode_data.specs.Emptying.{truncate_left}
+use Rattle.hands.specs.Finishing.{finish_left}
+use Rattle.inode_data.specs.FreeingInodes.{freeing_left}
+use Rattle.file_table.specs.LockingFiles.{file_left, open_left}
+use Rattle.inode_table.specs.LockingInodes.{lock_left}
+use Rattle.inode_table.specs.Making.{new_left}
+use Rattle.inode_table.specs.StoringRecords.{record_left}
+use Rattle.directory.proofs.HasOnes.{clear_has, enter_has, fill_has, search_has}
+use Rattle.directory.specs.Clearing.{clear_left}
+use Rattle.directory.specs.EnterParts.{enter_left}
+use Rattle.directory.specs.Filling.{fill_left}
+use Rattle.inode_data.specs.PartReading.{read_left}
+use Rattle.inode_data.specs.PartWriting.{write_left}
+use Rattle.directory.specs.Searching.{search_left}
 use Rattle.whole_calls.specs.Wholes.{text_in}
 use Rattle.inode_parts.specs.Calls.{lowered_left, LoweredReady}
 use Rattle.inode_parts.specs.FileReads.{read_file_left}

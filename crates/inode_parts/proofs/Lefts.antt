@@ -2,7 +2,7 @@
 use Rattle.std.proofs.Common.{◌≡◌, ℕ, List, Option, Some, None, refl}
 use Rattle.hands.specs.Controls.{left_after}
 use Rattle.hands.specs.declared.hand.Hand.{Hand}
-use Rattle.whole_calls.specs.declared.asks.Heard.{Heard}
+use Rattle.path_walk.specs.declared.asks.Heard.{Heard}
 use Rattle.inode_parts.specs.Carries.{handed}
 use Rattle.inode_parts.specs.FileLocks.{lock_file_left}
 use Rattle.inode_parts.specs.FileReads.{read_file_left}

@@ -9,9 +9,9 @@ use Rattle.hands.specs.declared.hand.Hand.{Hand}
 use Rattle.hands.specs.declared.hand.Seat.{Seat}
 use Rattle.hands.specs.declared.hand.Seat.TheVariants.{One, Two}
 use Rattle.hands.specs.Hands.{inode_at, inode_in, no_inode, with_inode}
-use Rattle.hand_controls.specs.Emptying.{HasNoBuffer}
-use Rattle.hand_controls.specs.HeldInodes.{IsLoadedAt}
-use Rattle.content_parts.specs.InHand.{beside_buffers}
+use Rattle.inode_data.specs.Emptying.{HasNoBuffer}
+use Rattle.inode_table.specs.HeldInodes.{IsLoadedAt}
+use Rattle.inode_data.specs.InHand.{beside_buffers}
 use Rattle.inodes_on_blocks.specs.Lowering.{Had, Apart, nothing}
 use Rattle.inode_parts.specs.Carries.{carry_in, had_at, note_at}
 use Rattle.inode_parts.specs.Changes.{beside_inode, IsAmid}

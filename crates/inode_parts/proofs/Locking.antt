@@ -15,9 +15,9 @@ use Rattle.hands.specs.Hands.{inode_at, inode_in, no_inode}
 use Rattle.hands.specs.declared.hand.Hand.{Hand}
 use Rattle.hands.specs.declared.hand.Seat.{Seat}
 use Rattle.hands.specs.declared.hand.Seat.TheVariants.{One, Two}
-use Rattle.hand_controls.specs.HeldInodes.{number_in, record_in, IsLoadedAt}
-use Rattle.hand_controls.specs.LoadingHeld.{beside_lock}
-use Rattle.hand_controls.proofs.Goings.{goes_to, goes_with}
+use Rattle.inode_table.specs.HeldInodes.{number_in, record_in, IsLoadedAt}
+use Rattle.inode_table.specs.LoadingHeld.{beside_lock}
+use Rattle.hands.proofs.Goings.{goes_to, goes_with}
 use Rattle.inodes_on_blocks.specs.Lowering.{Carry}
 use Rattle.inode_parts.specs.Carries.{carry_in, had_of, with_note}
 use Rattle.inode_parts.specs.OneSteps.{IsAlone, locks, other}

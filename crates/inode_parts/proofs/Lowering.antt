@@ -10,14 +10,14 @@ use Rattle.fs_machine.specs.Machines.{P}
 use Rattle.hands.specs.declared.hand.Hand.{Hand}
 use Rattle.hands.specs.Controls.{Goes}
 use Rattle.hands.proofs.Going.{goes_bind}
-use Rattle.hand_controls.specs.Calling.{IsEmpty}
+use Rattle.hands.specs.Empty.{IsEmpty}
 use Rattle.inode_machine.specs.Parts as above
 use Rattle.inode_machine.specs.Rules.{machine}
 use Rattle.inode_machine.specs.World.{Op}
 use Rattle.inodes_on_blocks.specs.Lowering.{Carry, below, nothing}
 use Rattle.inodes_on_blocks.specs.Programs.{handlers}
-use Rattle.whole_calls.specs.Asks.{asks, hears}
-use Rattle.whole_calls.specs.declared.asks.Heard.{Heard}
+use Rattle.path_walk.specs.Asks.{asks, hears}
+use Rattle.path_walk.specs.declared.asks.Heard.{Heard}
 use Rattle.inode_parts.specs.Calls.{with_text}
 use Rattle.inode_parts.specs.Carries.{carry_in, handed}
 use Rattle.inode_parts.specs.Parts.{answer_by, hears_in, IsPart, Part, lowered, with_part}

@@ -3,17 +3,17 @@ use Rattle.std.proofs.Common.{◌≡◌, ℕ, List, [], ◌++◌, Some, refl, sy
 use Rattle.plain_tree.specs.declared.answer.Reply.{Reply}
 use Rattle.plain_tree.specs.declared.call.Call.{Call}
 use Rattle.atomic_programs.specs.Prog.{Ret, Do}
-use Rattle.hand_controls.specs.Calling.{IsEmpty}
+use Rattle.hands.specs.Empty.{IsEmpty}
 use Rattle.inode_machine.specs.Parts as programs
 use Rattle.inode_machine.specs.Programs.{program}
 use Rattle.inode_machine.specs.World as above
-use Rattle.whole_calls.specs.Asks.{answer_to, asks, hears, op_in, IsNamed, IsNamedInTwo}
+use Rattle.path_walk.specs.Asks.{answer_to, asks, hears, op_in, IsNamed, IsNamedInTwo}
 use Rattle.whole_calls.proofs.Shifted.{in_two, named_front}
 use Rattle.whole_calls.specs.Wholes.{WholeAsks, WholeFits, call_in, first_in, second_in, text_in, whole_of}
-use Rattle.whole_calls.specs.declared.asks.Ask.{Ask}
-use Rattle.whole_calls.specs.declared.asks.Ask.TheVariants as ask
-use Rattle.whole_calls.specs.declared.asks.Heard.{Heard}
-use Rattle.whole_calls.specs.declared.asks.Query.TheVariants as query
+use Rattle.path_walk.specs.declared.asks.Ask.{Ask}
+use Rattle.path_walk.specs.declared.asks.Ask.TheVariants as ask
+use Rattle.path_walk.specs.declared.asks.Heard.{Heard}
+use Rattle.path_walk.specs.declared.asks.Query.TheVariants as query
 use Rattle.whole_calls.specs.declared.reading.Read.TheVariants as reading
 use Rattle.whole_calls.specs.declared.whole.Whole.{Whole}
 use Rattle.whole_calls.specs.declared.whole.Whole.TheVariants as whole

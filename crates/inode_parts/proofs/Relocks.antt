@@ -13,15 +13,15 @@ use Rattle.hands.specs.Hands.{first_in, first_listed, inode_at, inode_in, no_ino
 use Rattle.hands.specs.declared.hand.Hand.{Hand}
 use Rattle.hands.specs.declared.hand.Seat.{Seat}
 use Rattle.hands.specs.declared.hand.Seat.TheVariants.{One, Two}
-use Rattle.hand_controls.specs.Emptying.{HasNoBuffer}
-use Rattle.hand_controls.specs.HeldInodes.{number_in, HasBlock}
-use Rattle.hand_controls.specs.LockingInodes.{lock_loaded}
+use Rattle.inode_data.specs.Emptying.{HasNoBuffer}
+use Rattle.inode_table.specs.HeldInodes.{number_in, HasBlock}
+use Rattle.inode_table.specs.LockingInodes.{lock_loaded}
 use Rattle.tree_laws.proofs.Maps.{eq_is, eq_self}
 use Rattle.inode_machine.specs.Inodes.{AtNothing, Query}
 use Rattle.inode_machine.specs.World.Op.{Take}
-use Rattle.whole_calls.specs.Asks.{answer_to}
-use Rattle.whole_calls.specs.declared.asks.Heard.{Heard}
-use Rattle.whole_calls.specs.declared.asks.Query.TheVariants as query
+use Rattle.path_walk.specs.Asks.{answer_to}
+use Rattle.path_walk.specs.declared.asks.Heard.{Heard}
+use Rattle.path_walk.specs.declared.asks.Query.TheVariants as query
 use Rattle.inode_parts.specs.Carries.{carry_in}
 use Rattle.inode_parts.specs.Coming.{Comes}
 use Rattle.inode_parts.specs.Holding.{CameTo, Leaves}

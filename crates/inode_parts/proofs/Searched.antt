@@ -6,7 +6,7 @@ use Rattle.fs_machine.specs.Machines as code
 use Rattle.fs_machine.specs.Steps as steps
 use Rattle.inode_data.specs.Programs.{fetch_block}
 use Rattle.directory.specs.Programs.{Aim, Entry, Named, block_count, found_in, is_directory, is_live_directory, look_at, lookup, or_next, search, search_from}
-use Rattle.content_parts.specs.Searching.{entries}
+use Rattle.directory.specs.Searching.{entries}
 use Rattle.inodes_on_blocks.specs.Handlers.{Acts, P}
 use Rattle.inodes_on_blocks.specs.Reading.{search_entries}
 use Rattle.inode_parts.proofs.Afterwards.{then_plain}

@@ -3,27 +3,27 @@ use Rattle.std.proofs.Common.{◌≡◌, ℕ, List, [], true, Option, Some, None
 use Rattle.std.specs.Prelude.{◌<◌, ◌^◌, IsSome, IfSome}
 use Rattle.std.specs.Option.{option_map, unwrap_or}
 use Rattle.tree_laws.proofs.Slots.{same_self}
-use Rattle.directory.specs.Machines.{IsSlot}
+use Rattle.directory.specs.Sought.{IsSlot}
 use Rattle.directory.specs.declared.found.Found.{Found}
 use Rattle.hands.specs.Hands.{number_at}
 use Rattle.hands.specs.declared.hand.Hand.{Hand}
 use Rattle.hands.specs.declared.hand.Seat.{Seat}
 use Rattle.hands.specs.declared.hand.Seat.TheVariants.{One, Two}
-use Rattle.hand_controls.specs.LoadingHeld.{beside_lock}
-use Rattle.hand_controls.specs.Locating.{Leaves as LeavesBuffers}
-use Rattle.content_parts.specs.Searching.{SearchReady}
-use Rattle.content_parts.specs.declared.search.Search.{Search}
-use Rattle.content_parts.specs.declared.search.Search.TheVariants.{Fetching, Giving}
+use Rattle.inode_table.specs.LoadingHeld.{beside_lock}
+use Rattle.inode_data.specs.Locating.{Leaves as LeavesBuffers}
+use Rattle.directory.specs.Searching.{SearchReady}
+use Rattle.directory.specs.declared.search.Search.{Search}
+use Rattle.directory.specs.declared.search.Search.TheVariants.{Fetching, Giving}
 use Rattle.inode_machine.specs.Inodes as whole
 use Rattle.inode_machine.specs.Inodes.{AtEntries, AtName, AtNothing}
 use Rattle.inode_machine.specs.World.{Take}
 use Rattle.inodes_on_blocks.specs.Reading.{number_found}
-use Rattle.whole_calls.specs.Asks.{answer_to, face_of, sight_in}
-use Rattle.whole_calls.specs.Elements.{name_in}
-use Rattle.whole_calls.specs.declared.asks.Face.{Face}
-use Rattle.whole_calls.specs.declared.asks.Heard.{Heard}
-use Rattle.whole_calls.specs.declared.asks.Heard.TheVariants as heard
-use Rattle.whole_calls.specs.declared.elements.Element.{Element}
+use Rattle.path_walk.specs.Asks.{answer_to, face_of, sight_in}
+use Rattle.path_walk.specs.Elements.{name_in}
+use Rattle.path_walk.specs.declared.asks.Face.{Face}
+use Rattle.path_walk.specs.declared.asks.Heard.{Heard}
+use Rattle.path_walk.specs.declared.asks.Heard.TheVariants as heard
+use Rattle.path_walk.specs.declared.elements.Element.{Element}
 use Rattle.inode_parts.specs.Leaving.{having}
 use Rattle.inode_parts.specs.Carries.{note_at, with_note}
 use Rattle.inode_parts.specs.Clears.{HasFound}

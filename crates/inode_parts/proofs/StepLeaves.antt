@@ -15,9 +15,9 @@ use Rattle.hands.specs.declared.op.Answer.{Answer}
 use Rattle.hands.specs.declared.op.Answer.TheVariants as answers
 use Rattle.inode_machine.specs.World as above
 use Rattle.inodes_on_blocks.specs.Handlers.{is_dying, is_listed, old_directory, shut_to}
-use Rattle.whole_calls.specs.Asks.{answer_to, bool_in, joined_in, loan_in, number_in, shut_in, start_in}
-use Rattle.whole_calls.specs.declared.asks.Heard.{Heard}
-use Rattle.whole_calls.specs.declared.asks.Heard.TheVariants as heard
+use Rattle.path_walk.specs.Asks.{answer_to, bool_in, joined_in, loan_in, number_in, shut_in, start_in}
+use Rattle.path_walk.specs.declared.asks.Heard.{Heard}
+use Rattle.path_walk.specs.declared.asks.Heard.TheVariants as heard
 use Rattle.inode_parts.specs.Carries.{handed, note_at, with_note}
 use Rattle.inode_parts.specs.Holding.{Having, Leaves, LeavesDown, LeavesInstall, LeavesJoinFile, LeavesLend, LeavesShut, LeavesUp, LeavesWalkDown, ReferredOrAside}
 use Rattle.inode_parts.specs.InodeParts.{part_for}

@@ -14,14 +14,14 @@ use Rattle.inode_table.specs.Programs.{inode_block, put_inode, record_of, with_d
 use Rattle.hands.specs.declared.hand.Hand.{Hand}
 use Rattle.hands.specs.Controls.{Goes}
 use Rattle.hands.specs.Hands.{inode_in, with_buffer, with_record}
-use Rattle.hand_controls.specs.HeldInodes.{counted}
-use Rattle.hand_controls.specs.StoringRecords.{record_left, record_place}
-use Rattle.hand_controls.proofs.Goings.{goes_with}
+use Rattle.inode_table.specs.HeldInodes.{counted}
+use Rattle.inode_table.specs.StoringRecords.{record_left, record_place}
+use Rattle.hands.proofs.Goings.{goes_with}
 use Rattle.inode_machine.specs.World as above
 use Rattle.inodes_on_blocks.specs.Handlers as handlers
 use Rattle.inodes_on_blocks.specs.Handlers.{Acts}
 use Rattle.inodes_on_blocks.specs.Lowering.{NothingMore, Carry, Has, record_had}
-use Rattle.whole_calls.specs.declared.asks.Heard.TheVariants as heard
+use Rattle.path_walk.specs.declared.asks.Heard.TheVariants as heard
 use Rattle.inode_parts.specs.Carries.{carry_in, handed, with_note}
 use Rattle.inode_parts.specs.OneSteps.{HasLock, seat_of_lock}
 use Rattle.inode_parts.specs.Parts.{IsPart, Message}

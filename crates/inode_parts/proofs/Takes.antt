@@ -14,22 +14,22 @@ use Rattle.image_tree.specs.Inodes.{is_free}
 use Rattle.inode_table.specs.Programs.{inode_block, load_unless}
 use Rattle.directory.specs.Programs.{lookup}
 use Rattle.directory.specs.declared.found.Found.{Found}
-use Rattle.content_parts.specs.Searching.{entries}
+use Rattle.directory.specs.Searching.{entries}
 use Rattle.hands.specs.Hands.{inode_at, number_at, reference_at}
 use Rattle.hands.specs.declared.hand.Seat.{Seat}
 use Rattle.hands.specs.declared.hand.Hand.{Hand}
-use Rattle.hand_controls.specs.LockingInodes.{lock_left, lock_loaded, lock_seat}
-use Rattle.hand_controls.specs.declared.lock_inode.LockInode.{LockInode}
+use Rattle.inode_table.specs.LockingInodes.{lock_left, lock_loaded, lock_seat}
+use Rattle.inode_table.specs.declared.lock_inode.LockInode.{LockInode}
 use Rattle.inode_machine.specs.Inodes.{Face, Sight}
 use Rattle.inode_machine.specs.World.Op.{Take}
 use Rattle.inodes_on_blocks.specs.Lowering.{Carry, NothingMore, Knowledge, Finds, Has}
 use Rattle.inodes_on_blocks.specs.Reading as handlers
 use Rattle.inodes_on_blocks.specs.Reading.{face_in, learned, number_found, search_entries, seen_record}
-use Rattle.whole_calls.specs.Asks.{face_of, query_in, sight_in}
-use Rattle.whole_calls.specs.Elements.{name_in}
-use Rattle.whole_calls.specs.declared.asks.Query.{Query}
-use Rattle.whole_calls.specs.declared.asks.Query.TheVariants as query
-use Rattle.whole_calls.specs.declared.elements.Element.{Element}
+use Rattle.path_walk.specs.Asks.{face_of, query_in, sight_in}
+use Rattle.path_walk.specs.Elements.{name_in}
+use Rattle.path_walk.specs.declared.asks.Query.{Query}
+use Rattle.path_walk.specs.declared.asks.Query.TheVariants as query
+use Rattle.path_walk.specs.declared.elements.Element.{Element}
 use Rattle.inode_parts.specs.Carries.{carry_in, had_of}
 use Rattle.inode_parts.specs.Faces.{face_by, face_unless_free}
 use Rattle.inode_parts.specs.OneSteps.{IsAlone, seat_of_reference}

@@ -12,17 +12,17 @@ use Rattle.hands.specs.Hands.{number_at}
 use Rattle.hands.specs.declared.hand.Hand.{Hand}
 use Rattle.hands.specs.declared.hand.Seat.{Seat}
 use Rattle.hands.specs.declared.hand.Seat.TheVariants.{One, Two}
-use Rattle.hand_controls.specs.HeldInodes.{record_in}
-use Rattle.hand_controls.specs.LoadingHeld.{beside_lock}
-use Rattle.hand_controls.specs.Locating.{Leaves}
-use Rattle.hand_controls.specs.LockingInodes.{HasLocked}
-use Rattle.hand_controls.proofs.Goings.{goes_to, goes_with}
-use Rattle.content_parts.specs.Searching.{search_left}
-use Rattle.content_parts.specs.declared.search.Search.{Search}
+use Rattle.inode_table.specs.HeldInodes.{record_in}
+use Rattle.inode_table.specs.LoadingHeld.{beside_lock}
+use Rattle.inode_data.specs.Locating.{Leaves}
+use Rattle.inode_table.specs.LockingInodes.{HasLocked}
+use Rattle.hands.proofs.Goings.{goes_to, goes_with}
+use Rattle.directory.specs.Searching.{search_left}
+use Rattle.directory.specs.declared.search.Search.{Search}
 use Rattle.inodes_on_blocks.specs.Lowering.{Carry}
-use Rattle.whole_calls.specs.declared.asks.Heard.{Heard}
-use Rattle.whole_calls.specs.declared.asks.Heard.TheVariants as heard
-use Rattle.whole_calls.specs.declared.asks.Query.{Query}
+use Rattle.path_walk.specs.declared.asks.Heard.{Heard}
+use Rattle.path_walk.specs.declared.asks.Heard.TheVariants as heard
+use Rattle.path_walk.specs.declared.asks.Query.{Query}
 use Rattle.inode_parts.specs.Carries.{carry_in, handed, with_note}
 use Rattle.inode_parts.specs.Faces.{face_unless_free}
 use Rattle.inode_parts.specs.OneSteps.{IsAlone}

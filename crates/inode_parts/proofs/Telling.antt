@@ -4,8 +4,8 @@ use Rattle.fs_layout.specs.declared.inode.Dinode.{Dinode}
 use Rattle.image_tree.specs.Inodes.{is_number}
 use Rattle.inode_machine.specs.Inodes.{OfDevice, OfDirectory, OfFile}
 use Rattle.inodes_on_blocks.specs.Reading.{face_in, sort_at}
-use Rattle.whole_calls.specs.Asks.{face_of, sort_of}
-use Rattle.whole_calls.specs.declared.asks.Sort.TheVariants as sort
+use Rattle.path_walk.specs.Asks.{face_of, sort_of}
+use Rattle.path_walk.specs.declared.asks.Sort.TheVariants as sort
 use Rattle.inode_parts.specs.Faces.{face_by, sort_by}
 
 pub sort_same : (kind major : ℤ) → sort_of (sort_by kind major) ≡ sort_at kind major

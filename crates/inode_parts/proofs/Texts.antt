@@ -8,12 +8,12 @@ use Rattle.inode_machine.specs.Descriptors.{read_on, read_reply}
 use Rattle.inode_machine.specs.Parts.{say}
 use Rattle.inode_machine.specs.World as above
 use Rattle.inode_machine.specs.World.{LocksIt}
-use Rattle.whole_calls.specs.Asks.{asks, hears, op_in}
+use Rattle.path_walk.specs.Asks.{asks, hears, op_in}
 use Rattle.whole_calls.specs.Reads.{read_of}
 use Rattle.whole_calls.specs.Wholes.{HasRoomFor, WholeAsks, WholeFits, text_in, whole_of}
-use Rattle.whole_calls.specs.declared.asks.Ask.{Ask}
-use Rattle.whole_calls.specs.declared.asks.Ask.TheVariants as ask
-use Rattle.whole_calls.specs.declared.asks.Heard.{Heard}
+use Rattle.path_walk.specs.declared.asks.Ask.{Ask}
+use Rattle.path_walk.specs.declared.asks.Ask.TheVariants as ask
+use Rattle.path_walk.specs.declared.asks.Heard.{Heard}
 use Rattle.whole_calls.specs.declared.reading.Read.TheVariants as reading
 use Rattle.whole_calls.specs.declared.whole.Whole.{Whole}
 use Rattle.whole_calls.specs.declared.whole.Whole.TheVariants as whole

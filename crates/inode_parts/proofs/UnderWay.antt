@@ -2,13 +2,13 @@
 use Rattle.std.proofs.Common.{◌≡◌, ℕ, List, [], Option, Some, None, refl, sym, ◌∙◌, subst}
 use Rattle.hands.specs.Hands.{with_txn}
 use Rattle.hands.specs.declared.hand.Hand.{Hand}
-use Rattle.hand_controls.specs.declared.finish.Finish.{Finish}
+use Rattle.hands.specs.declared.finish.Finish.{Finish}
 use Rattle.inode_machine.specs.Inodes.{AtNothing, Query, Sort}
 use Rattle.inode_machine.specs.World as above
 use Rattle.plain_tree.specs.Tree.{Name}
-use Rattle.whole_calls.specs.Asks.{answer_to}
-use Rattle.whole_calls.specs.declared.asks.Heard.{Heard}
-use Rattle.whole_calls.specs.declared.asks.Heard.TheVariants as heard
+use Rattle.path_walk.specs.Asks.{answer_to}
+use Rattle.path_walk.specs.declared.asks.Heard.{Heard}
+use Rattle.path_walk.specs.declared.asks.Heard.TheVariants as heard
 use Rattle.inode_parts.specs.Claims.{ClaimAmid}
 use Rattle.inode_parts.specs.Clears.{ClearAmid}
 use Rattle.inode_parts.specs.Empties.{EmptyAmid}

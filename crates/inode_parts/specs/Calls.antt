@@ -8,11 +8,11 @@ use Rattle.atomic_programs.specs.Prog.{bind}
 use Rattle.fs_machine.specs.Machines.{P}
 use Rattle.hands.specs.declared.hand.Hand.{Hand}
 use Rattle.hands.specs.declared.op.Op.{Op}
-use Rattle.hand_controls.specs.Calling.{IsEmpty}
+use Rattle.hands.specs.Empty.{IsEmpty}
 use Rattle.inode_machine.specs.Parts as programs
 use Rattle.inode_machine.specs.Programs.{program}
 use Rattle.inode_machine.specs.World as above
-use Rattle.whole_calls.specs.Asks.{asks}
+use Rattle.path_walk.specs.Asks.{asks}
 use Rattle.whole_calls.specs.Reads.{read_of}
 use Rattle.whole_calls.specs.Wholes.{WholeFits, first_in, second_in, text_in, whole_of}
 use Rattle.whole_calls.specs.declared.reading.Read.TheVariants as reading

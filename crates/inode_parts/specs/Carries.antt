@@ -5,8 +5,8 @@ use Rattle.fs_layout.specs.declared.inode.Dinode.{Dinode}
 use Rattle.fs_tables.specs.declared.inodes.Inode.{Inode}
 use Rattle.hands.specs.declared.hand.Hand.{Hand}
 use Rattle.inodes_on_blocks.specs.Lowering.{NothingMore, Finds, Opened, Had, Apart, Has, Emptied, Carry}
-use Rattle.whole_calls.specs.Elements.{name_in}
-use Rattle.whole_calls.specs.declared.asks.Heard.{Heard}
+use Rattle.path_walk.specs.Elements.{name_in}
+use Rattle.path_walk.specs.declared.asks.Heard.{Heard}
 use Rattle.inode_parts.specs.Parts.{Message}
 use Rattle.atomic_programs.specs.Joined.{Handover}
 use Rattle.hands.specs.declared.hand.Seat.{Seat}

@@ -8,9 +8,9 @@ use Rattle.hands.specs.declared.hand.Hand.{Hand}
 use Rattle.hands.specs.declared.hand.Place.TheVariants.{First, Second}
 use Rattle.hands.specs.declared.hand.Seat.{Seat}
 use Rattle.hands.specs.Hands.{with_buffer, with_record}
-use Rattle.hand_controls.specs.Emptying.{HasNoBuffer}
-use Rattle.hand_controls.specs.HeldInodes.{unloaded, IsLoadedAt}
-use Rattle.whole_calls.specs.declared.asks.Heard.{Heard}
+use Rattle.inode_data.specs.Emptying.{HasNoBuffer}
+use Rattle.inode_table.specs.HeldInodes.{unloaded, IsLoadedAt}
+use Rattle.path_walk.specs.declared.asks.Heard.{Heard}
 use Rattle.inode_parts.specs.Carries.{handed, with_note}
 use Rattle.inode_parts.specs.OneSteps.{HasLock, seat_of_lock}
 use Rattle.inode_parts.specs.Parts.{Part}

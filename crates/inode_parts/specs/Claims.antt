@@ -7,12 +7,12 @@ use Rattle.inode_table.specs.declared.new_inode.Made.{Made}
 use Rattle.inode_table.specs.declared.new_inode.Made.TheVariants as made
 use Rattle.hands.specs.declared.hand.Hand.{Hand}
 use Rattle.hands.specs.declared.op.Op.{Op}
-use Rattle.hand_controls.specs.Emptying.{HasNoBuffer}
-use Rattle.hand_controls.specs.Making.{beside_new, new_left, new_asked, new_seat, NewReady}
+use Rattle.inode_data.specs.Emptying.{HasNoBuffer}
+use Rattle.inode_table.specs.Making.{beside_new, new_left, new_asked, new_seat, NewReady}
 use Rattle.inodes_on_blocks.specs.Lowering.{Carry}
-use Rattle.whole_calls.specs.declared.asks.Claimed.{Claimed}
-use Rattle.whole_calls.specs.declared.asks.Claimed.TheVariants as claimed
-use Rattle.whole_calls.specs.declared.asks.Heard.TheVariants as heard
+use Rattle.path_walk.specs.declared.asks.Claimed.{Claimed}
+use Rattle.path_walk.specs.declared.asks.Claimed.TheVariants as claimed
+use Rattle.path_walk.specs.declared.asks.Heard.TheVariants as heard
 use Rattle.inode_parts.specs.Carries.{carry_in}
 use Rattle.inode_parts.specs.OneSteps.{HasFreeSeat, free_seat}
 use Rattle.inode_parts.specs.Parts.{Part}

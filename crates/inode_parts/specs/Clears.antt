@@ -7,9 +7,9 @@ use Rattle.directory.specs.Programs.{most_slots}
 use Rattle.hands.specs.declared.hand.Hand.{Hand}
 use Rattle.hands.specs.declared.op.Op.{Op}
 use Rattle.hands.specs.Hands.{inode_at}
-use Rattle.content_parts.specs.Clearing.{clear_left, clear_asked, ClearReady}
-use Rattle.whole_calls.specs.Elements.{name_in}
-use Rattle.whole_calls.specs.declared.asks.Heard.TheVariants as heard
+use Rattle.directory.specs.Clearing.{clear_left, clear_asked, ClearReady}
+use Rattle.path_walk.specs.Elements.{name_in}
+use Rattle.path_walk.specs.declared.asks.Heard.TheVariants as heard
 use Rattle.inode_parts.specs.Carries.{note_at}
 use Rattle.inode_parts.specs.Changes.{changed, IsAmid, MayChange}
 use Rattle.inode_parts.specs.OneSteps.{seat_of_lock}

@@ -3,7 +3,7 @@ use Rattle.std.specs.Prelude.{◌≡◌, None}
 use Rattle.hands.specs.declared.hand.Hand.{Hand}
 use Rattle.hands.specs.declared.hand.Seat.{Seat}
 use Rattle.hands.specs.Hands.{inode_at}
-use Rattle.hand_controls.specs.LoadingHeld.{beside_lock}
+use Rattle.inode_table.specs.LoadingHeld.{beside_lock}
 
 -- to this seat, which had none at the start: beside it, and a buffer, all is as it was
 abbrev pub Comes : Seat → Hand → Hand → Type 0

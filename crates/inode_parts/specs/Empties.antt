@@ -5,8 +5,8 @@ use Rattle.atomic_programs.specs.Prog.{bind}
 use Rattle.hands.specs.declared.hand.Hand.{Hand}
 use Rattle.hands.specs.declared.hand.Seat.{Seat}
 use Rattle.hands.specs.declared.op.Op.{Op}
-use Rattle.hand_controls.specs.Emptying.{truncate_left, truncate_asked, emptying_of, TruncateReady}
-use Rattle.whole_calls.specs.declared.asks.Heard.TheVariants as heard
+use Rattle.inode_data.specs.Emptying.{truncate_left, truncate_asked, emptying_of, TruncateReady}
+use Rattle.path_walk.specs.declared.asks.Heard.TheVariants as heard
 use Rattle.inode_parts.specs.Changes.{changed, IsAmid, MayChange}
 use Rattle.inode_parts.specs.Parts.{Part}
 use Rattle.inode_parts.specs.declared.note.Notes.{Notes}

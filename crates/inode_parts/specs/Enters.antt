@@ -12,12 +12,12 @@ use Rattle.directory.specs.declared.enter.Room.TheVariants.{There, NoBlock, NoSl
 use Rattle.hands.specs.declared.hand.Hand.{Hand}
 use Rattle.hands.specs.declared.hand.Seat.{Seat}
 use Rattle.hands.specs.declared.op.Op.{Op}
-use Rattle.hand_controls.specs.HeldInodes.{IsLoadedAt}
-use Rattle.content_parts.specs.Entering.{enter_left, enter_asked, EnterReady}
-use Rattle.whole_calls.specs.declared.asks.Ask.{Ask}
-use Rattle.whole_calls.specs.declared.asks.Ask.TheVariants as ask
-use Rattle.whole_calls.specs.declared.asks.Entered.TheVariants as entry
-use Rattle.whole_calls.specs.declared.asks.Heard.TheVariants as heard
+use Rattle.inode_table.specs.HeldInodes.{IsLoadedAt}
+use Rattle.directory.specs.EnterParts.{enter_left, enter_asked, EnterReady}
+use Rattle.path_walk.specs.declared.asks.Ask.{Ask}
+use Rattle.path_walk.specs.declared.asks.Ask.TheVariants as ask
+use Rattle.path_walk.specs.declared.asks.Entered.TheVariants as entry
+use Rattle.path_walk.specs.declared.asks.Heard.TheVariants as heard
 use Rattle.inode_parts.specs.Carries.{handed}
 use Rattle.inode_parts.specs.Changes.{changed, IsAmid, MayChange}
 use Rattle.inode_parts.specs.Parts.{Part}

@@ -4,9 +4,9 @@ use Rattle.fs_layout.specs.Name.{IsName}
 use Rattle.plain_tree.specs.declared.call.Call.{Call}
 use Rattle.hands.specs.declared.hand.Hand.{Hand}
 use Rattle.hands.specs.Hands.{inode_at}
-use Rattle.hand_controls.specs.Calling.{IsEmpty}
-use Rattle.hand_controls.specs.Emptying.{HasNoBuffer}
-use Rattle.hand_controls.specs.HeldInodes.{IsLoadedAt}
+use Rattle.hands.specs.Empty.{IsEmpty}
+use Rattle.inode_data.specs.Emptying.{HasNoBuffer}
+use Rattle.inode_table.specs.HeldInodes.{IsLoadedAt}
 use Rattle.inode_machine.specs.Inodes.{AtNothing}
 use Rattle.inode_machine.specs.Programs.{program}
 use Rattle.inode_machine.specs.World as above

@@ -3,9 +3,9 @@ use Rattle.std.specs.Prelude.{ℤ, Option, None, Some, if◌then◌else◌}
 use Rattle.fs_layout.specs.declared.inode.Dinode.{Dinode}
 use Rattle.image_tree.specs.Inodes.{is_number, is_free}
 use Rattle.inodes_on_blocks.specs.Reading.{natural}
-use Rattle.whole_calls.specs.declared.asks.Face.{Face}
-use Rattle.whole_calls.specs.declared.asks.Sort.{Sort}
-use Rattle.whole_calls.specs.declared.asks.Sort.TheVariants as sort
+use Rattle.path_walk.specs.declared.asks.Face.{Face}
+use Rattle.path_walk.specs.declared.asks.Sort.{Sort}
+use Rattle.path_walk.specs.declared.asks.Sort.TheVariants as sort
 
 abbrev pub sort_by : (kind major : ℤ) → Sort
 sort_by kind major = if is_number 1 kind then sort.Directory else (if is_number 2 kind then sort.File else sort.Device major)

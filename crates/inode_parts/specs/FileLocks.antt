@@ -9,11 +9,11 @@ use Rattle.fs_tables.specs.declared.files.OpenFile.{OpenFile}
 use Rattle.hands.specs.declared.hand.Hand.{Hand}
 use Rattle.hands.specs.declared.op.Op.{Op}
 use Rattle.hands.specs.Hands.{inode_at}
-use Rattle.hand_controls.specs.LockingFiles.{file_left, file_asked, file_seat, open_left, open_asked, open_seat, FileReady, HasInodeBlocks, OpenReady}
+use Rattle.file_table.specs.LockingFiles.{file_left, file_asked, file_seat, open_left, open_asked, open_seat, FileReady, HasInodeBlocks, OpenReady}
 use Rattle.inodes_on_blocks.specs.Handlers.{cause_of}
 use Rattle.inodes_on_blocks.specs.Lowering.{Carry}
-use Rattle.whole_calls.specs.declared.asks.Heard.TheVariants as heard
-use Rattle.whole_calls.specs.declared.asks.Locked.TheVariants as locked
+use Rattle.path_walk.specs.declared.asks.Heard.TheVariants as heard
+use Rattle.path_walk.specs.declared.asks.Locked.TheVariants as locked
 use Rattle.inode_parts.specs.Carries.{had_of}
 use Rattle.inode_parts.specs.Coming.{Comes}
 use Rattle.inode_parts.specs.OneSteps.{other}

@@ -10,11 +10,11 @@ use Rattle.hands.specs.declared.hand.Seat.{Seat}
 use Rattle.hands.specs.declared.op.Op.{Op}
 use Rattle.hands.specs.declared.op.Op.TheVariants as ops
 use Rattle.hands.specs.Hands.{inode_at, inode_in}
-use Rattle.hand_controls.specs.Emptying.{HasNoBuffer}
-use Rattle.hand_controls.specs.HeldInodes.{record_in, IsLoadedAt}
-use Rattle.content_parts.specs.PartReading.{filled_to, read_asked, read_count, read_left, ReadReady}
+use Rattle.inode_data.specs.Emptying.{HasNoBuffer}
+use Rattle.inode_table.specs.HeldInodes.{record_in, IsLoadedAt}
+use Rattle.inode_data.specs.PartReading.{filled_to, read_asked, read_count, read_left, ReadReady}
 use Rattle.inodes_on_blocks.specs.Lowering.{Carry}
-use Rattle.whole_calls.specs.declared.asks.Heard.TheVariants as heard
+use Rattle.path_walk.specs.declared.asks.Heard.TheVariants as heard
 use Rattle.inode_parts.specs.Changes.{IsAmid}
 use Rattle.inode_parts.specs.LockedFiles.{moved, IsOnly}
 use Rattle.inode_parts.specs.Parts.{Message, Part}

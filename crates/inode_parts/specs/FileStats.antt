@@ -8,10 +8,10 @@ use Rattle.fs_tables.specs.Inodes.{LockedState, Refuses, Locks}
 use Rattle.hands.specs.declared.hand.Hand.{Hand}
 use Rattle.hands.specs.declared.op.Op.{Op}
 use Rattle.hands.specs.Hands.{inode_at}
-use Rattle.hand_controls.specs.LockingFiles.{file_left, file_asked, file_seat, FileReady}
+use Rattle.file_table.specs.LockingFiles.{file_left, file_asked, file_seat, FileReady}
 use Rattle.inodes_on_blocks.specs.Lowering.{Carry}
-use Rattle.whole_calls.specs.declared.asks.Face.{Face}
-use Rattle.whole_calls.specs.declared.asks.Heard.TheVariants as heard
+use Rattle.path_walk.specs.declared.asks.Face.{Face}
+use Rattle.path_walk.specs.declared.asks.Heard.TheVariants as heard
 use Rattle.inode_parts.specs.Carries.{had_of}
 use Rattle.inode_parts.specs.Coming.{Comes}
 use Rattle.inode_parts.specs.Faces.{face_by}

@@ -13,16 +13,16 @@ use Rattle.hands.specs.declared.hand.Seat.{Seat}
 use Rattle.hands.specs.declared.op.Op.{Op}
 use Rattle.hands.specs.declared.op.Op.TheVariants as ops
 use Rattle.hands.specs.Hands.{inode_at, inode_in}
-use Rattle.hand_controls.specs.Emptying.{HasNoBuffer}
-use Rattle.hand_controls.specs.HeldInodes.{number_in, IsLoadedAt}
-use Rattle.content_parts.specs.PartWriting.{write_asked, write_left, WriteReady}
-use Rattle.content_parts.specs.declared.write_part.WritePart.{WritePart}
-use Rattle.content_parts.specs.declared.write_part.Written.{Written}
-use Rattle.content_parts.specs.declared.write_part.WritePart.TheVariants as write
+use Rattle.inode_data.specs.Emptying.{HasNoBuffer}
+use Rattle.inode_table.specs.HeldInodes.{number_in, IsLoadedAt}
+use Rattle.inode_data.specs.PartWriting.{write_asked, write_left, WriteReady}
+use Rattle.inode_data.specs.declared.write_part.WritePart.{WritePart}
+use Rattle.inode_data.specs.declared.write_part.Written.{Written}
+use Rattle.inode_data.specs.declared.write_part.WritePart.TheVariants as write
 use Rattle.inodes_on_blocks.specs.Lowering.{nothing}
-use Rattle.whole_calls.specs.declared.asks.Heard.TheVariants as heard
-use Rattle.whole_calls.specs.declared.asks.Wrote.{Wrote}
-use Rattle.whole_calls.specs.declared.asks.Wrote.TheVariants as wrote
+use Rattle.path_walk.specs.declared.asks.Heard.TheVariants as heard
+use Rattle.path_walk.specs.declared.asks.Wrote.{Wrote}
+use Rattle.path_walk.specs.declared.asks.Wrote.TheVariants as wrote
 use Rattle.inode_parts.specs.Changes.{IsAmid}
 use Rattle.inode_parts.specs.Expecting.{HasOpened}
 use Rattle.inode_parts.specs.Holding.{Having}

@@ -7,9 +7,9 @@ use Rattle.hands.specs.declared.hand.Hand.{Hand}
 use Rattle.hands.specs.declared.hand.Seat.{Seat}
 use Rattle.hands.specs.declared.op.Op.{Op}
 use Rattle.hands.specs.Hands.{inode_at}
-use Rattle.content_parts.specs.Filling.{fill_left, fill_asked, FillReady}
-use Rattle.content_parts.specs.declared.fill.Filled.{Filled}
-use Rattle.whole_calls.specs.declared.asks.Heard.TheVariants as heard
+use Rattle.directory.specs.Filling.{fill_left, fill_asked, FillReady}
+use Rattle.directory.specs.declared.fill.Filled.{Filled}
+use Rattle.path_walk.specs.declared.asks.Heard.TheVariants as heard
 use Rattle.inode_parts.specs.Changes.{changed, IsAmid, MayChange}
 use Rattle.inode_parts.specs.Parts.{Part}
 use Rattle.inode_parts.specs.declared.note.Notes.{Notes}

@@ -6,11 +6,11 @@ use Rattle.atomic_programs.specs.Prog.{Ret, bind}
 use Rattle.hands.specs.declared.hand.Hand.{Hand}
 use Rattle.hands.specs.declared.op.Op.{Op}
 use Rattle.hands.specs.Hands.{inode_at}
-use Rattle.hand_controls.specs.Emptying.{IsEmptying, HasNoBuffer}
-use Rattle.hand_controls.specs.FreeingInodes.{freeing_left, freeing_asked, freeing_of, FreeingReady}
-use Rattle.hand_controls.specs.HeldInodes.{number_in}
+use Rattle.inode_data.specs.Emptying.{IsEmptying, HasNoBuffer}
+use Rattle.inode_data.specs.FreeingInodes.{freeing_left, freeing_asked, freeing_of, FreeingReady}
+use Rattle.inode_table.specs.HeldInodes.{number_in}
 use Rattle.inodes_on_blocks.specs.Lowering.{Carry, Emptied}
-use Rattle.whole_calls.specs.declared.asks.Heard.TheVariants as heard
+use Rattle.path_walk.specs.declared.asks.Heard.TheVariants as heard
 use Rattle.inode_parts.specs.Changes.{IsAmid}
 use Rattle.inode_parts.specs.OneSteps.{HasLock, IsAlone, seat_of_lock}
 use Rattle.inode_parts.specs.Parts.{Part}

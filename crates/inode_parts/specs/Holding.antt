@@ -7,8 +7,8 @@ use Rattle.fs_tables.specs.declared.inodes.Inode.{Inode}
 use Rattle.hands.specs.declared.hand.Hand.{Hand}
 use Rattle.hands.specs.declared.hand.Seat.{Seat}
 use Rattle.hands.specs.Hands.{inode_at, with_aside, with_first, with_inode, with_listed, with_reference, with_seated, with_txn}
-use Rattle.hand_controls.specs.Calling.{IsEmpty}
-use Rattle.hand_controls.specs.HeldInodes.{unloaded, IsLoadedAt}
+use Rattle.hands.specs.Empty.{IsEmpty}
+use Rattle.inode_table.specs.HeldInodes.{unloaded, IsLoadedAt}
 use Rattle.inode_machine.specs.Inodes.{AtEntries, AtName, AtNothing, Face, Query, Sight}
 use Rattle.inode_machine.specs.Parts as programs
 use Rattle.inode_machine.specs.World as above

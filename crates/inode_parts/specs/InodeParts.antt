@@ -1,15 +1,15 @@
 -- Operations on whole inodes, each as a part over blocks.
-use Rattle.std.specs.Prelude.{◌≡◌, ℕ, List, [], Option, Some, None}
+use Rattle.std.specs.Prelude.{◌≡◌, ℕ, Bool, true, false, List, [], Option, Some, None}
 use Rattle.atomic_programs.specs.Prog.{Ret, bind}
 use Rattle.hands.specs.declared.hand.Hand.{Hand}
 use Rattle.hands.specs.declared.op.Op.{Op}
-use Rattle.hand_controls.specs.Finishing.{finish_left, finish_asked, FinishReady}
-use Rattle.hand_controls.specs.declared.finish.Finish.TheVariants as finish
+use Rattle.hands.specs.Finishing.{finish_left, finish_asked, FinishReady}
+use Rattle.hands.specs.declared.finish.Finish.TheVariants as finish
 use Rattle.inode_machine.specs.World as above
-use Rattle.whole_calls.specs.declared.asks.Ask.{Ask}
-use Rattle.whole_calls.specs.declared.asks.Ask.TheVariants as ask
-use Rattle.whole_calls.specs.declared.asks.Heard.{Heard}
-use Rattle.whole_calls.specs.declared.asks.Heard.TheVariants as heard
+use Rattle.path_walk.specs.declared.asks.Ask.{Ask}
+use Rattle.path_walk.specs.declared.asks.Ask.TheVariants as ask
+use Rattle.path_walk.specs.declared.asks.Heard.{Heard}
+use Rattle.path_walk.specs.declared.asks.Heard.TheVariants as heard
 use Rattle.inode_parts.specs.Carries.{handed}
 use Rattle.inode_parts.specs.Parts.{Part}
 use Rattle.inode_parts.specs.OneSteps.{step_for, step_left, step_asked, StepReady}
@@ -131,3 +131,20 @@ abbrev pub ChangesNone : InodePart → Type 0
 ChangesNone (part.One s) = Unit {0}
 ChangesNone (part.Leave f) = Unit {0}
 ChangesNone p = ⊥
+
+-- an ask that is one operation below, or leaves a transaction
+abbrev pub is_short : Ask → Bool
+is_short (ask.Store n count) = false
+is_short (ask.Empty n) = false
+is_short (ask.Enter d e n) = false
+is_short (ask.Clear d e) = false
+is_short (ask.Fill n d) = false
+is_short (ask.Free n) = false
+is_short (ask.Claim sort) = false
+is_short (ask.LockOpen fd n) = false
+is_short (ask.LockFile fd) = false
+is_short (ask.StatFile fd) = false
+is_short (ask.Take n query) = false
+is_short (ask.ReadFile fd n offset count) = false
+is_short (ask.WriteFile fd n offset index) = false
+is_short a = true

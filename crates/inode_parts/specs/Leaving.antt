@@ -2,8 +2,8 @@
 use Rattle.std.specs.Prelude.{◌≡◌, ℕ, List, [], Bool, true, false, Option, Some, None}
 use Rattle.hands.specs.declared.hand.Hand.{Hand}
 use Rattle.inode_machine.specs.World as above
-use Rattle.whole_calls.specs.Asks.{answer_to}
-use Rattle.whole_calls.specs.declared.asks.Heard.{Heard}
+use Rattle.path_walk.specs.Asks.{answer_to}
+use Rattle.path_walk.specs.declared.asks.Heard.{Heard}
 use Rattle.inode_parts.specs.Holding.{Having, Leaves}
 use Rattle.inode_parts.specs.declared.note.Notes.{Notes}
 

@@ -6,7 +6,7 @@ use Rattle.fs_machine.specs.Steps as steps
 use Rattle.hands.specs.declared.hand.Hand.{Hand}
 use Rattle.hands.specs.Hands.{inode_at}
 use Rattle.inodes_on_blocks.specs.Lowering.{nothing}
-use Rattle.whole_calls.specs.declared.asks.Heard.{Heard}
+use Rattle.path_walk.specs.declared.asks.Heard.{Heard}
 use Rattle.inode_parts.specs.OneSteps.{other}
 use Rattle.inode_parts.specs.Parts.{Part}
 use Rattle.inode_parts.specs.declared.locked_file.LockedFile.{LockedFile}

@@ -20,10 +20,10 @@ use Rattle.inode_machine.specs.World as above
 use Rattle.inodes_on_tables.specs.Shown.{new_file}
 use Rattle.inodes_on_blocks.specs.Handlers.{cause_of, cause_if, doubled_to, shut_to, is_listed, is_dying, old_directory, with_dying}
 use Rattle.inodes_on_blocks.specs.Lowering.{Apart, Carry}
-use Rattle.whole_calls.specs.declared.asks.Heard.{Heard}
-use Rattle.whole_calls.specs.declared.asks.Heard.TheVariants as heard
-use Rattle.whole_calls.specs.declared.asks.Joined.TheVariants as joined
-use Rattle.whole_calls.specs.declared.asks.Loan.TheVariants as loan
+use Rattle.path_walk.specs.declared.asks.Heard.{Heard}
+use Rattle.path_walk.specs.declared.asks.Heard.TheVariants as heard
+use Rattle.path_walk.specs.declared.asks.Joined.TheVariants as joined
+use Rattle.path_walk.specs.declared.asks.Loan.TheVariants as loan
 use Rattle.inode_parts.specs.Carries.{carry_in, with_note}
 use Rattle.inode_parts.specs.Parts.{Part, one}
 use Rattle.inode_parts.specs.declared.note.Note.TheVariants as note

@@ -12,8 +12,8 @@ use Rattle.inode_machine.specs.Rules.{machine}
 use Rattle.inode_machine.specs.World.{Op, Answer}
 use Rattle.inodes_on_blocks.specs.Lowering.{Carry, below}
 use Rattle.inodes_on_blocks.specs.Programs.{handlers}
-use Rattle.whole_calls.specs.Asks.{answer_to}
-use Rattle.whole_calls.specs.declared.asks.Heard.{Heard}
+use Rattle.path_walk.specs.Asks.{answer_to}
+use Rattle.path_walk.specs.declared.asks.Heard.{Heard}
 
 -- what a part hands over: the call's text, into which bytes may have been read, and what is heard
 abbrev pub Message : Type 0

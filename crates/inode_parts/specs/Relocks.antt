@@ -7,9 +7,9 @@ use Rattle.hands.specs.declared.hand.Hand.{Hand}
 use Rattle.hands.specs.declared.op.Op.{Op}
 use Rattle.hands.specs.declared.op.Op.TheVariants as ops
 use Rattle.hands.specs.Hands.{first_listed, inode_at, number_at, reference_at, with_first}
-use Rattle.hand_controls.specs.Emptying.{HasNoBuffer}
-use Rattle.hand_controls.specs.LockingInodes.{lock_left, lock_loaded, lock_asked, lock_seat, LockReady}
-use Rattle.whole_calls.specs.declared.asks.Query.TheVariants as query
+use Rattle.inode_data.specs.Emptying.{HasNoBuffer}
+use Rattle.inode_table.specs.LockingInodes.{lock_left, lock_loaded, lock_asked, lock_seat, LockReady}
+use Rattle.path_walk.specs.declared.asks.Query.TheVariants as query
 use Rattle.inode_parts.specs.Coming.{Comes}
 use Rattle.inode_parts.specs.OneSteps.{HasReference, IsAlone, free_seat}
 use Rattle.inode_parts.specs.Parts.{Part}

@@ -5,8 +5,8 @@ use Rattle.atomic_programs.specs.Prog.{Ret, bind}
 use Rattle.hands.specs.declared.hand.Hand.{Hand}
 use Rattle.hands.specs.declared.hand.Place.TheVariants.{First}
 use Rattle.hands.specs.declared.op.Op.{Op}
-use Rattle.hand_controls.specs.StoringRecords.{record_left, record_asked, record_place, record_seat, RecordReady}
-use Rattle.whole_calls.specs.declared.asks.Heard.TheVariants as heard
+use Rattle.inode_table.specs.StoringRecords.{record_left, record_asked, record_place, record_seat, RecordReady}
+use Rattle.path_walk.specs.declared.asks.Heard.TheVariants as heard
 use Rattle.inode_parts.specs.Carries.{handed, with_note}
 use Rattle.inode_parts.specs.Changes.{IsAmid, MayChange}
 use Rattle.inode_parts.specs.Parts.{Part}

@@ -13,20 +13,20 @@ use Rattle.hands.specs.declared.hand.Hand.{Hand}
 use Rattle.hands.specs.declared.hand.Seat.{Seat}
 use Rattle.hands.specs.declared.op.Op.{Op}
 use Rattle.hands.specs.Hands.{inode_at, number_at}
-use Rattle.hand_controls.specs.Emptying.{HasNoBuffer}
-use Rattle.hand_controls.specs.HeldInodes.{number_in, record_in, IsLoadedAt}
-use Rattle.hand_controls.specs.LockingInodes.{lock_left, lock_asked, lock_seat, LockReady}
-use Rattle.content_parts.specs.Searching.{entries, search_left, search_asked, SearchReady}
+use Rattle.inode_data.specs.Emptying.{HasNoBuffer}
+use Rattle.inode_table.specs.HeldInodes.{number_in, record_in, IsLoadedAt}
+use Rattle.inode_table.specs.LockingInodes.{lock_left, lock_asked, lock_seat, LockReady}
+use Rattle.directory.specs.Searching.{entries, search_left, search_asked, SearchReady}
 use Rattle.inode_machine.specs.Inodes as whole
 use Rattle.inodes_on_blocks.specs.Lowering.{Carry}
 use Rattle.inodes_on_blocks.specs.Reading.{number_found}
-use Rattle.whole_calls.specs.Asks.{query_in, sight_in}
-use Rattle.whole_calls.specs.Elements.{name_in}
-use Rattle.whole_calls.specs.declared.asks.Heard.{Heard}
-use Rattle.whole_calls.specs.declared.asks.Heard.TheVariants as heard
-use Rattle.whole_calls.specs.declared.asks.Query.{Query}
-use Rattle.whole_calls.specs.declared.asks.Query.TheVariants as query
-use Rattle.whole_calls.specs.declared.elements.Element.{Element}
+use Rattle.path_walk.specs.Asks.{query_in, sight_in}
+use Rattle.path_walk.specs.Elements.{name_in}
+use Rattle.path_walk.specs.declared.asks.Heard.{Heard}
+use Rattle.path_walk.specs.declared.asks.Heard.TheVariants as heard
+use Rattle.path_walk.specs.declared.asks.Query.{Query}
+use Rattle.path_walk.specs.declared.asks.Query.TheVariants as query
+use Rattle.path_walk.specs.declared.elements.Element.{Element}
 use Rattle.inode_parts.specs.Carries.{had_of, handed, note_at}
 use Rattle.inode_parts.specs.Coming.{Comes}
 use Rattle.inode_parts.specs.Faces.{face_unless_free}

@@ -4,8 +4,8 @@ use Rattle.hands.specs.declared.hand.Hand.{Hand}
 use Rattle.hands.specs.Hands.{with_txn}
 use Rattle.inode_machine.specs.Inodes.{AtNothing}
 use Rattle.inode_machine.specs.World as above
-use Rattle.whole_calls.specs.Asks.{answer_to}
-use Rattle.whole_calls.specs.declared.asks.Heard.{Heard}
+use Rattle.path_walk.specs.Asks.{answer_to}
+use Rattle.path_walk.specs.declared.asks.Heard.{Heard}
 use Rattle.inode_parts.specs.Claims.{ClaimAmid}
 use Rattle.inode_parts.specs.Clears.{ClearAmid}
 use Rattle.inode_parts.specs.Empties.{EmptyAmid}

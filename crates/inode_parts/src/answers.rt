@@ -3,12 +3,12 @@ ghost use Rattle.std.specs.Prelude.{◌≡◌};
 ghost use Rattle.hands.specs.Ops.{doubled_by, given_by, joined_by, number_by, refused_by, shut_by};
 ghost use Rattle.inodes_on_blocks.specs.Handlers.{cause_if, cause_of, doubled_to, old_directory, shut_to};
 ghost use Rattle.inode_parts.specs.OneSteps.{joining_heard, loan_heard};
-ghost use Rattle.whole_calls.specs.declared.asks.Heard.TheVariants as heard;
+ghost use Rattle.path_walk.specs.declared.asks.Heard.TheVariants as heard;
 
 use fs_tables::{Doubled, ROOT, Refused};
 use hands::Answer;
+use path_walk::{Joined, Loan};
 use plain_tree::Cause;
-use whole_calls::{Joined, Loan};
 
 /// Why a call fails whose descriptor was refused so.
 pub(crate) fn cause(refused: Refused) -> Cause

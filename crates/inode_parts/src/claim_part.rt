@@ -4,7 +4,7 @@ ghost use Rattle.atomic_programs.specs.Prog.{asks};
 ghost use Rattle.hands.specs.Ops.{op_in, answer_in, CanDo, Prepared, IsAfter};
 ghost use Rattle.hands.specs.Controls.{Goes, left_after, bare};
 ghost use Rattle.hands.specs.declared.hand.Hand.{Hand as HandState};
-ghost use Rattle.hand_controls.specs.Making.{new_value};
+ghost use Rattle.inode_table.specs.Making.{new_value};
 ghost use Rattle.inode_machine.specs.Inodes as whole;
 ghost use Rattle.inode_machine.specs.World.Op.{Claim};
 ghost use Rattle.inode_parts.specs.Carries.{carry_in, handed};
@@ -12,15 +12,15 @@ ghost use Rattle.inode_parts.specs.Claims.{claim_left, claim_asked, claimed_by, 
 ghost use Rattle.inode_parts.specs.Leaving.{heard_if, having, StaysOrLeaves};
 ghost use Rattle.inode_parts.specs.Parts.{IsPart};
 ghost use Rattle.inode_parts.specs.declared.note.Notes.{Notes as NotesState};
-ghost use Rattle.whole_calls.specs.Asks.{sort_of};
+ghost use Rattle.path_walk.specs.Asks.{sort_of};
 
 use crate::note::Notes;
 use crate::opening::kind;
 use crate::places::free_seat;
 use fs_layout::Super;
-use hand_controls::NewInode;
 use hands::{Answer, Hand, Op, Routine};
-use whole_calls::{Heard, Sort};
+use inode_table::NewInode;
+use path_walk::{Heard, Sort};
 
 /// An inode is sought that is free, and recorded with its type. The reference to it is in hand then.
 #[derive(Clone, Copy, Drop)]
@@ -83,12 +83,12 @@ impl ClaimPart {
 }
 
 // What the search came to, as a call hears it.
-fn claimed(made: hand_controls::Claimed) -> whole_calls::Claimed
+fn claimed(made: inode_table::Made) -> path_walk::Claimed
     ensures { (h : HandState) → result ≡ claimed_by (new_value made h) }
 {
     match made {
-        hand_controls::Claimed::Inode(number) => whole_calls::Claimed::New(number),
-        hand_controls::Claimed::NoPlace => whole_calls::Claimed::NoPlace,
-        hand_controls::Claimed::NoInode => whole_calls::Claimed::NoInode,
+        inode_table::Made::Inode(number) => path_walk::Claimed::New(number),
+        inode_table::Made::NoPlace => path_walk::Claimed::NoPlace,
+        inode_table::Made::NoInode => path_walk::Claimed::NoInode,
     }
 }

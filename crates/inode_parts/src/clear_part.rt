@@ -15,10 +15,10 @@ ghost use Rattle.inode_parts.specs.declared.note.Notes.{Notes as NotesState};
 use crate::note::{Note, Notes};
 use crate::places::lock_seat;
 use crate::records::{change, record_at};
-use content_parts::{Clear, Slot};
+use directory::{Clear, Slot};
 use fs_layout::Super;
 use hands::{Answer, Hand, Op, Routine, Seat};
-use whole_calls::Heard;
+use path_walk::Heard;
 
 /// A slot is cleared of the directory whose lock is at this seat.
 #[derive(Drop)]

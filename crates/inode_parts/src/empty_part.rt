@@ -14,9 +14,9 @@ ghost use Rattle.inode_parts.specs.declared.note.Notes.{Notes as NotesState};
 use crate::note::{Note, Notes};
 use crate::places::lock_seat;
 use fs_layout::Super;
-use hand_controls::Truncate;
 use hands::{Answer, Hand, Op, Routine};
-use whole_calls::Heard;
+use inode_data::Truncate;
+use path_walk::Heard;
 
 /// All blocks of an inode are given back, and it is stored without them.
 #[derive(Clone, Copy, Drop)]

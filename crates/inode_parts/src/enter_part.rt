@@ -5,9 +5,9 @@ ghost use Rattle.atomic_programs.specs.Prog.{Ret, asks};
 ghost use Rattle.hands.specs.Ops.{op_in, answer_in, CanDo, Prepared, IsAfter};
 ghost use Rattle.hands.specs.Controls.{Goes, bare, left_after};
 ghost use Rattle.hands.specs.declared.hand.Hand.{Hand as HandState};
-ghost use Rattle.hand_controls.specs.Emptying.{HasNoBuffer};
-ghost use Rattle.hand_controls.specs.HeldInodes.{IsLoadedAt};
-ghost use Rattle.content_parts.specs.Entering.{entered_as};
+ghost use Rattle.inode_data.specs.Emptying.{HasNoBuffer};
+ghost use Rattle.inode_table.specs.HeldInodes.{IsLoadedAt};
+ghost use Rattle.directory.specs.EnterParts.{entered_as};
 ghost use Rattle.inode_machine.specs.World as above;
 ghost use Rattle.inode_parts.specs.Carries.{carry_in, handed};
 ghost use Rattle.inode_parts.specs.Changes.{IsAmid};
@@ -20,12 +20,11 @@ ghost use Rattle.inode_parts.specs.declared.note.Notes.{Notes as NotesState};
 use crate::note::Notes;
 use crate::places::lock_seat;
 use crate::records::{change, record_at};
-use content_parts::{Enter, Entered};
-use directory::Room;
+use directory::{Enter, Entered, Room};
 use fs_layout::Super;
 use hands::{Answer, Hand, Op, Routine, Seat};
 use inode_data::Begun;
-use whole_calls::{Entered as Entry, Heard};
+use path_walk::{Entered as Entry, Heard};
 
 /// A name is entered in the directory whose lock is at this seat.
 #[derive(Drop)]

@@ -4,7 +4,7 @@ ghost use Rattle.inodes_on_blocks.specs.Reading.{natural};
 ghost use Rattle.inode_parts.specs.Faces.{face_by, face_unless_free, sort_by};
 
 use fs_layout::Dinode;
-use whole_calls::{Face, Sort};
+use path_walk::{Face, Sort};
 
 const FREE: i16 = 0;
 

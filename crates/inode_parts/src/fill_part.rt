@@ -14,10 +14,10 @@ ghost use Rattle.inode_parts.specs.declared.note.Notes.{Notes as NotesState};
 use crate::note::Notes;
 use crate::places::lock_seat;
 use crate::records::{change, record_at};
-use content_parts::Fill;
+use directory::Fill;
 use fs_layout::Super;
 use hands::{Answer, Hand, Op, Routine, Seat};
-use whole_calls::Heard;
+use path_walk::Heard;
 
 /// "." and ".." are written in the new directory whose lock is at this seat.
 #[derive(Drop)]

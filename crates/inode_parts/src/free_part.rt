@@ -14,9 +14,9 @@ ghost use Rattle.inode_parts.specs.declared.note.Notes.{Notes as NotesState};
 use crate::note::{Note, Notes};
 use crate::places::lock_seat;
 use fs_layout::Super;
-use hand_controls::FreeInode;
 use hands::{Answer, Hand, Op, Routine, Seat};
-use whole_calls::Heard;
+use inode_data::FreeInode;
+use path_walk::Heard;
 
 /// An inode without links, whose lock is at this seat, is emptied and stored so that it may be taken again.
 #[derive(Clone, Copy, Drop)]

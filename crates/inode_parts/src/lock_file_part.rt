@@ -13,11 +13,11 @@ ghost use Rattle.inode_parts.specs.declared.note.Notes.{Notes as NotesState};
 
 use crate::answers::cause;
 use crate::note::{Note, Notes};
+use file_table::{FileLocked, LockFile};
 use fs_layout::Super;
 use fs_tables::Want;
-use hand_controls::{FileLocked, LockFile};
 use hands::{Answer, Hand, Op, Routine, Seat};
-use whole_calls::{Heard, Locked};
+use path_walk::{Heard, Locked};
 
 /// The lock of what this descriptor names is taken, where that may be read.
 #[derive(Clone, Copy, Drop)]

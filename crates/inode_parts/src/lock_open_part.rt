@@ -12,10 +12,10 @@ ghost use Rattle.inode_parts.specs.Parts.{IsPart};
 ghost use Rattle.inode_parts.specs.declared.note.Notes.{Notes as NotesState};
 
 use crate::note::{Note, Notes};
+use file_table::LockOpen;
 use fs_layout::Super;
-use hand_controls::LockOpen;
 use hands::{Answer, Hand, Op, Routine, Seat};
-use whole_calls::Heard;
+use path_walk::Heard;
 
 /// The lock of what this descriptor names is taken, which is known to be open.
 #[derive(Clone, Copy, Drop)]

@@ -3,10 +3,10 @@ ghost use Rattle.std.specs.Prelude.{◌≡◌, Some, None, IfSome, IfNone};
 ghost use Rattle.plain_tree.specs.declared.answer.Reply.{Reply as ReplyState};
 ghost use Rattle.inode_machine.specs.Programs.{program};
 ghost use Rattle.inode_machine.specs.World.{Op as OpAbove};
-ghost use Rattle.whole_calls.specs.Asks.{reply_to};
+ghost use Rattle.path_walk.specs.Asks.{reply_to};
 ghost use Rattle.whole_calls.specs.Wholes.{call_in, first_in, second_in, text_in, HasRoomFor, IsCall};
 ghost use Rattle.inodes_on_blocks.specs.Lowering.{nothing};
-ghost use Rattle.hand_controls.specs.Calling.{IsEmpty};
+ghost use Rattle.hands.specs.Empty.{IsEmpty};
 ghost use Rattle.hands.specs.Controls.{bare, Goes};
 ghost use Rattle.hands.specs.Ops.{answer_in, IsAfter};
 ghost use Rattle.hands.specs.declared.hand.Hand.{Hand as HandState};
@@ -22,10 +22,11 @@ use crate::note::Notes;
 use crate::part::InodePart;
 use fs_layout::Super;
 use hands::{Answer, Control, Hand, Op};
+use path_walk::{Heard, Numbers};
 use plain_tree::{Answer as CallAnswer, Call, Reply};
 use std::alloc::{AllocError, Global};
 use std::mem;
-use whole_calls::{Dup, Heard, Numbers, Whole};
+use whole_calls::{Dup, Whole};
 
 // The sizes of no disk.
 const NO_SIZES: Super = Super {
@@ -156,10 +157,12 @@ impl Control for Lowered {
 
     ghost Ends = { λ _ h. IsEmpty h };
 
+    #[inline(always)]
     fn op(&self, hand: &mut Hand) -> Op {
         self.part.op(self.call.text(), hand)
     }
 
+    #[inline(always)]
     fn next(&mut self, answer: &Answer, hand: &mut Hand) -> Option<()> {
         let mut heard = Heard::Did;
         let part = &mut self.part;

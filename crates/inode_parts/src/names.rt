@@ -1,9 +1,9 @@
 //! Names in the text of a call, which is one path or two.
 ghost use Rattle.std.specs.Prelude.{◌≡◌, ◌++◌};
-ghost use Rattle.whole_calls.specs.Elements.{name_in};
+ghost use Rattle.path_walk.specs.Elements.{name_in};
 ghost use Rattle.inode_parts.specs.Texts.{StandsIn};
 
-use whole_calls::Element;
+use path_walk::Element;
 
 /// The name of an element, which stands in a path or in the second one behind it.
 pub(crate) fn name<'a>(path: &'a [u8], second: &'a [u8], element: &Element) -> &'a [u8]

@@ -1,16 +1,13 @@
 //! Operations on whole inodes that are one operation below.
-ghost use Rattle.std.specs.Prelude.{◌≡◌, ℕ, List, Some};
+ghost use Rattle.std.specs.Prelude.{◌≡◌, ℕ, List, Some, if◌then◌else◌};
 ghost use Rattle.atomic_programs.specs.Prog.{Ret, asks};
-ghost use Rattle.hands.specs.Ops.{op_in, answer_in, CanDo, Prepared, IsAfter};
+ghost use Rattle.hands.specs.Ops.{op_in, answer_in, CanDo, Prepared, IsAfter, yes_in};
 ghost use Rattle.hands.specs.Controls.{Goes};
 ghost use Rattle.hands.specs.declared.hand.Hand.{Hand as HandState};
-ghost use Rattle.inode_parts.specs.Carries.{handed};
+ghost use Rattle.inode_parts.specs.Carries.{handed, with_note};
 ghost use Rattle.inode_parts.specs.OneSteps.{step_for, step_left, step_asked, step_notes, up_for, StepReady};
-ghost use Rattle.whole_calls.specs.Asks.{op_in as above_op};
+ghost use Rattle.path_walk.specs.Asks.{op_in as above_op};
 ghost use Rattle.inode_parts.specs.declared.note.Notes.{Notes as NotesState};
-ghost use Rattle.std.specs.Prelude.{if◌then◌else◌};
-ghost use Rattle.hands.specs.Ops.{yes_in};
-ghost use Rattle.inode_parts.specs.Carries.{with_note};
 ghost use Rattle.inode_parts.specs.declared.note.Note.TheVariants as note;
 
 use crate::answers::{checked_in, doubled_in, joined_in, loan_in, number_in, old_in, shut_in};
@@ -19,7 +16,7 @@ use crate::opening::new_file;
 use crate::places::{free_seat, known_number, lock_seat, number_to, reference_seat};
 use fs_tables::{DESCRIPTORS, NewFile, ROOT, Want};
 use hands::{Answer, Hand, Op, Seat};
-use whole_calls::{Ask, Heard};
+use path_walk::{Ask, Heard};
 
 /// Such an operation, with the place of what it is about.
 #[derive(Clone, Copy, Drop)]

@@ -6,7 +6,7 @@ ghost use Rattle.hands.specs.Controls.{Goes, bare};
 ghost use Rattle.hands.specs.declared.hand.Hand.{Hand as HandState};
 ghost use Rattle.inode_machine.specs.World.{Op as OpAbove};
 ghost use Rattle.inode_machine.specs.World.Op.{Take};
-ghost use Rattle.whole_calls.specs.Asks.{op_in as above_op, query_in};
+ghost use Rattle.path_walk.specs.Asks.{op_in as above_op, query_in};
 ghost use Rattle.inode_parts.specs.Expecting.{BeginsWith};
 ghost use Rattle.inode_parts.specs.Carries.{carry_in, handed};
 ghost use Rattle.inode_parts.specs.Holding.{Having};
@@ -16,7 +16,7 @@ ghost use Rattle.inode_parts.specs.Parts.{IsPart};
 ghost use Rattle.inode_parts.specs.Sizes.{IsSized};
 ghost use Rattle.inode_parts.specs.Enters.{AskStands};
 ghost use Rattle.inode_parts.specs.Takes.{IsTold};
-ghost use Rattle.inode_parts.specs.InodeParts.{part_for, part_left, part_left_after, part_asked, AskTold, ChangesNone, FillsAs, MayGoOn, PartReady, PartTold, ReadsInto};
+ghost use Rattle.inode_parts.specs.InodeParts.{is_short, part_for, part_left, part_left_after, part_asked, AskTold, ChangesNone, FillsAs, MayGoOn, PartReady, PartTold, ReadsInto};
 ghost use Rattle.inode_parts.specs.UnderWay.{GoesOrLeaves, UnderWay};
 ghost use Rattle.inode_parts.specs.declared.note.Notes.{Notes as NotesState};
 
@@ -39,9 +39,8 @@ use crate::store_part::StorePart;
 use crate::take_part::TakePart;
 use crate::write_file_part::WriteFilePart;
 use fs_layout::Super;
-use hand_controls::Finish;
-use hands::{Answer, Control, Hand, Op};
-use whole_calls::{Ask, Heard, Query};
+use hands::{Answer, Control, Finish, Hand, Op};
+use path_walk::{Ask, Heard, Query};
 
 /// The operation of a call under way, whichever it is.
 #[derive(Drop)]
@@ -87,8 +86,41 @@ impl InodePart {
 
     /// The part of this ask of a call with this path, and a second one behind it, begins in this place, on a disk with this superblock;
     /// what was learned of locked inodes is noted. The record of one of them may change in hand.
-    #[tactic(auto, using(crate::proofs::Begins::is_part, crate::proofs::Begins::is_ready))]
+    #[inline(always)]
     pub fn begin(
+        &mut self,
+        ask: Ask,
+        sizes: &Super,
+        path: &[u8],
+        second: &[u8],
+        notes: &Notes,
+        hand: &mut Hand,
+    )
+        requires sizes { IsSized sizes.now }
+        requires begins { let text = path.now ++ second.now in BeginsWith text (above_op text ask) (having hand.old notes.now) }
+        requires stands { AskStands path.now second.now ask }
+        requires told { AskTold path.now second.now ask }
+        ensures part { let text = path.now ++ second.now in
+            IsPart sizes.now (carry_in text notes.now hand.old) (above_op text ask) (part_left text notes.now self.new hand.new) }
+        ensures ready { PartReady self.new hand.new }
+        ensures told { PartTold path.now second.now self.new }
+        ensures fills { let text = path.now ++ second.now in FillsAs ask text (part_left text notes.now self.new hand.new) }
+        ensures known { let text = path.now ++ second.now in Begins (above_op text ask) hand.old
+            → (self.new ≡ part_for (above_op text ask) hand.old) × (hand.new ≡ hand.old) }
+        ensures under { let text = path.now ++ second.now in
+            UnderWay text (above_op text ask) (having hand.old notes.now) self.new (having hand.new notes.now) }
+        ensures hand { bare hand.new ≡ bare hand.old }
+    {
+        if is_short(&ask) {
+            *self = one_or_leave(ask, hand);
+        } else {
+            self.begin_long(ask, sizes, path, second, notes, hand);
+        }
+    }
+
+    // The same, in a function of its own: its arms take much room for what they begin, which is cleared each time.
+    #[tactic(auto, using(crate::proofs::Begins::is_part, crate::proofs::Begins::is_ready))]
+    fn begin_long(
         &mut self,
         ask: Ask,
         sizes: &Super,
@@ -264,5 +296,27 @@ fn one_or_leave(ask: Ask, hand: &Hand) -> InodePart
     match OneStep::begin(ask, hand) {
         Some(step) => InodePart::One(step),
         None => InodePart::Leave(Finish::Leave),
+    }
+}
+
+// Whether an ask is one operation below, or leaves a transaction.
+fn is_short(ask: &Ask) -> bool
+    ensures { result ≡ is_short ask.now }
+{
+    match ask {
+        Ask::Store(_, _) => false,
+        Ask::Empty(_) => false,
+        Ask::Enter(_, _, _) => false,
+        Ask::Clear(_, _) => false,
+        Ask::Fill(_, _) => false,
+        Ask::Free(_) => false,
+        Ask::Claim(_) => false,
+        Ask::LockOpen(_, _) => false,
+        Ask::LockFile(_) => false,
+        Ask::StatFile(_) => false,
+        Ask::Take(_, _) => false,
+        Ask::ReadFile(_, _, _, _) => false,
+        Ask::WriteFile(_, _, _, _) => false,
+        _ => true,
     }
 }

@@ -6,7 +6,7 @@ ghost use Rattle.hands.specs.Ops.{op_in, answer_in, CanDo, Prepared, IsAfter};
 ghost use Rattle.hands.specs.Controls.{Goes, left_after};
 ghost use Rattle.hands.specs.declared.hand.Hand.{Hand as HandState};
 ghost use Rattle.inode_machine.specs.World.Op.{ReadFile as Reads};
-ghost use Rattle.whole_calls.specs.Asks.{count_in};
+ghost use Rattle.path_walk.specs.Asks.{count_in};
 ghost use Rattle.inode_parts.specs.Carries.{carry_in, handed};
 ghost use Rattle.inode_parts.specs.Expecting.{HasOpened};
 ghost use Rattle.inode_parts.specs.FileReads.{read_file_left, read_file_asked, FillsFrom, ReadFileAmid, ReadFileReady, ReadFileTold};
@@ -17,10 +17,9 @@ ghost use Rattle.inode_parts.specs.declared.note.Notes.{Notes as NotesState};
 use crate::locked_file::{LockedFile, locked_file};
 use crate::note::Notes;
 use crate::records::record_at;
-use content_parts::ReadPart;
 use hands::{Answer, Hand, Op};
-use inode_data::Begun;
-use whole_calls::Heard;
+use inode_data::{Begun, ReadPart};
+use path_walk::Heard;
 
 /// A file's bytes are read to the front of the call's own; then its lock is given up.
 #[derive(Clone, Copy, Drop)]

@@ -4,7 +4,7 @@ ghost use Rattle.std.specs.Option.{MatchOption, option_map_or};
 ghost use Rattle.inode_table.specs.Programs.{record_of};
 ghost use Rattle.hands.specs.Controls.{bare};
 ghost use Rattle.hands.specs.Hands.{inode_at, no_inode, with_record};
-ghost use Rattle.hand_controls.specs.HeldInodes.{record_in, IsLoadedAt};
+ghost use Rattle.inode_table.specs.HeldInodes.{record_in, IsLoadedAt};
 ghost use Rattle.inode_parts.specs.Carries.{with_note};
 ghost use Rattle.inode_parts.specs.declared.note.Note.TheVariants as note;
 
@@ -12,7 +12,7 @@ use crate::note::{Note, Notes};
 use fs_layout::Dinode;
 use fs_tables::Inode;
 use hands::{Hand, Seat};
-use inode_data::record;
+use inode_table::record;
 use sleep_lock::Guard;
 
 fn record_of(place: &Option<Guard<Inode>>) -> Dinode

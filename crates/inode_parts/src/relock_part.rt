@@ -5,7 +5,7 @@ ghost use Rattle.hands.specs.Hands.{number_at};
 ghost use Rattle.hands.specs.Ops.{op_in, answer_in, CanDo, Prepared, IsAfter};
 ghost use Rattle.hands.specs.Controls.{Goes, left_after, bare};
 ghost use Rattle.hands.specs.declared.hand.Hand.{Hand as HandState};
-ghost use Rattle.hand_controls.specs.HeldInodes.{record_in};
+ghost use Rattle.inode_table.specs.HeldInodes.{record_in};
 ghost use Rattle.inode_machine.specs.Inodes.{AtNothing};
 ghost use Rattle.inode_machine.specs.World.Op.{Take};
 ghost use Rattle.inode_parts.specs.Carries.{carry_in, handed};
@@ -15,16 +15,16 @@ ghost use Rattle.inode_parts.specs.Relocks.{relock_left, relock_asked, RelockAmi
 ghost use Rattle.inode_parts.specs.Sides.{beside_in};
 ghost use Rattle.inode_parts.specs.Takes.{looked, IsTaken, Sees};
 ghost use Rattle.inode_parts.specs.declared.note.Notes.{Notes as NotesState};
-ghost use Rattle.whole_calls.specs.declared.asks.Query.TheVariants as query;
+ghost use Rattle.path_walk.specs.declared.asks.Query.TheVariants as query;
 
 use crate::faces::face_unless_free;
 use crate::note::{Note, Notes};
 use crate::places::free_seat;
 use crate::records::record_at;
 use fs_layout::Super;
-use hand_controls::LockInode;
 use hands::{Answer, Hand, Op, Routine, Seat};
-use whole_calls::{Heard, Sight};
+use inode_table::LockInode;
+use path_walk::{Heard, Sight};
 
 /// The lock of the first listed inode is taken, and the reference to it comes to a seat.
 #[derive(Clone, Copy, Drop)]

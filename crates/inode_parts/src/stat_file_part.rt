@@ -15,11 +15,11 @@ ghost use Rattle.inode_parts.specs.declared.note.Notes.{Notes as NotesState};
 use crate::faces::face;
 use crate::note::{Note, Notes};
 use crate::records::record_at;
+use file_table::{FileLocked, LockFile};
 use fs_layout::Super;
 use fs_tables::Want;
-use hand_controls::{FileLocked, LockFile};
 use hands::{Answer, Hand, Op, Routine, Seat};
-use whole_calls::Heard;
+use path_walk::Heard;
 
 /// The lock of what a descriptor names is taken, where that has a state to tell.
 #[derive(Clone, Copy, Drop)]

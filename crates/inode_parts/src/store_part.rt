@@ -14,9 +14,9 @@ ghost use Rattle.inode_parts.specs.declared.note.Notes.{Notes as NotesState};
 use crate::note::{Note, Notes};
 use crate::places::lock_seat;
 use fs_layout::Super;
-use hand_controls::StoreRecord;
 use hands::{Answer, Hand, Op, Part, Place, Seat};
-use whole_calls::Heard;
+use inode_table::StoreRecord;
+use path_walk::Heard;
 
 /// The inode whose lock is at this seat is stored, as it is in hand.
 #[derive(Clone, Copy, Drop)]

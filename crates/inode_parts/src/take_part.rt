@@ -5,8 +5,8 @@ ghost use Rattle.hands.specs.Hands.{number_at};
 ghost use Rattle.hands.specs.Ops.{op_in, answer_in, CanDo, Prepared, IsAfter};
 ghost use Rattle.hands.specs.Controls.{Goes, left_after, bare};
 ghost use Rattle.hands.specs.declared.hand.Hand.{Hand as HandState};
-ghost use Rattle.hand_controls.specs.Emptying.{HasNoBuffer};
-ghost use Rattle.hand_controls.specs.HeldInodes.{record_in};
+ghost use Rattle.inode_data.specs.Emptying.{HasNoBuffer};
+ghost use Rattle.inode_table.specs.HeldInodes.{record_in};
 ghost use Rattle.inode_data.specs.Beginnings.{IfBegun};
 ghost use Rattle.inode_machine.specs.Inodes as whole;
 ghost use Rattle.inode_machine.specs.World.Op.{Take};
@@ -16,26 +16,24 @@ ghost use Rattle.inode_parts.specs.Holding.{IsCounted};
 ghost use Rattle.inode_parts.specs.Leaving.{heard_if, having, StaysOrLeaves};
 ghost use Rattle.inode_parts.specs.Sides.{beside_in};
 ghost use Rattle.inode_parts.specs.Parts.{IsPart};
-ghost use Rattle.inode_parts.specs.Takes.{looked, note_of, taken_left, take_left, take_asked, take_query, take_seat};
-ghost use Rattle.inode_parts.specs.Takes.{IsTaken, IsTold, Sees, TakeAmid, TakeBegins, TakeReady, TakeTold};
+ghost use Rattle.inode_parts.specs.Takes.{looked, note_of, taken_left, take_left, take_asked, take_query, take_seat, IsTaken, IsTold, Sees, TakeAmid, TakeBegins, TakeReady, TakeTold};
 ghost use Rattle.inode_parts.specs.declared.note.Note.TheVariants as note;
 ghost use Rattle.inode_parts.specs.declared.note.Notes.{Notes as NotesState};
 ghost use Rattle.inodes_on_blocks.specs.Reading.{number_found};
-ghost use Rattle.whole_calls.specs.Asks.{query_in, sight_in};
-ghost use Rattle.whole_calls.specs.declared.asks.Heard.TheVariants as heard;
+ghost use Rattle.path_walk.specs.Asks.{query_in, sight_in};
+ghost use Rattle.path_walk.specs.declared.asks.Heard.TheVariants as heard;
 
 use crate::faces::face_unless_free;
 use crate::names::name;
 use crate::note::{Note, Notes};
 use crate::places::reference_seat;
 use crate::records::record_at;
-use content_parts::Search;
-use directory::{Found, Sought};
+use directory::{Found, Search, Sought};
 use fs_layout::{Dinode, Super};
-use hand_controls::LockInode;
 use hands::{Answer, Hand, Op, Routine, Seat};
 use inode_data::Begun;
-use whole_calls::{Element, Heard, Query, Sight};
+use inode_table::LockInode;
+use path_walk::{Element, Heard, Query, Sight};
 
 /// The lock of an inode is taken, to which a reference is in hand, and the inode is looked at.
 #[derive(Clone, Copy, Drop)]

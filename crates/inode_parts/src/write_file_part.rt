@@ -8,7 +8,7 @@ ghost use Rattle.hands.specs.Ops.{op_in, answer_in, CanDo, Prepared, IsAfter};
 ghost use Rattle.hands.specs.Controls.{Goes, bare, left_after};
 ghost use Rattle.hands.specs.Hands.{inode_at, with_record};
 ghost use Rattle.hands.specs.declared.hand.Hand.{Hand as HandState};
-ghost use Rattle.content_parts.specs.PartWriting.{IsWithin};
+ghost use Rattle.inode_data.specs.PartWriting.{IsWithin};
 ghost use Rattle.inode_machine.specs.World.Op.{WriteFile as Writes};
 ghost use Rattle.inodes_on_blocks.specs.Writing.{refused_in};
 ghost use Rattle.inode_parts.specs.Carries.{carry_in, handed};
@@ -21,13 +21,12 @@ use crate::locked_file::{LockedFile, locked_file};
 use crate::note::Notes;
 use crate::pieces::piece;
 use crate::records::record_at;
-use content_parts::{WritePart, Written};
 use fs_layout::widths::BLOCK_LEN;
 use fs_layout::{Dinode, Super};
 use hands::{Answer, Hand, Op, Seat};
-use inode_data::MOST_BLOCKS;
+use inode_data::{MOST_BLOCKS, WritePart, Written};
+use path_walk::{Heard, Wrote};
 use plain_tree::Cause;
-use whole_calls::{Heard, Wrote};
 
 /// A piece of the call's bytes is written to a file; then its lock is given up.
 #[derive(Drop)]

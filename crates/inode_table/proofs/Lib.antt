@@ -1,1 +1,3 @@
+pub mod Goings
+pub mod HasOnes
 pub mod Stored

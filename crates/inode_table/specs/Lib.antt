@@ -1,5 +1,10 @@
-pub mod Programs
-pub mod Machines
+pub mod HeldInodes
 pub mod Laws
+pub mod Loading
+pub mod LoadingHeld
+pub mod LockingInodes
+pub mod Making
 pub mod NewInodes
-pub mod NewMachines
+pub mod Programs
+pub mod Storing
+pub mod StoringRecords

@@ -1,36 +1,31 @@
 //! A new inode.
-ghost use Rattle.std.specs.Prelude.{◌≡◌, ◌<◌, ◌≤◌, ◌+◌, ◌-◌, ◌*◌, ◌^◌, ℕ, Some, take};
+ghost use Rattle.std.specs.Prelude.{◌≡◌, ◌<◌, ◌≤◌, ◌+◌, ◌-◌, ◌*◌, ◌^◌, take, None, IsSome, IfSome, IfNone};
+ghost use Rattle.std.specs.Option.{MatchOption};
 ghost use Rattle.fs_layout.specs.Bytes.{i16_at};
 ghost use Rattle.fs_layout.specs.Widths.{inode_len, inodes_per_block};
-ghost use Rattle.atomic_programs.specs.Prog.{Ret, Ran as ItRan};
-ghost use Rattle.atomic_programs.specs.Machines.{Still, Left as LeftOf};
-ghost use Rattle.fs_machine.specs.LogPart.{Outside};
-ghost use Rattle.fs_machine.specs.Steps.{State, state_of, exec, Put};
-ghost use Rattle.fs_machine.specs.Premises.{May};
-ghost use Rattle.fs_machine.specs.Machines.{MayNext, Moves, Answers, CallsOnce};
-ghost use Rattle.fs_machine.specs.Tied.{IsOwnInode, LeavesTied, bytes_of};
-ghost use Rattle.fs_machine.specs.Stays.{LeavesAll};
-ghost use Rattle.fs_machine.specs.Fetching.{IsFetched};
-ghost use Rattle.inode_table.specs.Programs.{with_dinode};
-ghost use Rattle.inode_table.specs.NewInodes.{is_free_in, free_in, inode_blocks, new_record, new_from, new_inode};
-ghost use Rattle.inode_table.specs.NewMachines.{rest_of, new_of, NewFits, IsLooking, in_new_fetch};
+ghost use Rattle.atomic_programs.specs.Prog.{Ret};
+ghost use Rattle.fs_machine.specs.Tied.{bytes_of};
+ghost use Rattle.inode_table.specs.NewInodes.{free_in, inode_blocks, is_free_in, new_from, new_inode, new_record};
+ghost use Rattle.inode_table.specs.declared.new_inode.Made.{Made as MadeState};
+ghost use Rattle.hands.specs.Hands.{bytes_at, reference_at};
+ghost use Rattle.hands.specs.Ops.{IsAfter, answer_in};
+ghost use Rattle.hands.specs.Controls.{Goes, left_after, bare};
+ghost use Rattle.hands.specs.declared.hand.Hand.{Hand as HandState};
+ghost use Rattle.hands.specs.declared.hand.Place.TheVariants.{First};
+ghost use Rattle.hands.specs.declared.hand.Seat.{Seat as SeatState};
+ghost use Rattle.inode_table.specs.Making.{new_left, new_value, new_asked, new_seat, beside_new, claimed_of, rest_of, HasFree, HasInodes, IsLooking, NewEnds, NewReady};
 
-use crate::place::write_in;
-use atomic_programs::machines::Stepped;
-use block_device::Device;
-use buffer_cache::Buffer;
+use crate::place::write_dinode_at;
 use byteorder::{ByteOrder, LittleEndian};
 use fs_layout::widths::{ADDRESSES, Block, INODE_LEN, INODES_PER_BLOCK};
 use fs_layout::{Dinode, Super};
-use fs_machine::{Claim, Core, Fetch, Kind, RetiredCore};
-use fs_tables::Reference;
-use group_log::Txn;
-use sleep_lock::Guard;
+use hands::{Answer, Fetch, Hand, Op, Part, Place, Routine, Seat};
 
 /// What a search for a new inode came to.
+#[derive(Clone, Copy, Drop)]
 pub enum Made {
-    /// This inode was taken.
-    Inode(Reference),
+    /// The inode of this number was taken, and the reference to it is in hand.
+    Inode(u32),
     /// Each of the fifty places for inodes in memory is referred to.
     NoPlace,
     /// Each inode was in use, or referred to, when its block was looked at.
@@ -49,116 +44,127 @@ pub struct Looking {
     pub left: u32,
 }
 
-/// Takes the first inode whose type is 0 and to which no reference stands, by rising number, and records it with its type (xv6: `ialloc`).
+/// Takes the first inode whose type is 0 and to which no reference stands, by rising number, and records it with its type. The
+/// reference to it is at a seat then.
+#[derive(Clone, Copy, Drop)]
 pub enum NewInode {
     /// An inode block is fetched.
-    Fetching(Looking, Fetch),
-    /// It is there.
-    Look(Looking, Guard<Buffer>),
-    /// One of its inodes was claimed.
-    Record(Looking, Reference, Guard<Buffer>),
+    Fetching(Seat, Looking, Fetch),
+    /// It is there, and the numbers of its free inodes are in hand.
+    Look(Seat, Looking),
+    /// One of them was claimed, of this number.
+    Record(Seat, Looking, u32),
     /// None could be claimed, since each place in memory is referred to.
-    GiveBack(Looking, Guard<Buffer>),
+    GiveBack(Seat, Looking),
 }
 
 impl NewInode {
     /// An inode of this type, not 0, on a disk with this superblock, whose inodes are at least one.
-    #[tactic(auto, unfolding(crate::specs::NewMachines::new_of, crate::specs::NewMachines::NewFits, crate::specs::NewInodes::new_from, fs_machine::specs::Fetching::fetch_of, fs_machine::specs::Fetching::FetchFits))]
-    pub fn new(kind: i16, sizes: &Super) -> NewInode
+    #[tactic(auto, unfolding(crate::specs::NewInodes::new_from))]
+    pub fn new(kind: i16, sizes: &Super, seat: Seat) -> NewInode
         requires some { 0 < sizes.now.ninodes }
         requires blocks { sizes.now.inodestart + inode_blocks sizes.now.ninodes < 2 ^ 32 }
-        ensures program { new_of result ≡ new_inode kind sizes.now }
-        ensures fits { (hart : ℕ) (s : State) → NewFits hart s result }
+        ensures program { (h : HandState) → new_left result h ≡ new_inode kind sizes.now }
+        ensures ready { (h : HandState) → h.first ≡ None → h.second ≡ None → reference_at seat h ≡ None → IsSome h.txn → NewReady result h }
+        ensures seat { new_seat result ≡ seat }
     {
         let blocks = (sizes.ninodes - 1) / INODES_PER_BLOCK as u32 + 1;
-        look_at(Looking {
+        let looking = Looking {
             kind,
             sizes: *sizes,
             before: 0,
             left: blocks - 1,
-        })
+        };
+        look_at(seat, looking)
     }
+}
 
-    /// One operation.
-    #[tactic(auto, unfolding(crate::specs::NewMachines::new_of, crate::specs::NewMachines::NewFits, fs_machine::specs::Premises::Honest))]
-    pub fn step<D: Device>(
-        self,
-        hart: u8,
-        txn: &mut Txn,
-        core: &mut Core<D>,
-    ) -> Stepped<NewInode, Made, Kind>
-        requires txn { txn.old ≡ hart }
-        requires may { MayNext hart (new_of self) (state_of D.contents D.failures core.old) }
-        requires fits { NewFits hart (state_of D.contents D.failures core.old) self }
-        ensures moves { Moves new_of (λ made. made) hart self result (state_of D.contents D.failures core.old) (state_of D.contents D.failures core.new) }
-        ensures honest { Answers new_of hart self result (state_of D.contents D.failures core.old) (state_of D.contents D.failures core.new) }
-        ensures still { Still new_of result self core.old core.new }
-        ensures kept { txn.new ≡ txn.old }
-        ensures fits { LeftOf (NewFits hart (state_of D.contents D.failures core.new)) (λ _. Unit {0}) result }
-        ensures others { LeavesTied hart (state_of D.contents D.failures core.old) (state_of D.contents D.failures core.new) }
-        ensures called { CallsOnce D.Called core.old.log.cache.device core.new.log.cache.device }
-        ensures rest { LeavesAll (IsOwnInode hart) (state_of D.contents D.failures core.old) (state_of D.contents D.failures core.new) }
-    {
+impl Routine for NewInode {
+    type Out = Made;
+
+    ghost Value = { MadeState };
+
+    ghost value = { new_value };
+
+    ghost left = { new_left };
+
+    ghost asked = { new_asked };
+
+    ghost Ready = { NewReady };
+
+    ghost About = { SeatState };
+
+    ghost about = { new_seat };
+
+    ghost beside = { beside_new };
+
+    ghost Ends = { NewEnds };
+
+    fn op(&self, hand: &mut Hand) -> Op {
         match self {
-            NewInode::Fetching(looking, fetch) => fetching(looking, fetch.step(hart, core)),
-            NewInode::Look(looking, guard) => {
-                let (numbers, count) = free_numbers(
-                    guard.value().bytes(),
-                    looking.sizes.ninodes,
-                    looking.before,
-                );
-                match core.claim(hart, guard, &numbers[..count]) {
-                    Claim::Claimed(reference, guard) => Stepped::Ran(
-                        NewInode::Record(looking, reference, guard),
-                        Kind::Up,
-                    ),
-                    Claim::NoPlace(guard) => Stepped::Ran(
-                        NewInode::GiveBack(looking, guard),
-                        Kind::Up,
-                    ),
-                    Claim::NoInode => if looking.left == 0 {
-                        Stepped::Done(none_left(looking), Kind::Put)
-                    } else {
-                        Stepped::Ran(look_at(after(looking)), Kind::Put)
-                    },
-                }
+            NewInode::Fetching(_, _, fetch) => fetch.op(hand),
+            NewInode::Look(seat, _) => Op::Claim(Place::First, *seat),
+            NewInode::Record(_, looking, number) => {
+                write_dinode_at(hand, Place::First, *number, &as_new(looking.kind));
+                Op::Record(Place::First)
             }
-            NewInode::Record(looking, reference, guard) => {
-                make(looking.kind, reference.number(), guard, hart, txn, core);
-                Stepped::Done(Made::Inode(reference), Kind::Put)
-            }
-            NewInode::GiveBack(_, guard) => {
-                core.put_back(hart, guard);
-                Stepped::Done(Made::NoPlace, Kind::Put)
-            }
+            NewInode::GiveBack(_, _) => Op::Give(Place::First),
         }
     }
 
-    /// Ends it in mid-call, after all that harts share has ended.
-    pub fn retire(self, retired: &RetiredCore) {
+    #[tactic(auto, using(hands::proofs::Going::goes_bind, hands::proofs::Goings::fetched_goes))]
+    fn next(&mut self, answer: &Answer, hand: &mut Hand) -> Option<Made> {
         match self {
-            NewInode::Fetching(_, fetch) => fetch.retire(retired),
-            NewInode::Look(_, guard) => guard.retire_in_row(&retired.buffers),
-            NewInode::Record(_, reference, guard) => {
-                reference.retire(&retired.inodes);
-                guard.retire_in_row(&retired.buffers);
+            NewInode::Fetching(seat, looking, fetch) => {
+                let seat = *seat;
+                let looking = *looking;
+                match fetch.next(answer, hand) {
+                    None => None,
+                    Some(_) => {
+                        hold_free(looking, hand);
+                        *self = NewInode::Look(seat, looking);
+                        None
+                    }
+                }
             }
-            NewInode::GiveBack(_, guard) => guard.retire_in_row(&retired.buffers),
+            NewInode::Look(seat, looking) => {
+                let seat = *seat;
+                let looking = *looking;
+                match *answer {
+                    Answer::Number(number) => {
+                        *self = NewInode::Record(seat, looking, number);
+                        None
+                    }
+                    Answer::Is(_) => {
+                        *self = NewInode::GiveBack(seat, looking);
+                        None
+                    }
+                    Answer::Nothing => {
+                        if looking.left == 0 {
+                            return Some(none_left(looking));
+                        }
+                        *self = look_at(seat, after(looking));
+                        None
+                    }
+                    _ => unreachable!(),
+                }
+            }
+            NewInode::Record(_, _, number) => Some(Made::Inode(*number)),
+            NewInode::GiveBack(_, _) => Some(Made::NoPlace),
         }
     }
 }
 
 // The next block is fetched.
-#[tactic(auto, unfolding(crate::specs::NewMachines::new_of, crate::specs::NewMachines::NewFits, crate::specs::NewInodes::new_from, fs_machine::specs::Fetching::fetch_of, fs_machine::specs::Fetching::FetchFits))]
-fn look_at(looking: Looking) -> NewInode
+#[tactic(auto, unfolding(crate::specs::NewInodes::new_from))]
+fn look_at(seat: Seat, looking: Looking) -> NewInode
     requires { IsLooking looking }
-    ensures program { new_of result ≡ new_from (looking.left + 1) looking.kind looking.sizes looking.before }
-    ensures fits { (hart : ℕ) (s : State) → NewFits hart s result }
+    ensures program { (h : HandState) → new_left result h ≡ new_from (looking.left + 1) looking.kind looking.sizes looking.before }
+    ensures ready { (h : HandState) → h.first ≡ None → h.second ≡ None → reference_at seat h ≡ None → IsSome h.txn → NewReady result h }
+    ensures seat { new_seat result ≡ seat }
 {
-    NewInode::Fetching(
-        looking,
-        Fetch::Get(looking.sizes.inodestart + looking.before),
-    )
+    let block = looking.sizes.inodestart + looking.before;
+    NewInode::Fetching(seat, looking, Fetch::Get(Place::First, block))
 }
 
 // The same for the next block.
@@ -179,9 +185,24 @@ fn after(looking: Looking) -> Looking
 #[tactic(auto, unfolding(crate::specs::NewInodes::new_from))]
 fn none_left(looking: Looking) -> Made
     requires { looking.left ≡ 0 }
-    ensures { rest_of looking ≡ Ret result }
+    ensures program { (h : HandState) → rest_of looking ≡ Ret (new_value result h) }
+    ensures none { claimed_of result ≡ None }
 {
     Made::NoInode
+}
+
+// The numbers of the free inodes of the block at the first place are in hand from now on.
+fn hold_free(looking: Looking, hand: &mut Hand)
+    requires { HasInodes hand.old }
+    ensures free { HasFree looking hand.new }
+    ensures hand { hand.new ≡ record hand.old { numbers = hand.new.numbers; count = hand.new.count } }
+{
+    let (numbers, count) = match &hand.first {
+        Some(guard) => free_numbers(guard.value().bytes(), looking.sizes.ninodes, looking.before),
+        None => unreachable!(),
+    };
+    hand.numbers = numbers;
+    hand.count = count as u8;
 }
 
 // The type of an inode, read alone.
@@ -228,44 +249,5 @@ pub fn as_new(kind: i16) -> Dinode
         nlink: 0,
         size: 0,
         addrs: [0; ADDRESSES],
-    }
-}
-
-// Writes the claimed inode into its block, and gives that back.
-fn make<D: Device>(
-    kind: i16,
-    number: u32,
-    guard: Guard<Buffer>,
-    hart: u8,
-    txn: &mut Txn,
-    core: &mut Core<D>,
-)
-    requires txn { txn.old ≡ hart }
-    requires fetched { IsFetched hart guard.value.block guard (state_of D.contents D.failures core.old) }
-    requires may { May hart (Put guard.value.block (Some (with_dinode number (new_record kind) (bytes_of guard)))) (state_of D.contents D.failures core.old) }
-    ensures ran { (x : Outside) → exec hart x (Put guard.value.block (Some (with_dinode number (new_record kind) (bytes_of guard)))) (state_of D.contents D.failures core.old)
-        ≡ ItRan tt (state_of D.contents D.failures core.new) }
-    ensures kept { txn.new ≡ txn.old }
-    ensures others { LeavesTied hart (state_of D.contents D.failures core.old) (state_of D.contents D.failures core.new) }
-    ensures device { core.new.log.cache.device ≡ core.old.log.cache.device }
-    ensures tables { core.new.tables ≡ core.old.tables }
-{
-    let mut guard = guard;
-    write_in(&mut guard, number, &as_new(kind));
-    core.put_changed(hart, txn, guard);
-}
-
-// A fetch's step, while an inode block is fetched.
-fn fetching(
-    looking: Looking,
-    stepped: Stepped<Fetch, Guard<Buffer>, Kind>,
-) -> Stepped<NewInode, Made, Kind>
-    ensures { result ≡ in_new_fetch looking stepped }
-{
-    match stepped {
-        Stepped::Waits(fetch) => Stepped::Waits(NewInode::Fetching(looking, fetch)),
-        Stepped::Ran(fetch, kind) => Stepped::Ran(NewInode::Fetching(looking, fetch), kind),
-        Stepped::Done(guard, kind) => Stepped::Ran(NewInode::Look(looking, guard), kind),
-        Stepped::Stopped(fetch) => Stepped::Stopped(NewInode::Fetching(looking, fetch)),
     }
 }

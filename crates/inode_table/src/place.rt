@@ -1,13 +1,17 @@
-// Where an inode stands, and what a block's buffer has there.
-ghost use Rattle.std.specs.Prelude.{◌≡◌, ◌<◌, ◌^◌, Some, IsSome};
-ghost use Rattle.fs_layout.specs.Inode.{dinode_at};
+// Where an inode stands, and what its block's buffer has there.
+ghost use Rattle.std.specs.Prelude.{◌≡◌, ◌<◌, ◌^◌, Some, IsSome, ◌+◌, None};
+ghost use Rattle.std.specs.Option.{MatchOption};
 ghost use Rattle.fs_layout.specs.Widths.{inodes_per_block};
 ghost use Rattle.fs_machine.specs.Tied.{bytes_of};
 ghost use Rattle.inode_table.specs.Programs.{inode_block, place_of, with_dinode};
+ghost use Rattle.hands.specs.Hands.{buffer_at, bytes_at, with_bytes, with_content};
+ghost use Rattle.fs_layout.specs.Inode.{dinode_at};
+ghost use Rattle.hands.specs.declared.hand.Place.TheVariants.{First};
 
 use buffer_cache::Buffer;
 use fs_layout::widths::INODES_PER_BLOCK;
 use fs_layout::{Dinode, read_dinode, write_dinode};
+use hands::{Hand, Place};
 use sleep_lock::Guard;
 
 // The block of an inode.
@@ -19,28 +23,59 @@ pub(crate) fn block_of(inodestart: u32, number: u32) -> u32
 }
 
 // Where it stands there, counted in inodes.
-fn place(number: u32) -> usize
+fn place_in(number: u32) -> usize
     ensures place { result ≡ place_of number }
     ensures within { result < inodes_per_block }
 {
     number as usize % INODES_PER_BLOCK
 }
 
+// Writes the inode into its block's buffer.
+#[tactic(auto, unfolding(crate::specs::Programs::with_dinode))]
+fn write_in(guard: &mut Guard<Buffer>, number: u32, inode: &Dinode)
+    requires { IsSome guard.old.value.content }
+    ensures { guard.new ≡ with_content (with_dinode number inode.now (bytes_of guard.old)) guard.old }
+{
+    write_dinode(guard.value_mut().bytes_mut(), place_in(number), inode);
+}
+
+// The same at a place of the hand.
+pub(crate) fn write_dinode_at(hand: &mut Hand, place: Place, number: u32, inode: &Dinode)
+    requires { MatchOption (buffer_at place hand.old) ⊥ (λ g. IsSome g.value.content) }
+    ensures { hand.new ≡ with_bytes place (with_dinode number inode.now (bytes_at place hand.old)) hand.old }
+{
+    match place {
+        Place::First => match &mut hand.first {
+            Some(guard) => write_in(guard, number, inode),
+            None => unreachable!(),
+        },
+        Place::Second => match &mut hand.second {
+            Some(guard) => write_in(guard, number, inode),
+            None => unreachable!(),
+        },
+    }
+}
+
 // The inode as its block's buffer has it.
-pub(crate) fn inode_in(guard: &Guard<Buffer>, number: u32) -> Dinode
+fn dinode_in(guard: &Guard<Buffer>, number: u32) -> Dinode
     requires { IsSome guard.now.value.content }
     ensures { result ≡ dinode_at (place_of number) (bytes_of guard.now) }
 {
-    read_dinode(guard.value().bytes(), place(number))
+    read_dinode(guard.value().bytes(), place_in(number))
 }
 
-// Writes the inode into its block's buffer.
-#[tactic(auto, unfolding(crate::specs::Programs::with_dinode))]
-pub(crate) fn write_in(guard: &mut Guard<Buffer>, number: u32, inode: &Dinode)
-    requires { IsSome guard.old.value.content }
-    ensures { guard.new ≡ record guard.old {
-      value = record { block = guard.old.value.block; content = Some (with_dinode number inode.now (bytes_of guard.old)) };
-    } }
+pub(crate) fn dinode_at(hand: &Hand, place: Place, number: u32) -> Dinode
+    requires { MatchOption (buffer_at place hand.now) ⊥ (λ g. IsSome g.value.content) }
+    ensures { result ≡ dinode_at (place_of number) (bytes_at place hand.now) }
 {
-    write_dinode(guard.value_mut().bytes_mut(), place(number), inode);
+    match place {
+        Place::First => match &hand.first {
+            Some(guard) => dinode_in(guard, number),
+            None => unreachable!(),
+        },
+        Place::Second => match &hand.second {
+            Some(guard) => dinode_in(guard, number),
+            None => unreachable!(),
+        },
+    }
 }

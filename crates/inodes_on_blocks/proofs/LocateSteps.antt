@@ -27,7 +27,7 @@ use Rattle.fs_machine.specs.Programs.{fetch}
 use Rattle.fs_machine.specs.Shown.{seen_of}
 use Rattle.fs_machine.specs.Steps.{Put}
 use Rattle.inode_data.specs.declared.addresses.Address.TheVariants.{Direct, InTable}
-use Rattle.inode_data.specs.declared.location.Located.{Located}
+use Rattle.inode_data.specs.declared.locate.Located.{Located}
 use Rattle.inode_data.specs.Addresses.{table_of}
 use Rattle.inode_data.specs.Writing.{with_address, with_number, take_one, located, name_direct, name_in_table, look_up, locate_in_table, with_table, locate_at, locate}
 use Rattle.inode_machine.specs.Budget.{Spent, size, with_number as with_block, most_recorded}

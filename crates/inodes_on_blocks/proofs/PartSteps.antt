@@ -20,7 +20,7 @@ use Rattle.atomic_programs.proofs.Prog.{bind-assoc}
 use Rattle.atomic_programs.proofs.Sound.{Wp-more}
 use Rattle.fs_machine.specs.Programs.{fetch}
 use Rattle.fs_machine.specs.Shown.{seen_of}
-use Rattle.inode_data.specs.declared.location.Located.{Located}
+use Rattle.inode_data.specs.declared.locate.Located.{Located}
 use Rattle.inode_data.specs.Addresses.{table_of}
 use Rattle.inode_data.specs.Writing.{WriteResult, front_of, with_part, put_part, write_in, write_located, locate}
 use Rattle.inode_machine.specs.Budget.{Spent, size, with_number as with_block, most_recorded}

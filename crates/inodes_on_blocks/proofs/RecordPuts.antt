@@ -19,11 +19,10 @@ use Rattle.inode_table.specs.Programs.{inode_block, with_dinode}
 use Rattle.inode_table.proofs.Stored.{stores_one}
 use Rattle.inode_machine.specs.World as above
 use Rattle.inode_machine.specs.Exec.{with_record, is_dead}
-use Rattle.inode_machine.specs.Rules.{if_kept}
+use Rattle.inode_machine.specs.Rules.{if_kept, is_hart}
 use Rattle.inodes_on_tables.specs.Shown as tables
 use Rattle.inodes_on_tables.specs.Shown.{loaded}
 use Rattle.inodes_on_blocks.specs.OnBlocks.{is_joined}
-use Rattle.inode_machine.specs.Rules.{is_hart}
 use Rattle.inodes_on_blocks.specs.Owners.{Owners, is_named, named_of, inode_put, owners_put}
 use Rattle.inodes_on_blocks.specs.Below.{World, log_of, tables_of, disk_of, owners_of}
 use Rattle.inodes_on_blocks.specs.Recording.{CanPut, PutLeaves}

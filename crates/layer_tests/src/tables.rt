@@ -3,7 +3,7 @@ ghost use Rattle.std.specs.Prelude.{◌≡◌, Some};
 ghost use Rattle.fs_tables.specs.Locks.{IsLocked};
 
 use buffer_cache::HARTS;
-use directory::{Search, Searched};
+use directory::Search;
 use fs_layout::Dinode;
 use fs_tables::{
     DESCRIPTORS, Doubled, Dropped, Given, Inode, Listed, MEMORY_INODES, NewFile, OPEN_FILES, ROOT,
@@ -106,23 +106,15 @@ fn a_lock_waits_while_it_is_out(rt: HostRuntime) -> Result<(), Fail> {
 /// In a directory without a link a search for a name, "." too, finds nothing and begins with no block; its size is that of "." and "..".
 #[test]
 fn a_removed_directory_has_no_names(rt: HostRuntime) -> Result<(), Fail> {
-    let mut tables = Tables::new(rt.alloc())?;
-    let guard = tables.lock(0, ROOT).expect(&rt, "nobody has it");
     let removed = Dinode {
         kind: 1,
         size: 32,
         ..file(0)
     };
-    let guard = loaded(&tables, guard, removed);
-    match Search::lookup(guard) {
+    match Search::lookup(&removed) {
         Begun::Runs(_search) => panic!(rt; "it has no link"),
-        Begun::Is(searched) => {
-            let Searched { inode, found } = searched;
-            assert!(rt; found.is_none());
-            tables.unlock(0, inode);
-        }
+        Begun::Is(found) => assert!(rt; found.is_none()),
     }
-    let _ = tables.retire();
     Ok(())
 }
 

@@ -5,7 +5,7 @@ use Rattle.sleep_lock.specs.SleepLock.{GuardState}
 use Rattle.buffer_cache.specs.Buffers.{BufferState}
 use Rattle.fs_tables.specs.declared.inodes.Inode.{Inode}
 use Rattle.fs_machine.specs.Steps.{State}
-use Rattle.hand_controls.specs.Calling.{emptied, IsEmpty}
+use Rattle.hands.specs.Empty.{emptied, IsEmpty}
 use Rattle.hands.specs.declared.hand.Hand.{Hand}
 use Rattle.hands.specs.declared.hand.Place.{Place}
 use Rattle.hands.specs.declared.hand.Place.TheVariants.{First, Second}

@@ -4,7 +4,7 @@ ghost use Rattle.std.specs.Option.{MatchOption};
 ghost use Rattle.fs_machine.specs.Steps.{state_of};
 ghost use Rattle.fs_machine.specs.Machines.{MayNext};
 ghost use Rattle.whole_calls.specs.Wholes.{IsCall};
-ghost use Rattle.hand_controls.specs.Calling.{IsEmpty};
+ghost use Rattle.hands.specs.Empty.{IsEmpty};
 ghost use Rattle.inode_parts.specs.Sizes.{IsSized};
 ghost use Rattle.syscalls.specs.Machines.{running_of, RunningFits};
 ghost use Rattle.syscalls.specs.Places.{with_reply, HasBegun, IsReplied, StepsAt};
@@ -33,7 +33,7 @@ pub struct CallPlace {
 
 impl Model for CallPlace {
     ghost use Rattle.std.specs.Prelude.{◌≡◌, false, Option};
-    ghost use Rattle.hand_controls.specs.Calling.{IsEmpty};
+    ghost use Rattle.hands.specs.Empty.{IsEmpty};
     ghost use Rattle.syscalls.specs.Machines.{Running};
     ghost use Rattle.syscalls.specs.Places.{call_at};
 

@@ -1,5 +1,3 @@
-pub mod ElementLemmas
 pub mod Dots
-pub mod Onward
-pub mod Writes
 pub mod Shifted
+pub mod Writes

@@ -5,14 +5,14 @@ use Rattle.std.proofs.Math.Seq.{drop-append-add}
 use Rattle.plain_tree.specs.Tree.{Name}
 use Rattle.inode_machine.specs.Inodes.{AtName}
 use Rattle.inode_machine.specs.World.Op.{Take}
-use Rattle.whole_calls.specs.Asks.{op_in, IsNamed, IsNamedInTwo, OnlySeeks}
-use Rattle.whole_calls.specs.Elements.{name_in, shifted, IsElement, IsInOne}
-use Rattle.whole_calls.specs.Names.{IsName}
+use Rattle.path_walk.specs.Asks.{op_in, IsNamed, IsNamedInTwo, OnlySeeks}
+use Rattle.path_walk.specs.Elements.{name_in, shifted, IsElement, IsInOne}
+use Rattle.path_walk.specs.Names.{IsName}
 use Rattle.whole_calls.specs.Wholes.{first_in, second_in, text_in}
-use Rattle.whole_calls.specs.declared.asks.Ask.{Ask}
-use Rattle.whole_calls.specs.declared.asks.Ask.TheVariants as ask
-use Rattle.whole_calls.specs.declared.asks.Query.TheVariants as query
-use Rattle.whole_calls.specs.declared.elements.Element.{Element}
+use Rattle.path_walk.specs.declared.asks.Ask.{Ask}
+use Rattle.path_walk.specs.declared.asks.Ask.TheVariants as ask
+use Rattle.path_walk.specs.declared.asks.Query.TheVariants as query
+use Rattle.path_walk.specs.declared.elements.Element.{Element}
 use Rattle.whole_calls.specs.declared.whole.Whole.{Whole}
 use Rattle.whole_calls.specs.declared.whole.Whole.TheVariants as whole
 

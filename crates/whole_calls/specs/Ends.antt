@@ -7,7 +7,7 @@ use Rattle.inode_machine.specs.Inodes.{AtNothing}
 use Rattle.inode_machine.specs.World.Op.{Take, Give, Free, Forget, Leave}
 use Rattle.inode_machine.specs.World.Mark.{Frees}
 use Rattle.inode_machine.specs.Parts.{P, drop, give_up, free_listed, free_all, tail, say}
-use Rattle.whole_calls.specs.Asks.{reply_to}
+use Rattle.path_walk.specs.Asks.{reply_to}
 use Rattle.whole_calls.specs.declared.dropping.Dropping.{Dropping}
 use Rattle.whole_calls.specs.declared.dropping.Dropping.TheVariants as dropping
 use Rattle.whole_calls.specs.declared.ending.Freeing.{Freeing}

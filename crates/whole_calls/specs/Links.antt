@@ -8,22 +8,22 @@ use Rattle.plain_tree.specs.declared.call.Call.TheVariants as calls
 use Rattle.plain_tree.specs.declared.step.Action.{Action}
 use Rattle.plain_tree.specs.declared.step.Action.TheVariants as steps
 use Rattle.atomic_programs.specs.Prog.{Do}
-use Rattle.whole_calls.specs.Elements.{name_in, IsElement}
+use Rattle.path_walk.specs.Elements.{name_in, IsElement}
 use Rattle.inode_machine.specs.Inodes.{Face, is_directory_sort}
 use Rattle.inode_machine.specs.World.Op.{Store, Enter}
 use Rattle.inode_machine.specs.Parts.{P, own_step, failed, done, drop, give_up, tail, stopped}
 use Rattle.inode_machine.specs.Naming.{bump_refused, enters, link_at, link_in, link_name, link_program, link_raise, lower, named_on}
-use Rattle.whole_calls.specs.Asks.{face_of, reply_to}
+use Rattle.path_walk.specs.Asks.{face_of, reply_to}
 use Rattle.whole_calls.specs.Calls.{most_listed}
 use Rattle.whole_calls.specs.Ends.{dropping_of, ending_of}
-use Rattle.whole_calls.specs.Walks.{After, Stands, most_left, walk_of}
-use Rattle.whole_calls.specs.declared.asks.Turn.{Turn}
-use Rattle.whole_calls.specs.declared.asks.Turn.TheVariants as turn
-use Rattle.whole_calls.specs.declared.elements.Element.{Element}
+use Rattle.path_walk.specs.Walks.{After, Stands, most_left, walk_of}
+use Rattle.path_walk.specs.declared.asks.Turn.{Turn}
+use Rattle.path_walk.specs.declared.asks.Turn.TheVariants as turn
+use Rattle.path_walk.specs.declared.elements.Element.{Element}
 use Rattle.whole_calls.specs.declared.link.Link.{Link}
 use Rattle.whole_calls.specs.declared.link.Link.TheVariants as linking
-use Rattle.whole_calls.specs.declared.walk.Goal.TheVariants as goal
-use Rattle.whole_calls.specs.declared.walk.Walk.{Walk}
+use Rattle.path_walk.specs.declared.walk.Goal.TheVariants as goal
+use Rattle.path_walk.specs.declared.walk.Walk.{Walk}
 
 pub data LinkStage : Type 0 where
   Fresh : LinkStage

@@ -7,12 +7,12 @@ use Rattle.plain_tree.specs.declared.call.Call.TheVariants as calls
 use Rattle.inode_machine.specs.World.{LocksIt}
 use Rattle.inode_machine.specs.Parts.{P, say}
 use Rattle.inode_machine.specs.Descriptors.{read_on, read_program}
-use Rattle.whole_calls.specs.Asks.{count_in, reply_to, IsNamed}
-use Rattle.whole_calls.specs.declared.asks.Ask.{Ask}
-use Rattle.whole_calls.specs.declared.asks.Ask.TheVariants as ask
-use Rattle.whole_calls.specs.declared.asks.Heard.{Heard}
-use Rattle.whole_calls.specs.declared.asks.Turn.{Turn}
-use Rattle.whole_calls.specs.declared.asks.Turn.TheVariants as turn
+use Rattle.path_walk.specs.Asks.{count_in, reply_to, IsNamed}
+use Rattle.path_walk.specs.declared.asks.Ask.{Ask}
+use Rattle.path_walk.specs.declared.asks.Ask.TheVariants as ask
+use Rattle.path_walk.specs.declared.asks.Heard.{Heard}
+use Rattle.path_walk.specs.declared.asks.Turn.{Turn}
+use Rattle.path_walk.specs.declared.asks.Turn.TheVariants as turn
 use Rattle.whole_calls.specs.declared.reading.Read.{Read}
 use Rattle.whole_calls.specs.declared.reading.Read.TheVariants as reading
 

@@ -9,11 +9,11 @@ use Rattle.atomic_programs.specs.Prog.{Do, unmarked}
 use Rattle.inode_machine.specs.World.Op.{JoinFile, WriteFile, Join, Leave}
 use Rattle.inode_machine.specs.Parts.{P, say}
 use Rattle.inode_machine.specs.Descriptors.{joined_on, refused_to, write_from, write_piece, write_program, write_reply, writes, wrote_on}
-use Rattle.whole_calls.specs.Asks.{reply_to, wrote_of, IsNamed}
-use Rattle.whole_calls.specs.declared.asks.Ask.{Ask}
-use Rattle.whole_calls.specs.declared.asks.Ask.TheVariants as ask
-use Rattle.whole_calls.specs.declared.asks.Turn.{Turn}
-use Rattle.whole_calls.specs.declared.asks.Turn.TheVariants as turn
+use Rattle.path_walk.specs.Asks.{reply_to, wrote_of, IsNamed}
+use Rattle.path_walk.specs.declared.asks.Ask.{Ask}
+use Rattle.path_walk.specs.declared.asks.Ask.TheVariants as ask
+use Rattle.path_walk.specs.declared.asks.Turn.{Turn}
+use Rattle.path_walk.specs.declared.asks.Turn.TheVariants as turn
 use Rattle.whole_calls.specs.declared.writing.Piece.{Piece}
 use Rattle.whole_calls.specs.declared.writing.Write.{Write}
 use Rattle.whole_calls.specs.declared.writing.Write.TheVariants as writing

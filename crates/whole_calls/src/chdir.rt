@@ -2,17 +2,17 @@
 ghost use Rattle.std.specs.Prelude.{◌≡◌, ◌≢◌, ◌≤◌, ◌+◌, ℕ, All, [], List, Option, Some, length, false};
 ghost use Rattle.plain_tree.specs.declared.call.Call.TheVariants as calls;
 ghost use Rattle.plain_tree.specs.declared.step.Action.TheVariants as steps;
-ghost use Rattle.whole_calls.specs.Asks.{asks, hears, mark_at, marked_as, op_in, stepped, turned, IsNamed};
+ghost use Rattle.path_walk.specs.Asks.{asks, hears, mark_at, marked_as, op_in, stepped, turned, IsNamed};
 ghost use Rattle.whole_calls.specs.Calls.{chdir_of, chdir_stage, Fits, FitsOn, Fresh, chdir_after};
 ghost use Rattle.inode_machine.specs.Moving.{chdir_program};
-ghost use Rattle.whole_calls.specs.Walks.{StandsAt, most_walked, walked_to};
-ghost use Rattle.whole_calls.specs.declared.walk.Goal.TheVariants as goals;
+ghost use Rattle.path_walk.specs.Walks.{StandsAt, most_walked, walked_to};
+ghost use Rattle.path_walk.specs.declared.walk.Goal.TheVariants as goals;
 
-use crate::asks::{Ask, Heard, Mark, Query, Turn};
 use crate::dropping::Dropping;
 use crate::ending::Ending;
-use crate::numbers::{MOST_LISTED, Numbers};
-use crate::walk::{Goal, Walk, Walked, is_directory, stopped};
+use path_walk::{
+    Ask, Goal, Heard, MOST_LISTED, Mark, Numbers, Query, Turn, Walk, Walked, is_directory, stopped,
+};
 use plain_tree::{Answer, Cause};
 
 /// The new directory first, then the old one's reference is dropped.

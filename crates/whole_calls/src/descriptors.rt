@@ -2,13 +2,13 @@
 ghost use Rattle.std.specs.Prelude.{◌≡◌, ℕ, [], List, Option, Some};
 ghost use Rattle.plain_tree.specs.declared.call.Call.TheVariants as calls;
 ghost use Rattle.plain_tree.specs.declared.step.Action.TheVariants as steps;
-ghost use Rattle.whole_calls.specs.Asks.{asks, hears, mark_at, marked_as, op_in, stepped, turned, face_of, IsNamed};
+ghost use Rattle.path_walk.specs.Asks.{asks, hears, mark_at, marked_as, op_in, stepped, turned, face_of, IsNamed};
 ghost use Rattle.whole_calls.specs.Calls.{dup_of, stat_of};
 ghost use Rattle.inode_machine.specs.Descriptors.{dup_program, stat_program};
 ghost use Rattle.plain_tree.specs.declared.answer.Answer.TheVariants as answers;
 ghost use Rattle.inode_machine.specs.Inodes.{stat_of_face};
 
-use crate::asks::{Ask, Face, Heard, Mark, Sort, Turn};
+use path_walk::{Ask, Face, Heard, Mark, Sort, Turn};
 use plain_tree::{Answer, Cause, Full, NodeType, Stat};
 
 /// dup: one step for descriptor and count; without an open file the reply alone.

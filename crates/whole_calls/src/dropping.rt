@@ -2,11 +2,11 @@
 ghost use Rattle.std.specs.Prelude.{◌≡◌, ℕ, List, Option, Some};
 ghost use Rattle.plain_tree.specs.declared.answer.Reply.{Reply};
 ghost use Rattle.plain_tree.specs.declared.step.Action.{Action};
-ghost use Rattle.whole_calls.specs.Asks.{asks, hears, mark_at, marked_as, op_in, IsNamed};
+ghost use Rattle.path_walk.specs.Asks.{asks, hears, mark_at, marked_as, op_in, IsNamed};
 ghost use Rattle.whole_calls.specs.Ends.{after_drop, dropping_of};
 ghost use Rattle.inode_machine.specs.Parts.{P};
 
-use crate::asks::{Ask, Heard, Mark};
+use path_walk::{Ask, Heard, Mark};
 
 /// An inode is given up, and the reference to it dropped. The last one to an inode without links frees it.
 #[derive(Clone, Copy)]

@@ -3,23 +3,23 @@ ghost use Rattle.std.specs.Prelude.{◌≡◌, ◌≢◌, ◌≤◌, ◌+◌, �
 ghost use Rattle.plain_tree.specs.Tree.{elements};
 ghost use Rattle.plain_tree.specs.declared.call.Call.TheVariants as calls;
 ghost use Rattle.plain_tree.specs.declared.step.Action.TheVariants as steps;
-ghost use Rattle.whole_calls.specs.Asks.{asks, entered_of, face_of, hears, mark_at, marked_as, op_in, reply_to, sight_of, stepped, turned, IsNamedInTwo};
-ghost use Rattle.whole_calls.specs.Elements.{name_in, IsElement};
+ghost use Rattle.path_walk.specs.Asks.{asks, entered_of, face_of, hears, mark_at, marked_as, op_in, reply_to, sight_of, stepped, turned, IsNamedInTwo};
+ghost use Rattle.path_walk.specs.Elements.{name_in, IsElement};
 ghost use Rattle.inode_machine.specs.Inodes.{face_or};
 ghost use Rattle.whole_calls.specs.Links.{link_action, link_of, new_after, old_after, link_stage, LinkFits, LinkFitsOn, Fresh, Past, took};
 ghost use Rattle.inode_machine.specs.Naming.{bump_refused, link_at, link_found, link_program, lower, named_on};
 ghost use Rattle.inode_machine.specs.Parts.{give_up, tail};
-ghost use Rattle.whole_calls.specs.Walks.{StandsAt, most_walked, walked_to};
-ghost use Rattle.whole_calls.specs.declared.asks.Heard.{Heard};
+ghost use Rattle.path_walk.specs.Walks.{StandsAt, most_walked, walked_to};
+ghost use Rattle.path_walk.specs.declared.asks.Heard.{Heard};
 ghost use Rattle.whole_calls.specs.declared.link.Link.TheVariants as linking;
-ghost use Rattle.whole_calls.specs.declared.walk.Goal.TheVariants as goals;
+ghost use Rattle.path_walk.specs.declared.walk.Goal.TheVariants as goals;
 
-use crate::asks::{Ask, Entered, Face, Heard, Mark, Query, Sight, Turn};
 use crate::dropping::Dropping;
-use crate::elements::{Element, next_element};
 use crate::ending::Ending;
-use crate::numbers::{MOST_LISTED, Numbers};
-use crate::walk::{Goal, Walk, Walked, face_or, is_directory, is_live, stopped};
+use path_walk::{
+    Ask, Element, Entered, Face, Goal, Heard, MOST_LISTED, Mark, Numbers, Query, Sight, Turn, Walk,
+    Walked, face_or, is_directory, is_live, next_element, stopped,
+};
 use plain_tree::{Answer, Cause, Full};
 
 const COUNT_LIMIT: u16 = 32767;

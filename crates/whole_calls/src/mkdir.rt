@@ -3,25 +3,25 @@ ghost use Rattle.std.specs.Prelude.{◌≡◌, ◌≢◌, ◌≤◌, ◌+◌, �
 ghost use Rattle.plain_tree.specs.Tree.{elements};
 ghost use Rattle.plain_tree.specs.declared.call.Call.TheVariants as calls;
 ghost use Rattle.plain_tree.specs.declared.step.Action.TheVariants as steps;
-ghost use Rattle.whole_calls.specs.Asks.{asks, claimed_of, entered_of, face_of, hears, mark_at, marked_as, op_in, reply_to, sight_of, stepped, turned, IsNamed};
+ghost use Rattle.path_walk.specs.Asks.{asks, claimed_of, entered_of, face_of, hears, mark_at, marked_as, op_in, reply_to, sight_of, stepped, turned, IsNamed};
 ghost use Rattle.whole_calls.specs.Calls.{Fits, FitsOn, Fresh, Past};
-ghost use Rattle.whole_calls.specs.Elements.{name_in, IsElement};
+ghost use Rattle.path_walk.specs.Elements.{name_in, IsElement};
 ghost use Rattle.inode_machine.specs.Inodes.{face_or};
 ghost use Rattle.whole_calls.specs.Makes.{mkdir_after, mkdir_of, mkdir_stage};
 ghost use Rattle.inode_machine.specs.Naming.{mkdir_on, mkdir_program, mkdir_refused, mkdir_with, name_directory};
 ghost use Rattle.inode_machine.specs.Parts.{give_up, tail};
-ghost use Rattle.whole_calls.specs.Walks.{StandsAt, most_walked, walked_to};
-ghost use Rattle.whole_calls.specs.declared.asks.Heard.{Heard};
+ghost use Rattle.path_walk.specs.Walks.{StandsAt, most_walked, walked_to};
+ghost use Rattle.path_walk.specs.declared.asks.Heard.{Heard};
 ghost use Rattle.whole_calls.specs.declared.mkdir.Mkdir.TheVariants as making;
-ghost use Rattle.whole_calls.specs.declared.walk.Goal.TheVariants as goals;
+ghost use Rattle.path_walk.specs.declared.walk.Goal.TheVariants as goals;
 
-use crate::asks::{Ask, Claimed, Entered, Face, Heard, Mark, Query, Sight, Sort, Turn};
 use crate::dropping::Dropping;
-use crate::elements::{Element, next_element};
 use crate::ending::Ending;
-use crate::numbers::{MOST_LISTED, Numbers};
 use crate::opens::NewName;
-use crate::walk::{Goal, Walk, Walked, face_or, is_live, stopped};
+use path_walk::{
+    Ask, Claimed, Element, Entered, Face, Goal, Heard, MOST_LISTED, Mark, Numbers, Query, Sight,
+    Sort, Turn, Walk, Walked, face_or, is_live, next_element, stopped,
+};
 use plain_tree::{Answer, Cause, Full};
 
 const COUNT_LIMIT: u16 = 32767;

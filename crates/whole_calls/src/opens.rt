@@ -4,23 +4,23 @@ ghost use Rattle.plain_tree.specs.Steps.{creates, has};
 ghost use Rattle.plain_tree.specs.Tree.{elements};
 ghost use Rattle.plain_tree.specs.declared.call.Call.TheVariants as calls;
 ghost use Rattle.plain_tree.specs.declared.step.Action.TheVariants as steps;
-ghost use Rattle.whole_calls.specs.Asks.{asks, claimed_of, entered_of, face_of, hears, mark_at, marked_as, op_in, reply_to, sight_of, sort_of, stepped, turned, IsNamed};
+ghost use Rattle.path_walk.specs.Asks.{asks, claimed_of, entered_of, face_of, hears, mark_at, marked_as, op_in, reply_to, sight_of, sort_of, stepped, turned, IsNamed};
 ghost use Rattle.whole_calls.specs.Calls.{Fits, FitsOn, Fresh, Past};
-ghost use Rattle.whole_calls.specs.Elements.{name_in, IsElement};
+ghost use Rattle.path_walk.specs.Elements.{name_in, IsElement};
 ghost use Rattle.inode_machine.specs.Inodes.{face_or, open_refusal};
 ghost use Rattle.inode_machine.specs.Opening.{create_found, empties, make_on, make_with, open_face, open_program};
 ghost use Rattle.whole_calls.specs.Opens.{installed, open_after, open_goal, open_of, open_stage};
 ghost use Rattle.inode_machine.specs.Parts.{give_up, tail};
-ghost use Rattle.whole_calls.specs.Walks.{StandsAt, most_walked, walked_to};
-ghost use Rattle.whole_calls.specs.declared.asks.Heard.{Heard};
+ghost use Rattle.path_walk.specs.Walks.{StandsAt, most_walked, walked_to};
+ghost use Rattle.path_walk.specs.declared.asks.Heard.{Heard};
 ghost use Rattle.whole_calls.specs.declared.opens.Open.TheVariants as opening;
 
-use crate::asks::{Ask, Claimed, Entered, Heard, Mark, Query, Sight, Sort, Turn};
 use crate::dropping::Dropping;
-use crate::elements::{Element, next_element};
 use crate::ending::Ending;
-use crate::numbers::{MOST_LISTED, Numbers};
-use crate::walk::{Goal, Walk, Walked, face_or, is_live, stopped};
+use path_walk::{
+    Ask, Claimed, Element, Entered, Goal, Heard, MOST_LISTED, Mark, Numbers, Query, Sight, Sort,
+    Turn, Walk, Walked, face_or, is_live, next_element, stopped,
+};
 use plain_tree::{Answer, Cause, Full};
 
 const CREATE: u32 = 0x200;

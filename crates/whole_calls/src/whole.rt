@@ -1,21 +1,20 @@
 //! A call under way over whole inodes, whichever it is.
 ghost use Rattle.std.specs.Prelude.{◌≡◌, ◌≤◌, ℕ, [], List, Option, Some, length, false};
 ghost use Rattle.plain_tree.specs.declared.call.Call.{Call};
-ghost use Rattle.whole_calls.specs.Asks.{asks, hears, mark_at, marked_as, op_in, reply_to};
+ghost use Rattle.path_walk.specs.Asks.{asks, hears, mark_at, marked_as, op_in, reply_to};
 ghost use Rattle.inode_machine.specs.Programs.{program};
 ghost use Rattle.whole_calls.specs.Wholes.{HasRoomFor, IsCall, WholeAsks, WholeFits, action_in, call_in, first_in, second_in, text_in, went_to, whole_of};
 
-use crate::asks::{Ask, Heard, Mark};
 use crate::chdir::Chdir;
 use crate::close::{Close, Inherit};
 use crate::descriptors::{Dup, Fstat};
 use crate::link::Link;
 use crate::mkdir::Mkdir;
-use crate::numbers::Numbers;
 use crate::opens::Open;
 use crate::reading::Read;
 use crate::unlink::Unlink;
 use crate::writing::Write;
+use path_walk::{Ask, Heard, Mark, Numbers};
 use plain_tree::{Answer, Bytes, Call, Reply};
 
 /// A call with what it has come to.

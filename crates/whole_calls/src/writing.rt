@@ -3,11 +3,11 @@ ghost use Rattle.std.specs.Prelude.{◌≡◌, ◌≢◌, ◌+◌, ◌<◌, ◌^
 ghost use Rattle.plain_tree.specs.Calls.{piece_count};
 ghost use Rattle.plain_tree.specs.declared.call.Call.TheVariants as calls;
 ghost use Rattle.plain_tree.specs.declared.step.Action.TheVariants as steps;
-ghost use Rattle.whole_calls.specs.Asks.{asks, checked_in, hears, joined_of, mark_at, marked_as, op_in, reply_to, stepped, turned, wrote_of};
+ghost use Rattle.path_walk.specs.Asks.{asks, checked_in, hears, joined_of, mark_at, marked_as, op_in, reply_to, stepped, turned, wrote_of};
 ghost use Rattle.inode_machine.specs.Descriptors.{checked_reply, joined_on, write_from, write_program, wrote_on};
 ghost use Rattle.whole_calls.specs.Writes.{IsPieceOf, WriteAsks, WriteFits, WriteFitsOn, more_after, write_of};
 
-use crate::asks::{Ask, Heard, Joined, Mark, Turn, Wrote};
+use path_walk::{Ask, Heard, Joined, Mark, Turn, Wrote};
 use plain_tree::{Answer, Full};
 
 const PIECE_LEN: usize = 3072;

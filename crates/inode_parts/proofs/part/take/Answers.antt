@@ -8,7 +8,7 @@ use Rattle.inode_parts.specs.Parts.{IsPart}
 use Rattle.inode_parts.specs.Relocks.{relock_left}
 use Rattle.inode_parts.specs.UnderWay.{UnderWay}
 use Rattle.inode_parts.specs.declared.part.InodePart.TheVariants as part
-use Rattle.whole_calls.specs.Asks.{query_in}
+use Rattle.path_walk.specs.Asks.{query_in}
 use Rattle.inode_parts.proofs.Beginning.{may_take_by}
 use Rattle.inode_parts.proofs.Relocks.{relocked_by, taken_by}
 use Rattle.inode_parts.proofs.part.take.Goals as goal

@@ -1,7 +1,7 @@
 use Rattle.std.proofs.Common.{true, Option, None, sym, ap}
-use Rattle.whole_calls.specs.declared.asks.Face.{Face}
-use Rattle.whole_calls.specs.declared.asks.Heard.{Heard}
-use Rattle.whole_calls.specs.declared.asks.Heard.TheVariants as heard
+use Rattle.path_walk.specs.declared.asks.Face.{Face}
+use Rattle.path_walk.specs.declared.asks.Heard.{Heard}
+use Rattle.path_walk.specs.declared.asks.Heard.TheVariants as heard
 use Rattle.inode_parts.specs.declared.note.Note.TheVariants as note
 use Rattle.inode_parts.proofs.Seeing.{counted_face, sees_nothing}
 use Rattle.inode_parts.proofs.Taking.{seen_ends}

@@ -5,11 +5,11 @@ use Rattle.atomic_programs.specs.Prog.{Ret, bind}
 use Rattle.fs_machine.specs.Machines.{P}
 use Rattle.directory.specs.Programs.{lookup}
 use Rattle.directory.specs.declared.found.Found.{Found}
-use Rattle.content_parts.specs.Searching.{entries}
+use Rattle.directory.specs.Searching.{entries}
 use Rattle.hands.specs.Hands.{number_at}
-use Rattle.hand_controls.specs.HeldInodes.{record_in}
+use Rattle.inode_table.specs.HeldInodes.{record_in}
 use Rattle.inodes_on_blocks.specs.Reading.{number_found}
-use Rattle.whole_calls.specs.Elements.{name_in}
+use Rattle.path_walk.specs.Elements.{name_in}
 use Rattle.inode_parts.specs.Sides.{beside_in}
 use Rattle.inode_parts.specs.Takes.{listed_ends, named_ends, note_of}
 use Rattle.inode_parts.specs.declared.note.Note.TheVariants as note

@@ -1,4 +1,4 @@
-use Rattle.std.proofs.Common.{◌≡◌, ℕ, Some, None, refl, sym, ap, ◌∙◌, subst, inl}
+use Rattle.std.proofs.Common.{◌≡◌, ℕ, Some, None, refl, sym, ap, ◌∙◌, subst, inl, true}
 use Rattle.atomic_programs.specs.Prog.{Ran}
 use Rattle.fs_tables.specs.Inodes.{Counts, Dies}
 use Rattle.fs_machine.specs.LogPart.{Passes, part_of}
@@ -9,7 +9,6 @@ use Rattle.hands.specs.Hands.{HandFits, inode_at, inode_in, with_inode, with_ref
 use Rattle.hands.specs.Ops.{answer_in, dropped_by}
 use Rattle.hands.proofs.Fits.{inode-there, tables-stay, inode-taken, refers, reference-back, inode-in, number-there}
 use Rattle.hands.proofs.Dying.{dies_loaded}
-use Rattle.std.proofs.Common.{true}
 use Rattle.fs_tables.specs.declared.inodes.Inode.{Inode}
 use Rattle.hands.proofs.hand.Hand.down.Goals as goal
 

@@ -1,8 +1,8 @@
 use Rattle.std.proofs.Common.{◌≡◌, ◌∙◌, ap, refl, subst, sym}
-use Rattle.whole_calls.specs.declared.asks.Heard.TheVariants as heard
+use Rattle.path_walk.specs.declared.asks.Heard.TheVariants as heard
 use Rattle.hands.specs.Ops.{answer_in}
 use Rattle.hands.specs.declared.hand.Seat.{Seat}
-use Rattle.hand_controls.specs.Making.{beside_new, new_asked, new_left, new_seat, new_value}
+use Rattle.inode_table.specs.Making.{beside_new, new_asked, new_left, new_seat, new_value}
 use Rattle.inode_parts.proofs.Claims.{claim_leaves, claim_on, claim_over}
 use Rattle.inode_parts.proofs.claim_part.ClaimPart.next.Goals as goal
 

@@ -1,7 +1,7 @@
 use Rattle.std.proofs.Common.{refl}
 use Rattle.atomic_programs.specs.Prog.{Ret}
 use Rattle.hands.specs.Ops.{answer_in}
-use Rattle.content_parts.specs.Entering.{entered_as}
+use Rattle.directory.specs.EnterParts.{entered_as}
 use Rattle.inode_parts.specs.Carries.{handed}
 use Rattle.inode_parts.specs.Enters.{enter_part_asked}
 use Rattle.inode_parts.specs.Parts.{Part}

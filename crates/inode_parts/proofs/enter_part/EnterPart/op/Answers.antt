@@ -1,6 +1,6 @@
 use Rattle.hands.specs.Ops.{op_in}
-use Rattle.content_parts.proofs.Asking.{asks_bind}
-use Rattle.content_parts.specs.Entering.{enter_left}
+use Rattle.inode_data.proofs.Asking.{asks_bind}
+use Rattle.directory.specs.EnterParts.{enter_left}
 use Rattle.inode_parts.specs.Enters.{entered}
 use Rattle.inode_parts.proofs.enter_part.EnterPart.op.Goals as goal
 

@@ -1,8 +1,8 @@
 use Rattle.std.proofs.Common.{ap, ◌∙◌}
 use Rattle.fs_layout.specs.declared.inode.Dinode.{Dinode}
 use Rattle.hands.specs.declared.hand.Seat.{Seat}
-use Rattle.hand_controls.specs.HeldInodes.{record_in}
-use Rattle.content_parts.specs.Filling.{fill}
+use Rattle.inode_table.specs.HeldInodes.{record_in}
+use Rattle.directory.specs.Filling.{fill}
 use Rattle.inode_parts.proofs.Fills.{fill_is_part}
 use Rattle.inode_parts.proofs.fill_part.FillPart.begin.Goals as goal
 

@@ -1,6 +1,6 @@
 use Rattle.hands.specs.Ops.{op_in}
-use Rattle.content_parts.proofs.Asking.{asks_bind}
-use Rattle.content_parts.specs.Filling.{fill_left}
+use Rattle.inode_data.proofs.Asking.{asks_bind}
+use Rattle.directory.specs.Filling.{fill_left}
 use Rattle.inode_parts.specs.Fills.{filled}
 use Rattle.inode_parts.proofs.fill_part.FillPart.op.Goals as goal
 

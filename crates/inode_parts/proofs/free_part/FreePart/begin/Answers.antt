@@ -1,5 +1,5 @@
 use Rattle.std.proofs.Common.{ap}
-use Rattle.hand_controls.specs.declared.truncate.Emptying.{Emptying}
+use Rattle.inode_data.specs.declared.truncate.Emptying.{Emptying}
 use Rattle.inode_parts.proofs.Freeing.{free_begins, free_is_part, free_there}
 use Rattle.inode_parts.proofs.free_part.FreePart.begin.Goals as goal
 

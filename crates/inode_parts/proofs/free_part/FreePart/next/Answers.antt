@@ -1,6 +1,6 @@
 use Rattle.std.proofs.Common.{◌≡◌, [], refl, subst}
 use Rattle.hands.specs.Ops.{answer_in}
-use Rattle.hand_controls.specs.FreeingInodes.{freeing_asked}
+use Rattle.inode_data.specs.FreeingInodes.{freeing_asked}
 use Rattle.inode_parts.proofs.Frees.{free_on, free_over, free_stays}
 use Rattle.hands.specs.declared.hand.Seat.{Seat}
 use Rattle.inode_parts.specs.Changes.{beside_inode}

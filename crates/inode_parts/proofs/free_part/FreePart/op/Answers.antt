@@ -1,6 +1,6 @@
 use Rattle.hands.specs.Ops.{op_in}
-use Rattle.hand_controls.specs.FreeingInodes.{freeing_left}
-use Rattle.hand_controls.specs.HeldInodes.{number_in}
+use Rattle.inode_data.specs.FreeingInodes.{freeing_left}
+use Rattle.inode_table.specs.HeldInodes.{number_in}
 use Rattle.inode_parts.specs.Frees.{free_ends}
 use Rattle.inode_parts.specs.Sides.{beside_in}
 use Rattle.inode_parts.proofs.Afterwards.{asks_bind}

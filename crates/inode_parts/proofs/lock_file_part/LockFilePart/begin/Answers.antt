@@ -1,5 +1,5 @@
 use Rattle.std.proofs.Common.{refl}
-use Rattle.hand_controls.specs.LockingFiles.{file_seat}
+use Rattle.file_table.specs.LockingFiles.{file_seat}
 use Rattle.inode_parts.proofs.FileLocks.{lock_file_is_part}
 use Rattle.inode_parts.proofs.Coming.{comes_first}
 use Rattle.inode_parts.proofs.Locking.{first_seat}

@@ -1,12 +1,11 @@
-use Rattle.std.proofs.Common.{subst}
+use Rattle.std.proofs.Common.{subst, Some, refl}
 use Rattle.atomic_programs.specs.Prog.{Ret}
 use Rattle.hands.specs.Controls.{Goes}
-use Rattle.hand_controls.specs.declared.lock_file.FileLocked.{FileLocked}
-use Rattle.std.proofs.Common.{Some, refl}
+use Rattle.file_table.specs.declared.lock_file.FileLocked.{FileLocked}
 use Rattle.fs_tables.specs.Inodes.{Refuses, Locks}
-use Rattle.hand_controls.specs.HeldInodes.{record_in}
+use Rattle.inode_table.specs.HeldInodes.{record_in}
 use Rattle.hands.specs.Ops.{answer_in}
-use Rattle.hand_controls.specs.LockingFiles.{file_left, file_asked, file_seat, file_value, FileEnds}
+use Rattle.file_table.specs.LockingFiles.{file_left, file_asked, file_seat, file_value, FileEnds}
 use Rattle.inode_parts.specs.FileLocks.{file_ends}
 use Rattle.inode_parts.proofs.Locking.{lock_on, lock_over, other_free}
 use Rattle.inode_parts.proofs.Coming.{comes_on, file_learned, file_opens, never_came}

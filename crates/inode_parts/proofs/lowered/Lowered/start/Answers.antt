@@ -1,6 +1,6 @@
 use Rattle.std.proofs.Common.{ℕ, List, [], ◌++◌, sym, subst, ap, ◌∙◌}
 use Rattle.inode_machine.specs.Programs.{program}
-use Rattle.whole_calls.specs.Asks.{op_in}
+use Rattle.path_walk.specs.Asks.{op_in}
 use Rattle.whole_calls.specs.Wholes.{WholeFits, text_in, whole_of}
 use Rattle.inode_parts.specs.Calls.{whole_with, with_text, IsOnWay}
 use Rattle.inode_parts.specs.Carries.{carry_in}

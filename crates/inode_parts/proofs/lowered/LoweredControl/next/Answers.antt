@@ -6,8 +6,8 @@ use Rattle.hands.specs.Controls.{Goes}
 use Rattle.hands.specs.Ops.{answer_in}
 use Rattle.inode_machine.specs.Parts as programs
 use Rattle.inode_machine.specs.World as above
-use Rattle.whole_calls.specs.Asks.{answer_to, asks, hears, op_in, reply_to, stepped}
-use Rattle.whole_calls.specs.declared.asks.Heard.{Heard}
+use Rattle.path_walk.specs.Asks.{answer_to, asks, hears, op_in, reply_to, stepped}
+use Rattle.path_walk.specs.declared.asks.Heard.{Heard}
 use Rattle.whole_calls.specs.Wholes.{call_in, first_in, second_in, text_in, whole_of, HasRoomFor}
 use Rattle.inode_parts.specs.Calls.{whole_with, with_text, IsOnWay}
 use Rattle.inode_parts.specs.Carries.{carry_in}

@@ -5,8 +5,8 @@ use Rattle.atomic_programs.specs.Prog.{Ret}
 use Rattle.fs_layout.specs.declared.inode.Dinode.{Dinode}
 use Rattle.hands.specs.Hands.{inode_at}
 use Rattle.hands.specs.declared.hand.Seat.{Seat}
-use Rattle.hand_controls.specs.HeldInodes.{IsLoadedAt}
-use Rattle.content_parts.specs.PartReading.{filled_to, read_left}
+use Rattle.inode_table.specs.HeldInodes.{IsLoadedAt}
+use Rattle.inode_data.specs.PartReading.{filled_to, read_left}
 use Rattle.inode_parts.specs.OneSteps.{other}
 use Rattle.inode_parts.proofs.FileReads.{begun_fills, begun_is_part, may_move}
 use Rattle.inode_parts.proofs.read_file_part.ReadFilePart.begin.Goals as goal

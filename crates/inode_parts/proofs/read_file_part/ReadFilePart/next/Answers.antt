@@ -2,7 +2,7 @@ use Rattle.std.proofs.Common.{subst}
 use Rattle.fs_layout.specs.declared.inode.Dinode.{Dinode}
 use Rattle.hands.specs.Controls.{Goes}
 use Rattle.hands.specs.Ops.{answer_in}
-use Rattle.content_parts.specs.PartReading.{read_asked, read_left}
+use Rattle.inode_data.specs.PartReading.{read_asked, read_left}
 use Rattle.inode_parts.specs.FileReads.{ReadFileTold}
 use Rattle.inode_parts.specs.declared.read_file_part.ReadFilePart.{ReadFilePart}
 use Rattle.inode_parts.proofs.FileReads.{read_on, room_so}

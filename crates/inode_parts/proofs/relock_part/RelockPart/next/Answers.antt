@@ -3,9 +3,9 @@ use Rattle.atomic_programs.specs.Prog.{Ret, bind}
 use Rattle.hands.specs.Hands.{number_at, with_first}
 use Rattle.hands.specs.Ops.{IsAfter, answer_in}
 use Rattle.hands.specs.declared.hand.Seat.{Seat}
-use Rattle.hand_controls.specs.HeldInodes.{record_in}
-use Rattle.hand_controls.specs.LockingInodes.{lock_left, lock_asked, lock_seat}
-use Rattle.whole_calls.specs.declared.asks.Query.TheVariants as query
+use Rattle.inode_table.specs.HeldInodes.{record_in}
+use Rattle.inode_table.specs.LockingInodes.{lock_left, lock_asked, lock_seat}
+use Rattle.path_walk.specs.declared.asks.Query.TheVariants as query
 use Rattle.inode_parts.specs.Coming.{Comes}
 use Rattle.inode_parts.specs.OneSteps.{IsAlone, free_seat}
 use Rattle.inode_parts.specs.Relocks.{relock_asked, RelockReady}

@@ -1,4 +1,4 @@
-use Rattle.hand_controls.specs.LockingFiles.{file_seat}
+use Rattle.file_table.specs.LockingFiles.{file_seat}
 use Rattle.inode_parts.proofs.Coming.{comes_first}
 use Rattle.inode_parts.proofs.FileStats.{stat_file_is_part}
 use Rattle.inode_parts.proofs.Locking.{first_seat}

@@ -3,9 +3,9 @@ use Rattle.atomic_programs.specs.Prog.{Ret}
 use Rattle.fs_tables.specs.Inodes.{Refuses, Locks}
 use Rattle.hands.specs.Controls.{Goes}
 use Rattle.hands.specs.Ops.{answer_in}
-use Rattle.hand_controls.specs.HeldInodes.{record_in}
-use Rattle.hand_controls.specs.LockingFiles.{file_left, file_asked, file_seat, file_value, FileEnds}
-use Rattle.hand_controls.specs.declared.lock_file.FileLocked.{FileLocked}
+use Rattle.inode_table.specs.HeldInodes.{record_in}
+use Rattle.file_table.specs.LockingFiles.{file_left, file_asked, file_seat, file_value, FileEnds}
+use Rattle.file_table.specs.declared.lock_file.FileLocked.{FileLocked}
 use Rattle.inode_parts.specs.Faces.{face_by}
 use Rattle.inode_parts.specs.FileStats.{stat_ends}
 use Rattle.inode_parts.proofs.Coming.{comes_on, file_opens, never_came}

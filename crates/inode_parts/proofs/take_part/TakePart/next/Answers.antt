@@ -4,17 +4,16 @@ use Rattle.atomic_programs.specs.Prog.{Ret}
 use Rattle.directory.specs.Programs.{Entry, Named}
 use Rattle.hands.specs.Controls.{Goes}
 use Rattle.hands.specs.Ops.{answer_in}
-use Rattle.hand_controls.specs.LockingInodes.{lock_left, lock_asked, lock_seat}
-use Rattle.content_parts.specs.Searching.{search_left, search_asked}
+use Rattle.inode_table.specs.LockingInodes.{lock_left, lock_asked, lock_seat}
+use Rattle.directory.specs.Searching.{search_left, search_asked}
 use Rattle.inodes_on_blocks.specs.Reading.{number_found}
-use Rattle.whole_calls.specs.Elements.{name_in}
-use Rattle.inode_parts.specs.Takes.{listed_ends, named_ends, note_of, TakeTold}
+use Rattle.path_walk.specs.Elements.{name_in}
+use Rattle.inode_parts.specs.Takes.{listed_ends, named_ends, note_of, TakeTold, take_seat, Sees}
 use Rattle.inode_parts.specs.declared.note.Note.TheVariants as note
 use Rattle.inode_parts.specs.declared.take_part.TakePart.{TakePart}
 use Rattle.inode_machine.specs.Inodes.{Query}
 use Rattle.inode_parts.specs.Faces.{face_unless_free}
-use Rattle.inode_parts.specs.Takes.{take_seat, Sees}
-use Rattle.whole_calls.specs.Asks.{query_in}
+use Rattle.path_walk.specs.Asks.{query_in}
 use Rattle.inode_parts.proofs.Coming.{comes_on}
 use Rattle.inode_parts.proofs.Seeing.{comes_between, comes_on_search, sees_entries, sees_name, take_leaves}
 use Rattle.inode_parts.proofs.Taking.{is_taken, search_on, search_over, seen_ends, take_on, take_over, taken_stays}

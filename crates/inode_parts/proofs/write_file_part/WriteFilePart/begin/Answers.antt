@@ -1,6 +1,6 @@
 use Rattle.std.proofs.Common.{length, sym, ap, ◌∙◌}
 use Rattle.plain_tree.specs.Calls.{piece}
-use Rattle.content_parts.specs.PartWriting.{write_left}
+use Rattle.inode_data.specs.PartWriting.{write_left}
 use Rattle.inode_parts.proofs.FileWrites.{begun_deny, begun_write, done_so}
 use Rattle.inode_parts.proofs.write_file_part.WriteFilePart.begin.Goals as goal
 

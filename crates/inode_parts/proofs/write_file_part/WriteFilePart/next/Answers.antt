@@ -1,8 +1,8 @@
 use Rattle.std.proofs.Common.{ℕ, List, ap, subst, ◌∙◌}
 use Rattle.hands.specs.Controls.{Goes}
 use Rattle.hands.specs.Ops.{answer_in, IsAfter}
-use Rattle.content_parts.specs.InHand.{beside_buffers}
-use Rattle.content_parts.specs.PartWriting.{write_asked, write_left}
+use Rattle.inode_data.specs.InHand.{beside_buffers}
+use Rattle.inode_data.specs.PartWriting.{write_asked, write_left}
 use Rattle.inode_parts.specs.FileWrites.{write_file_asked, WriteFileReady, WriteFileTold}
 use Rattle.inode_parts.specs.declared.write_file_part.WriteFilePart.{WriteFilePart}
 use Rattle.inode_parts.proofs.FileWrites.{ready_for, write_on}

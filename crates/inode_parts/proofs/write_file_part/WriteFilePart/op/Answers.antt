@@ -2,9 +2,9 @@ use Rattle.std.proofs.Common.{◌≡◌, ℕ, List, Some, subst}
 use Rattle.plain_tree.specs.Calls.{piece}
 use Rattle.atomic_programs.specs.Prog.{asks}
 use Rattle.hands.specs.Ops.{op_in}
-use Rattle.hand_controls.specs.HeldInodes.{number_in}
-use Rattle.content_parts.proofs.Asking.{asks_bind}
-use Rattle.content_parts.specs.PartWriting.{write_left}
+use Rattle.inode_table.specs.HeldInodes.{number_in}
+use Rattle.inode_data.proofs.Asking.{asks_bind}
+use Rattle.inode_data.specs.PartWriting.{write_left}
 use Rattle.inode_parts.specs.FileWrites.{write_over}
 use Rattle.inode_parts.proofs.write_file_part.WriteFilePart.op.Goals as goal
 

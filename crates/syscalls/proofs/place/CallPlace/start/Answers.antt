@@ -1,5 +1,5 @@
 use Rattle.std.proofs.Common.{sym, subst}
-use Rattle.hand_controls.specs.Calling.{IsEmpty}
+use Rattle.hands.specs.Empty.{IsEmpty}
 use Rattle.hands.proofs.Stepping.{bare-fits}
 use Rattle.syscalls.specs.Machines.{Running, running_of}
 use Rattle.syscalls.proofs.Places.{idle_is, nothing_fits}

@@ -4,7 +4,7 @@ use Rattle.plain_tree.specs.declared.answer.Reply.{Reply}
 use Rattle.atomic_programs.specs.declared.machines.Came.TheVariants.{Waits, Ran, Done, Stopped}
 use Rattle.fs_machine.specs.Machines.{MayNext}
 use Rattle.fs_machine.specs.Steps.{state_of}
-use Rattle.whole_calls.specs.Asks.{reply_to}
+use Rattle.path_walk.specs.Asks.{reply_to}
 use Rattle.whole_calls.specs.Wholes.{call_in}
 use Rattle.syscalls.specs.Machines.{Running, running_of}
 use Rattle.syscalls.specs.Places.{call_at, with_reply, StepsAt}

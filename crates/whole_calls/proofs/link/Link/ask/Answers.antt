@@ -5,10 +5,10 @@ use Rattle.plain_tree.specs.declared.step.Action.TheVariants as steps
 use Rattle.inode_machine.specs.Inodes.{AtName}
 use Rattle.inode_machine.specs.World as world
 use Rattle.inode_machine.specs.World.Op.{Enter, Take}
-use Rattle.whole_calls.specs.Elements.{name_in, shifted, IsElement, IsInOne}
+use Rattle.path_walk.specs.Elements.{name_in, shifted, IsElement, IsInOne}
 use Rattle.whole_calls.specs.Links.{new_after, old_after}
-use Rattle.whole_calls.specs.declared.elements.Element.{Element}
-use Rattle.whole_calls.specs.declared.walk.Goal.TheVariants as goals
+use Rattle.path_walk.specs.declared.elements.Element.{Element}
+use Rattle.path_walk.specs.declared.walk.Goal.TheVariants as goals
 use Rattle.whole_calls.proofs.Shifted.{element_shifted, name_shifted, named_front, op_front, shifted_in_one}
 use Rattle.whole_calls.proofs.link.Link.ask.Goals as goal
 

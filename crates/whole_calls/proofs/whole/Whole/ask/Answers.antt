@@ -1,5 +1,5 @@
 use Rattle.std.proofs.Common.{ℕ, List, sym, subst}
-use Rattle.whole_calls.specs.Asks.{IsNamed, IsNamedInTwo}
+use Rattle.path_walk.specs.Asks.{IsNamed, IsNamedInTwo}
 use Rattle.whole_calls.specs.Calls.{Fits, chdir_stage, unlink_stage}
 use Rattle.whole_calls.specs.Links.{LinkFits, link_stage}
 use Rattle.whole_calls.specs.Makes.{mkdir_stage}

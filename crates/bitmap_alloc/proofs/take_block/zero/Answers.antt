@@ -1,7 +1,0 @@
-use Rattle.std.proofs.Common.{◌∙◌, ap}
-use Rattle.sleep_lock.specs.SleepLock.{GuardState}
-use Rattle.buffer_cache.specs.Buffers.{BufferState}
-use Rattle.bitmap_alloc.proofs.take_block.zero.Goals as goal
-
-pub returns-clause-rest : goal.returns-clause-rest
-returns-clause-rest g c k held own ne = c.put_changed.ensures.rest k held own (λ e. ne (e ∙ ap (λ (v : GuardState BufferState). v.value.block) c.zero_in.ensures))

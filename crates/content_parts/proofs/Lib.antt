@@ -1,4 +1,0 @@
-pub mod Asking
-pub mod PartReadings
-pub mod PartWritings
-pub mod HasOnes

@@ -1,7 +1,0 @@
-use Rattle.std.proofs.Common.{refl}
-use Rattle.fs_layout.specs.Bytes.{u16_bytes}
-use Rattle.content_parts.proofs.fill.dots.Goals as goal
-
-pub returns : goal.returns
-unfolding u16_bytes
-returns c = rw (c.copy_from_slice.ensures.after, c.copy_from_slice-2.ensures.after, c.entry_bytes.ensures, c.entry_bytes-2.ensures) refl

@@ -1,6 +1,0 @@
-use Rattle.std.proofs.Common.{sym}
-use Rattle.directory.specs.Machines.{aim_of}
-use Rattle.content_parts.proofs.search.Search.next.Goals as goal
-
-pub returns-in-Is-clause-goes : goal.returns-in-Is-clause-goes
-returns-in-Is-clause-goes c before = rw (c.in-Giving.is, c.in-None-found.is) (λ ready after. sym (c.in-Is.ensures.program (aim_of c.args.sought) c.args.hand.now))

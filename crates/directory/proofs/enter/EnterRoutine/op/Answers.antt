@@ -1,0 +1,12 @@
+use Rattle.directory.specs.Entering.{entered_by}
+use Rattle.hands.specs.Ops.{op_in}
+use Rattle.inode_data.specs.PartWriting.{write_left}
+use Rattle.inode_data.proofs.Asking.{asks_bind}
+use Rattle.directory.proofs.enter.EnterRoutine.op.Goals as goal
+
+pub returns-in-Writing-clause-asks : goal.returns-in-Writing-clause-asks
+returns-in-Writing-clause-asks c =
+    let p = c.in-Writing.placing in
+    let m = c.in-Writing.part in
+    rw c.in-Writing.is
+    (asks_bind (write_left p.entry m c.args.hand.now) (entered_by p.slot) (op_in c.op-in-Writing.new.hand c.op-in-Writing.result) c.op-in-Writing.ensures.asks)

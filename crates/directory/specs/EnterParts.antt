@@ -1,0 +1,42 @@
+-- A name entered.
+use Rattle.std.specs.Prelude.{ℕ, ◌+◌, ◌*◌, ◌==◌, if◌then◌else◌, ◌^◌, ◌<◌, ◌≤◌, IsSome}
+use Rattle.fs_layout.specs.Widths.{bits_per_block, dirent_len}
+use Rattle.atomic_programs.specs.Prog.{bind}
+use Rattle.fs_machine.specs.Machines.{P}
+use Rattle.inode_table.specs.Programs.{inode_block}
+use Rattle.directory.specs.Programs.{Unused, most_slots}
+use Rattle.directory.specs.Entering.{EnteredState, enter_at, entered_by}
+use Rattle.directory.specs.declared.enter.Room.TheVariants.{There, NoBlock}
+use Rattle.hands.specs.declared.hand.Hand.{Hand}
+use Rattle.hands.specs.declared.op.Op.{Op}
+use Rattle.directory.specs.Searching.{search_left, search_asked, SearchReady}
+use Rattle.inode_data.specs.PartWriting.{write_left, write_asked, WriteReady}
+use Rattle.inode_data.specs.declared.write_part.Written.{Written}
+use Rattle.directory.specs.declared.enter.Enter.{Enter}
+use Rattle.directory.specs.declared.enter.Enter.TheVariants.{Searching, Writing}
+use Rattle.directory.specs.declared.enter.Entered.{Entered}
+use Rattle.directory.specs.declared.enter.Entering.{Entering}
+
+-- what the result stands for
+abbrev pub entered_as : Entered → EnteredState
+entered_as r = record { inode = r.inode; room = r.room }
+
+abbrev pub enter_left : Enter → Hand → P EnteredState
+enter_left (Searching e m) h = bind (search_left Unused e.inode m h) (enter_at e.sizes e.number e.inode e.entry)
+enter_left (Writing p m) h = bind (write_left p.entry m h) (entered_by p.slot)
+
+abbrev pub enter_asked : Enter → Op
+enter_asked (Searching e m) = search_asked m
+enter_asked (Writing p m) = write_asked m
+
+-- the disk's blocks have bits, and the directory's block has a number
+abbrev pub IsEntering : Entering → Type 0
+IsEntering e = (e.sizes.size ≤ bits_per_block) × (inode_block e.sizes.inodestart e.number < 2 ^ 32)
+
+abbrev pub EnterReady : Enter → Hand → Type 0
+EnterReady (Searching e m) h = IsEntering e × SearchReady m h × IsSome h.txn
+EnterReady (Writing p m) h = (p.slot < most_slots) × WriteReady p.entry m h
+
+-- a slot lies in one block, so all of it was written or nothing
+abbrev pub entered_in : ℕ → Written → Entered
+entered_in slot w = record { inode = w.inode; room = if w.upto == dirent_len * (slot + 1) then There else NoBlock }

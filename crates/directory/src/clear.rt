@@ -1,0 +1,125 @@
+//! A name's slot cleared.
+ghost use Rattle.std.specs.Prelude.{◌≡◌, ◌<◌, ◌^◌, Some, None, IsSome, IfSome, IfNone};
+ghost use Rattle.fs_layout.specs.declared.inode.Dinode.{Dinode as DinodeState};
+ghost use Rattle.fs_layout.specs.declared.entry.Dirent.TheVariants.{Free};
+ghost use Rattle.inode_table.specs.Programs.{inode_block};
+ghost use Rattle.directory.specs.Programs.{most_slots, put_entry, with_slot};
+ghost use Rattle.hands.specs.Ops.{IsAfter, answer_in};
+ghost use Rattle.hands.specs.Controls.{Goes, left_after, bare};
+ghost use Rattle.hands.specs.declared.hand.Hand.{Hand as HandState};
+ghost use Rattle.inode_data.specs.InHand.{beside_buffers, NoBuffers};
+ghost use Rattle.directory.specs.Clearing.{clear_left, clear_asked, ClearReady};
+
+use crate::place::clear_at;
+use fs_layout::Dinode;
+use fs_layout::widths::{DIRENT_LEN, DIRENTS_PER_BLOCK};
+use hands::{Answer, Hand, Op, Part, Place, Routine};
+use inode_data::{FetchBlock, fetch_of};
+use inode_table::StoreInode;
+
+/// A slot of a directory.
+#[derive(Clone, Copy, Drop)]
+pub struct Slot {
+    /// The directory as it is.
+    pub inode: Dinode,
+    /// Its number, on a disk whose inode blocks begin at `inodestart`.
+    pub number: u32,
+    pub inodestart: u32,
+    /// The slot's place, counted from the directory's first one.
+    pub slot: u32,
+}
+
+/// Clears a slot of a directory, and stores the directory, which is as it was where the slot is one of its own. Its record is answered.
+#[derive(Drop)]
+pub enum Clear {
+    /// The slot's block is fetched.
+    Fetching(Slot, FetchBlock),
+    /// It is there.
+    Write(Slot),
+    /// The directory is stored, with this record.
+    Storing(Dinode, StoreInode),
+}
+
+impl Clear {
+    /// This slot.
+    pub fn new(slot: Slot) -> Clear
+        requires slot { slot.slot < most_slots }
+        requires block { inode_block slot.inodestart slot.number < 2 ^ 32 }
+        ensures program { (h : HandState) → clear_left result h ≡ put_entry slot.inodestart slot.number slot.inode slot.slot Free }
+        ensures ready { (h : HandState) → NoBuffers h → IsSome h.txn → ClearReady result h }
+    {
+        let fetch = fetch_of(&slot.inode, slot.slot as usize / DIRENTS_PER_BLOCK);
+        Clear::Fetching(slot, fetch)
+    }
+}
+
+impl Routine for Clear {
+    type Out = Dinode;
+
+    ghost Value = { DinodeState };
+
+    ghost value = { λ inode _. inode };
+
+    ghost left = { clear_left };
+
+    ghost asked = { clear_asked };
+
+    ghost Ready = { ClearReady };
+
+    ghost About = { Unit {0} };
+
+    ghost about = { λ _. tt };
+
+    ghost beside = { beside_buffers };
+
+    ghost Ends = { λ _ _ h. NoBuffers h };
+
+    fn op(&self, hand: &mut Hand) -> Op {
+        match self {
+            Clear::Fetching(_, fetch) => fetch.op(hand),
+            Clear::Write(slot) => {
+                clear_at(hand, slot.slot as usize % DIRENTS_PER_BLOCK);
+                Op::Record(Place::First)
+            }
+            Clear::Storing(_, store) => store.op(hand),
+        }
+    }
+
+    #[tactic(auto, using(hands::proofs::Going::goes_bind))]
+    fn next(&mut self, answer: &Answer, hand: &mut Hand) -> Option<Dinode> {
+        match self {
+            Clear::Fetching(slot, fetch) => match fetch.next(answer, hand) {
+                None => None,
+                Some(_) => {
+                    *self = Clear::Write(*slot);
+                    None
+                }
+            },
+            Clear::Write(slot) => {
+                let inode = slotted(slot);
+                let store = StoreInode::new(slot.inodestart, slot.number, inode, Place::First);
+                *self = Clear::Storing(inode, store);
+                None
+            }
+            Clear::Storing(inode, store) => {
+                let inode = *inode;
+                match store.next(answer, hand) {
+                    None => None,
+                    Some(()) => Some(inode),
+                }
+            }
+        }
+    }
+}
+
+// The directory's record with the slot.
+fn slotted(slot: &Slot) -> Dinode
+    requires { slot.now.slot < most_slots }
+    ensures { result ≡ with_slot slot.now.slot slot.now.inode }
+{
+    let end = DIRENT_LEN as u32 * (slot.slot + 1);
+    Dinode {
+        size: slot.inode.size.max(end),
+        ..slot.inode
+    }
+}

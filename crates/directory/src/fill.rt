@@ -1,0 +1,103 @@
+//! The names of a new directory, written.
+ghost use Rattle.std.specs.Prelude.{◌≡◌, ◌≤◌, ◌<◌, ◌^◌, Some, None, IsSome, IfSome, IfNone};
+ghost use Rattle.fs_layout.specs.Widths.{bits_per_block};
+ghost use Rattle.inode_table.specs.Programs.{inode_block};
+ghost use Rattle.hands.specs.Ops.{IsAfter, answer_in};
+ghost use Rattle.hands.specs.Controls.{Goes, left_after, bare};
+ghost use Rattle.hands.specs.declared.hand.Hand.{Hand as HandState};
+ghost use Rattle.inode_data.specs.InHand.{beside_buffers, NoBuffers};
+ghost use Rattle.inode_data.specs.PartWriting.{written_as};
+ghost use Rattle.directory.specs.Filling.{dots, fill, fill_left, fill_asked, filled_in, FillReady};
+ghost use Rattle.directory.specs.declared.fill.Filled.{Filled as FilledState};
+
+use crate::enter::entry_bytes;
+use fs_layout::widths::DIRENT_LEN;
+use fs_layout::{Dinode, Super};
+use hands::{Answer, Hand, Op, Routine};
+use inode_data::{WritePart, Written};
+
+// "." and "..".
+const DOTS_LEN: usize = 2 * DIRENT_LEN;
+
+/// The directory as it was stored, and whether it has its two names: it has none where no block was free.
+#[derive(Clone, Copy, Drop)]
+pub struct Filled {
+    pub inode: Dinode,
+    pub whole: bool,
+}
+
+/// Writes "." and ".." into a new directory, and stores it.
+#[derive(Drop)]
+pub struct Fill {
+    pub bytes: [u8; 32],
+    pub part: WritePart,
+}
+
+impl Fill {
+    /// Into inode `number`, which stands so, on a disk with this superblock, in this directory.
+    pub fn new(number: u32, inode: &Dinode, sizes: &Super, parent: u32) -> Fill
+        requires size { sizes.now.size ≤ bits_per_block }
+        requires block { inode_block sizes.now.inodestart number < 2 ^ 32 }
+        ensures program { (h : HandState) → fill_left result h ≡ fill sizes.now number inode.now parent }
+        ensures ready { (h : HandState) → NoBuffers h → IsSome h.txn → FillReady result h }
+    {
+        Fill {
+            bytes: dots(number, parent),
+            part: WritePart::begin(number, inode, sizes, 0, DOTS_LEN),
+        }
+    }
+}
+
+impl Routine for Fill {
+    type Out = Filled;
+
+    ghost Value = { FilledState };
+
+    ghost value = { λ filled _. filled };
+
+    ghost left = { fill_left };
+
+    ghost asked = { fill_asked };
+
+    ghost Ready = { FillReady };
+
+    ghost About = { Unit {0} };
+
+    ghost about = { λ _. tt };
+
+    ghost beside = { beside_buffers };
+
+    ghost Ends = { λ _ _ h. NoBuffers h };
+
+    fn op(&self, hand: &mut Hand) -> Op {
+        self.part.op(&self.bytes, hand)
+    }
+
+    #[tactic(auto, using(hands::proofs::Going::goes_bind))]
+    fn next(&mut self, answer: &Answer, hand: &mut Hand) -> Option<Filled> {
+        match self.part.next(&self.bytes, answer, hand) {
+            None => None,
+            Some(written) => Some(whole_in(&written)),
+        }
+    }
+}
+
+// What the writing came to.
+fn whole_in(written: &Written) -> Filled
+    ensures { result ≡ filled_in (written_as written.now) }
+{
+    Filled {
+        inode: written.inode,
+        whole: written.upto == DOTS_LEN,
+    }
+}
+
+// The bytes of a new directory.
+fn dots(number: u32, parent: u32) -> [u8; 32]
+    ensures { result ≡ dots number parent }
+{
+    let mut bytes = [0; DOTS_LEN];
+    bytes[..DIRENT_LEN].copy_from_slice(&entry_bytes(number, b"."));
+    bytes[DIRENT_LEN..].copy_from_slice(&entry_bytes(parent, b".."));
+    bytes
+}

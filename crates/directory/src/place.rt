@@ -1,0 +1,36 @@
+// What a buffer has of a directory.
+ghost use Rattle.std.specs.Prelude.{◌≡◌, ◌<◌, Some, IsSome, None};
+ghost use Rattle.std.specs.Option.{MatchOption};
+ghost use Rattle.fs_machine.specs.Tied.{bytes_of};
+ghost use Rattle.hands.specs.Hands.{bytes_at, with_bytes, with_content};
+ghost use Rattle.fs_layout.specs.declared.entry.Dirent.TheVariants.{Free};
+ghost use Rattle.fs_layout.specs.Widths.{dirents_per_block};
+ghost use Rattle.directory.specs.Programs.{with_dirent};
+ghost use Rattle.hands.specs.declared.hand.Place.TheVariants.{First};
+
+use buffer_cache::Buffer;
+use fs_layout::{Dirent, write_dirent};
+use hands::Hand;
+use sleep_lock::Guard;
+
+// Writes a free entry into a buffer.
+#[tactic(auto, unfolding(crate::specs::Programs::with_dirent))]
+fn clear_in(guard: &mut Guard<Buffer>, place: usize)
+    requires place { place < dirents_per_block }
+    requires valid { IsSome guard.old.value.content }
+    ensures { guard.new ≡ with_content (with_dirent place Free (bytes_of guard.old)) guard.old }
+{
+    write_dirent(guard.value_mut().bytes_mut(), place, &Dirent::Free);
+}
+
+// The same in hand.
+pub(crate) fn clear_at(hand: &mut Hand, place: usize)
+    requires place { place < dirents_per_block }
+    requires valid { MatchOption hand.old.first ⊥ (λ g. IsSome g.value.content) }
+    ensures { hand.new ≡ with_bytes First (with_dirent place Free (bytes_at First hand.old)) hand.old }
+{
+    match &mut hand.first {
+        Some(guard) => clear_in(guard, place),
+        None => unreachable!(),
+    }
+}

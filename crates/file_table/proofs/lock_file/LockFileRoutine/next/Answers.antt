@@ -1,0 +1,36 @@
+use Rattle.std.proofs.Common.{◌≡◌, ◌∙◌, refl, sym, ap, ℕ}
+use Rattle.fs_layout.specs.declared.inode.Dinode.{Dinode}
+use Rattle.atomic_programs.specs.Prog.{bind}
+use Rattle.fs_tables.specs.declared.inodes.Inode.{Inode}
+use Rattle.fs_machine.specs.Machines.{P}
+use Rattle.inode_table.specs.Programs.{load_unless}
+use Rattle.hands.specs.Hands.{inode_in}
+use Rattle.hands.specs.Ops.{answer_in}
+use Rattle.inode_table.specs.HeldInodes.{number_in}
+use Rattle.file_table.specs.LockingFiles.{locks}
+use Rattle.hands.proofs.Goings.{inode-there}
+use Rattle.file_table.proofs.lock_file.LockFileRoutine.next.Goals as goal
+
+pub returns-in-None-clause-goes : goal.returns-in-None-clause-goes
+unfolding answer_in
+returns-in-None-clause-goes c before =
+    let h = c.args.hand.now in
+    let k = c.in-Lock.seat in
+    let f = c.in-File.file in
+    rw (c.in-Lock.is, c.in-File.is) (λ ready after.
+    let named : f.number ≡ number_in k h = sym (ap (λ (v : Inode). v.number) (ap (inode_in k) after.1 ∙ inode-there k after.0 before) ∙ after.2) in
+    ap (λ (n : ℕ). bind (load_unless c.in-Lock.inodestart n (inode_in k h).content) (locks f)) named ∙ ap (λ (p : P Dinode). bind p (locks f)) (sym c.in-None.ensures.program))
+
+pub returns-in-Some-clause-goes : goal.returns-in-Some-clause-goes
+unfolding answer_in
+returns-in-Some-clause-goes c before =
+    let h = c.args.hand.now in
+    let k = c.in-Lock.seat in
+    let f = c.in-File.file in
+    rw (c.in-Lock.is, c.in-File.is) (λ ready after.
+    let named : f.number ≡ number_in k h = sym (ap (λ (v : Inode). v.number) (ap (inode_in k) after.1 ∙ inode-there k after.0 before) ∙ after.2) in
+    ap (λ (n : ℕ). bind (load_unless c.in-Lock.inodestart n (inode_in k h).content) (locks f)) named ∙ ap (λ (p : P Dinode). bind p (locks f)) (sym c.in-Some.ensures.program))
+
+pub returns-in-Refused-clause-goes : goal.returns-in-Refused-clause-goes
+unfolding answer_in
+returns-in-Refused-clause-goes c before = rw (c.in-Lock.is, c.in-Refused.is) (λ ready after. refl)

@@ -1,0 +1,108 @@
+//! A descriptor's inode locked, and loaded, where it may be had.
+ghost use Rattle.std.specs.Prelude.{◌≡◌, None, IfSome, IfNone};
+ghost use Rattle.fs_tables.specs.Inodes.{LockedState};
+ghost use Rattle.hands.specs.Hands.{inode_at};
+ghost use Rattle.hands.specs.Ops.{IsAfter, answer_in};
+ghost use Rattle.hands.specs.Controls.{Goes, left_after, bare};
+ghost use Rattle.hands.specs.declared.hand.Hand.{Hand as HandState};
+ghost use Rattle.hands.specs.declared.hand.Seat.{Seat as SeatState};
+ghost use Rattle.inode_table.specs.LoadingHeld.{beside_lock};
+ghost use Rattle.file_table.specs.LockingFiles.{lock_file_loaded, file_left, file_value, file_asked, file_seat, FileEnds, FileReady, HasInodeBlocks};
+
+use fs_tables::{OpenFile, Refused, Want};
+use hands::{Answer, Hand, Op, Part, Routine, Seat};
+use inode_table::{LoadInode, load_held};
+
+/// An open file, and where its inode's lock is.
+#[derive(Clone, Copy, Drop)]
+pub struct HeldFile {
+    pub seat: Seat,
+    pub file: OpenFile,
+}
+
+/// What the locking of a descriptor's inode came to.
+#[derive(Clone, Copy, Drop)]
+pub enum FileLocked {
+    Refused(Refused),
+    Locked(HeldFile),
+}
+
+/// Takes the lock of what a descriptor names, where it may be had for this, and loads the inode where it isn't.
+#[derive(Clone, Copy, Drop)]
+pub enum LockFile {
+    /// The lock is taken, on a disk whose inode blocks begin there.
+    Lock(Seat, u32, Want, u32),
+    /// The inode is loaded.
+    Loading(HeldFile, LoadInode),
+}
+
+impl LockFile {
+    /// What descriptor `fd` names, on a disk whose inode blocks begin at block `inodestart`.
+    pub fn new(inodestart: u32, seat: Seat, want: Want, fd: u32) -> LockFile
+        requires { HasInodeBlocks inodestart }
+        ensures program { (h : HandState) → file_left result h ≡ lock_file_loaded inodestart want fd }
+        ensures ready { (h : HandState) → inode_at seat h ≡ None → h.first ≡ None → FileReady result h }
+        ensures seat { file_seat result ≡ seat }
+    {
+        LockFile::Lock(seat, inodestart, want, fd)
+    }
+}
+
+impl Routine for LockFile {
+    type Out = FileLocked;
+
+    ghost Value = { LockedState };
+
+    ghost value = { file_value };
+
+    ghost left = { file_left };
+
+    ghost asked = { file_asked };
+
+    ghost Ready = { FileReady };
+
+    ghost About = { SeatState };
+
+    ghost about = { file_seat };
+
+    ghost beside = { beside_lock };
+
+    ghost Ends = { FileEnds };
+
+    fn op(&self, hand: &mut Hand) -> Op {
+        match self {
+            LockFile::Lock(seat, _, want, fd) => Op::LockFile(*seat, *want, *fd),
+            LockFile::Loading(_, load) => load.op(hand),
+        }
+    }
+
+    #[tactic(auto, using(hands::proofs::Going::goes_bind))]
+    fn next(&mut self, answer: &Answer, hand: &mut Hand) -> Option<FileLocked> {
+        match self {
+            LockFile::Lock(seat, inodestart, _, _) => {
+                let seat = *seat;
+                match *answer {
+                    Answer::File(file) => match load_held(*inodestart, hand, seat) {
+                        None => Some(FileLocked::Locked(HeldFile { seat, file })),
+                        Some(load) => {
+                            *self = LockFile::Loading(HeldFile { seat, file }, load);
+                            None
+                        }
+                    },
+                    Answer::Refused(why) => Some(FileLocked::Refused(why)),
+                    _ => unreachable!(),
+                }
+            }
+            LockFile::Loading(file, load) => {
+                let file = *file;
+                match load.next(answer, hand) {
+                    None => None,
+                    Some(inode) => {
+                        hand.set_record(file.seat, inode);
+                        Some(FileLocked::Locked(file))
+                    }
+                }
+            }
+        }
+    }
+}

@@ -1,4 +1,0 @@
-pub mod Ends
-pub mod Goings
-pub mod Lookings
-pub mod HasOnes

@@ -1,5 +1,0 @@
-use Rattle.fs_machine.specs.Steps.{state_of}
-use Rattle.inode_data.proofs.fetch_block.take_number.Goals as goal
-
-pub returns-clause-fits : goal.returns-clause-fits
-returns-clause-fits g c = c.fetch_numbered.ensures.fits c.args.hart (state_of g.D.Device.contents g.D.Device.failures c.put_back.new.self)

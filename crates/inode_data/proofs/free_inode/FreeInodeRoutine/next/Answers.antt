@@ -1,0 +1,38 @@
+use Rattle.std.proofs.Common.{◌∙◌, sym, ap}
+use Rattle.atomic_programs.specs.Prog.{Ret, bind}
+use Rattle.hands.specs.Ops.{answer_in}
+use Rattle.inode_data.specs.Emptying.{truncate_left, truncate_asked, emptying_of}
+use Rattle.inode_data.specs.FreeingInodes.{store_free}
+use Rattle.inode_table.specs.HeldInodes.{number_in, record_in}
+use Rattle.inode_data.specs.declared.truncate.Emptying.{Emptying}
+use Rattle.hands.proofs.Goings.{goes_with, goes_to}
+use Rattle.inode_data.proofs.Goings.{number-kept}
+use Rattle.inode_data.proofs.free_inode.FreeInodeRoutine.next.Goals as goal
+
+pub returns-in-None-clause-goes : goal.returns-in-None-clause-goes
+returns-in-None-clause-goes c before =
+    let h = c.args.hand.now in
+    let k = c.next.new.hand in
+    let m = c.in-Truncating.truncate in
+    let n = c.next.new.self in
+    let e = emptying_of m in
+    let did = c.in-None.ensures in
+    rw c.in-Truncating.is (λ ready after.
+    goes_with (truncate_left m before) (truncate_left n k) (store_free e.sizes (number_in e.seat before)) (store_free (emptying_of n).sizes (number_in (emptying_of n).seat k)) (answer_in (truncate_asked m) c.args.answer.now h)
+    (ap (store_free e.sizes) (sym (number-kept e k before (did.beside before ready after))) ∙ ap (λ (e : Emptying). store_free e.sizes (number_in e.seat k)) (sym did.about))
+    (did.goes before ready after))
+
+pub returns-in-Some-clause-goes : goal.returns-in-Some-clause-goes
+returns-in-Some-clause-goes c before =
+    let h = c.args.hand.now in
+    let k = c.next.new.hand in
+    let m = c.in-Truncating.truncate in
+    let out = c.in-Some.emptying in
+    let e = emptying_of m in
+    let did = c.in-Some.ensures in
+    let answer = answer_in (truncate_asked m) c.args.answer.now h in
+    rw c.in-Truncating.is (λ ready after.
+    goes_to (bind (truncate_left m before) (store_free e.sizes (number_in e.seat before))) (store_free e.sizes (number_in e.seat k) (record_in out.seat k)) _ answer
+    (goes_with (truncate_left m before) (Ret (record_in out.seat k)) (store_free e.sizes (number_in e.seat before)) (store_free e.sizes (number_in e.seat k)) answer
+    (ap (store_free e.sizes) (sym (number-kept e k before (did.beside before ready after)))) (did.goes before ready after))
+    (ap (λ (e : Emptying). store_free e.sizes (number_in e.seat k) (record_in out.seat k)) (sym did.ends.0) ∙ sym c.store_free.ensures.program))

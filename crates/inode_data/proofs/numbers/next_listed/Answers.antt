@@ -1,0 +1,13 @@
+use Rattle.std.proofs.Common.{◌<◌, ◌≤◌, ⊎_elim, arith}
+use Rattle.std.proofs.lemmas.Bool.{cases_lt}
+use Rattle.std.proofs.lemmas.List.{get_or_past}
+use Rattle.fs_layout.proofs.Numbers.{length-u32s_at}
+use Rattle.fs_layout.specs.Indirect.{numbers_in}
+use Rattle.inode_data.proofs.numbers.next_listed.Goals as goal
+
+pub returns-clause-next : goal.returns-clause-next
+returns-clause-next c k low =
+    ⊎_elim
+    (λ (l : k < 256). c.loop-i.invariant k low (omega arith))
+    (λ (m : 256 ≤ k). get_or_past (numbers_in c.args.table.now) k 0 (omega (arith, m, length-u32s_at 256 c.args.table.now 0)))
+    (cases_lt k 256)

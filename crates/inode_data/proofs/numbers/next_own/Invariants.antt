@@ -1,0 +1,6 @@
+use Rattle.std.proofs.Common.{◌≡◌, ℕ, ◌<◌, ◌≤◌, take, get_or}
+use Rattle.inode_data.specs.Widths.{direct}
+use Rattle.inode_data.proofs.numbers.next_own.Given as goal
+
+abbrev pub invariant-loop-i : goal.invariant-loop-i
+invariant-loop-i l = (k : ℕ) → l.from ≤ k → k < l.i → get_or (take direct l.inode.addrs) k 0 ≡ 0

@@ -1,0 +1,28 @@
+use Rattle.std.proofs.Common.{◌+◌, ◌∙◌, sym, ap, ℕ}
+use Rattle.fs_layout.specs.Indirect.{numbers_in}
+use Rattle.atomic_programs.specs.Prog.{bind}
+use Rattle.fs_machine.specs.Machines.{P}
+use Rattle.bitmap_alloc.specs.Programs.{free_block}
+use Rattle.inode_data.specs.Freeing.{free_table}
+use Rattle.inode_data.proofs.NextFree.{none_next, some_next}
+use Rattle.hands.specs.declared.hand.Place.TheVariants.{Second}
+use Rattle.hands.specs.Hands.{block_at, bytes_at, inode_in}
+use Rattle.inode_data.specs.Emptying.{listed_rest, record_rest}
+use Rattle.inode_data.proofs.truncate.free_listed.Goals as goal
+
+pub returns-in-None-clause-program : goal.returns-in-None-clause-program
+returns-in-None-clause-program c =
+    let e = c.args.emptying in
+    let h = c.args.hand.now in
+    let v = inode_in e.seat h in
+    ap (λ (b : ℕ). free_table e.sizes.bmapstart b (record_rest e v)) c.block_number.ensures
+    ∙ sym (none_next e.sizes.bmapstart (numbers_in (bytes_at Second h)) c.args.from (free_table e.sizes.bmapstart (block_at Second h) (record_rest e v)) c.in-None.ensures.next)
+
+pub returns-in-Some-clause-program : goal.returns-in-Some-clause-program
+returns-in-Some-clause-program c =
+    let e = c.args.emptying in
+    let h = c.args.hand.now in
+    let v = inode_in e.seat h in
+    let i : ℕ = c.in-Some.at in
+    ap (λ (p : P (Unit {0})). bind p (λ _. listed_rest e (i + 1) v h.second)) (c.new-free.ensures.program h ∙ ap (free_block e.sizes.bmapstart) c.number_at-number.ensures)
+    ∙ sym (some_next e.sizes.bmapstart (numbers_in (bytes_at Second h)) c.args.from i (free_table e.sizes.bmapstart (block_at Second h) (record_rest e v)) c.in-Some.ensures.next)

@@ -1,6 +1,0 @@
-use Rattle.std.proofs.Common.{◌≡◌, ℕ, ◌<◌, ◌≤◌, get_or}
-use Rattle.fs_layout.specs.Indirect.{numbers_in}
-use Rattle.inode_data.proofs.truncation.next_listed.Given as goal
-
-abbrev pub invariant-loop-i : goal.invariant-loop-i
-invariant-loop-i l = (k : ℕ) → l.from ≤ k → k < l.i → get_or (numbers_in l.table) k 0 ≡ 0

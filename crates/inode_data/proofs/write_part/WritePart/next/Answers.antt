@@ -1,0 +1,27 @@
+use Rattle.std.proofs.Common.{refl, sym, subst, ◌∙◌}
+use Rattle.atomic_programs.specs.Prog.{Ret, bind}
+use Rattle.fs_machine.specs.Machines.{P}
+use Rattle.inode_data.specs.Writing.{WriteResult}
+use Rattle.hands.specs.Ops.{answer_in}
+use Rattle.hands.specs.Controls.{Goes}
+use Rattle.hands.proofs.Going.{goes_bind}
+use Rattle.inode_data.specs.Locating.{locate_left, locate_asked}
+use Rattle.inode_data.specs.PartWriting.{after_location}
+use Rattle.inode_data.proofs.PartWritings.{past_so}
+use Rattle.inode_data.proofs.write_part.WritePart.next.Goals as goal
+
+pub returns-in-Some-clause-goes : goal.returns-in-Some-clause-goes
+returns-in-Some-clause-goes c before =
+    let m = c.in-Locating.locate in
+    let bytes = c.args.bytes.now in
+    let on = after_location c.in-Locating.writing bytes in
+    let answer = answer_in (locate_asked m) c.args.answer.now c.args.hand.now in
+    rw c.in-Locating.is (λ ready after. subst (λ (p : P WriteResult). Goes (bind (locate_left m before) on) answer p) (sym (c.found.ensures.program bytes c.next.new.hand))
+    (goes_bind (locate_left m before) (Ret c.in-Some.located) on answer (c.in-Some.ensures.goes before ready.1 after)))
+
+pub returns-in-There-clause-goes : goal.returns-in-There-clause-goes
+returns-in-There-clause-goes c before =
+    let bytes = c.args.bytes.now in
+    let w = c.in-There.writing in
+    let d = c.in-There.so_far in
+    rw c.in-There.is (λ ready after. sym (c.onward.ensures.program bytes c.args.hand.now ∙ past_so w c.passed-next.result d bytes (c.passed-next.ensures bytes refl)))

@@ -1,0 +1,115 @@
+//! An inode freed.
+ghost use Rattle.std.specs.Prelude.{◌≡◌, None, IfSome, IfNone};
+ghost use Rattle.inode_table.specs.Programs.{store};
+ghost use Rattle.inode_data.specs.Freeing.{freed};
+ghost use Rattle.hands.specs.Ops.{IsAfter, answer_in};
+ghost use Rattle.hands.specs.Controls.{Goes, left_after, bare};
+ghost use Rattle.hands.specs.declared.hand.Hand.{Hand as HandState};
+ghost use Rattle.inode_table.specs.HeldInodes.{number_in, record_in};
+ghost use Rattle.inode_data.specs.Emptying.{beside_emptying, IsEmptying, HasNoBuffer};
+ghost use Rattle.inode_data.specs.FreeingInodes.{free_record, store_free, freeing_left, freeing_asked, freeing_of, FreeingReady, HasFreed};
+ghost use Rattle.inode_data.specs.declared.truncate.Emptying.{Emptying as EmptyingState};
+
+use crate::truncate::{Emptying, Truncate};
+use fs_layout::{Dinode, Super};
+use hands::{Answer, Hand, Op, Part, Place, Routine, Seat};
+use inode_table::{StoreRecord, record_at, unload_at};
+
+/// Empties an inode without links and stores it with type 0, so that it may be taken again. Nothing is loaded of it then.
+#[derive(Clone, Copy, Drop)]
+pub enum FreeInode {
+    /// It is emptied.
+    Truncating(Truncate),
+    /// It is stored with type 0.
+    Storing(Emptying, StoreRecord),
+}
+
+impl FreeInode {
+    /// The inode whose lock is at a seat, on a disk with this superblock.
+    pub fn begin(hand: &mut Hand, seat: Seat, sizes: &Super) -> FreeInode
+        requires emptying { IsEmptying (record { seat = seat; sizes = sizes.now }) hand.old }
+        requires free { HasNoBuffer hand.old }
+        ensures program { freeing_left result hand.new ≡ free_record sizes.now (number_in seat hand.old) (record_in seat hand.old) }
+        ensures ready { FreeingReady result hand.new }
+        ensures about { freeing_of result ≡ record { seat = seat; sizes = sizes.now } }
+        ensures beside { beside_emptying (record { seat = seat; sizes = sizes.now }) hand.new ≡ beside_emptying (record { seat = seat; sizes = sizes.now }) hand.old }
+        ensures hand { bare hand.new ≡ bare hand.old }
+    {
+        FreeInode::Truncating(Truncate::begin(hand, seat, sizes))
+    }
+}
+
+impl Routine for FreeInode {
+    type Out = ();
+
+    ghost Value = { Unit {0} };
+
+    ghost value = { λ _ _. tt };
+
+    ghost left = { freeing_left };
+
+    ghost asked = { freeing_asked };
+
+    ghost Ready = { FreeingReady };
+
+    ghost About = { EmptyingState };
+
+    ghost about = { freeing_of };
+
+    ghost beside = { beside_emptying };
+
+    ghost Ends = { λ m _ h. HasFreed (freeing_of m) h };
+
+    fn op(&self, hand: &mut Hand) -> Op {
+        match self {
+            FreeInode::Truncating(truncate) => truncate.op(hand),
+            FreeInode::Storing(_, store) => store.op(hand),
+        }
+    }
+
+    #[tactic(auto, using(hands::proofs::Going::goes_bind))]
+    fn next(&mut self, answer: &Answer, hand: &mut Hand) -> Option<()> {
+        match self {
+            FreeInode::Truncating(truncate) => match truncate.next(answer, hand) {
+                None => None,
+                Some(emptying) => {
+                    *self = store_free(emptying, hand);
+                    None
+                }
+            },
+            FreeInode::Storing(emptying, store) => {
+                let seat = emptying.seat;
+                match store.next(answer, hand) {
+                    None => None,
+                    Some(()) => {
+                        unload_at(hand, seat);
+                        Some(())
+                    }
+                }
+            }
+        }
+    }
+}
+
+// It is stored with type 0.
+fn store_free(emptying: Emptying, hand: &mut Hand) -> FreeInode
+    requires emptying { IsEmptying emptying hand.old }
+    requires free { HasNoBuffer hand.old }
+    ensures program { freeing_left result hand.new ≡ store_free emptying.sizes (number_in emptying.seat hand.old) (record_in emptying.seat hand.old) }
+    ensures ready { FreeingReady result hand.new }
+    ensures about { freeing_of result ≡ emptying }
+    ensures beside { beside_emptying emptying hand.new ≡ beside_emptying emptying hand.old }
+    ensures hand { bare hand.new ≡ bare hand.old }
+{
+    let inode = free(record_at(hand, emptying.seat));
+    let Emptying { seat, sizes } = emptying;
+    let store = StoreRecord::with(sizes.inodestart, hand, seat, inode, Place::First);
+    FreeInode::Storing(emptying, store)
+}
+
+// The record of an inode that may be taken.
+fn free(inode: Dinode) -> Dinode
+    ensures { result ≡ freed inode }
+{
+    Dinode { kind: 0, ..inode }
+}

@@ -1,0 +1,223 @@
+//! A block of a content, taken where it is missing.
+ghost use Rattle.std.specs.Prelude.{◌≡◌, ◌≤◌, ◌<◌, ℕ, None, IsSome, IfSome, IfNone};
+ghost use Rattle.fs_layout.specs.Widths.{bits_per_block};
+ghost use Rattle.inode_data.specs.Widths.{direct, most_blocks};
+ghost use Rattle.inode_data.specs.Writing.{with_address, locate};
+ghost use Rattle.inode_data.specs.declared.locate.Located.{Located as LocatedState};
+ghost use Rattle.hands.specs.Hands.{with_buffer};
+ghost use Rattle.hands.specs.Ops.{IsAfter, answer_in};
+ghost use Rattle.hands.specs.Controls.{Goes, left_after, bare};
+ghost use Rattle.hands.specs.declared.hand.Hand.{Hand as HandState};
+ghost use Rattle.inode_data.specs.Locating.{begun_left, locate_left, locate_asked, named_direct, IfBegun, LocateReady, Leaves};
+
+use crate::addresses::{Address, DIRECT, address_of};
+use crate::place::{name_at, number_at};
+use bitmap_alloc::TakeBlock;
+use fs_layout::{Dinode, Super};
+use hands::{Answer, Control, Fetch, Hand, Op, Part, Place};
+
+/// A block's number, None where no block was free; and the inode's record, with what was taken for it.
+#[derive(Drop, Clone, Copy)]
+pub struct Located {
+    pub inode: Dinode,
+    pub number: Option<u32>,
+}
+
+/// Where it stands.
+#[derive(Clone, Copy, Drop)]
+pub enum Stage {
+    /// A block is taken for this place of the inode.
+    Direct(usize, TakeBlock),
+    /// An indirect block is taken, for the number at this place of it.
+    NewTable(usize, TakeBlock),
+    /// The indirect block is fetched.
+    Table(usize, Fetch),
+    /// A block is taken for this place of it.
+    NewEntry(usize, TakeBlock),
+    /// It goes back with this number there, or as it was.
+    Name(usize, Option<u32>),
+    /// It goes back as it was, and has this number.
+    Give(u32),
+}
+
+/// Seeks a block of a content, and takes it where it is missing, an indirect block just before the block that needs it. The indirect
+/// block is in the second place of the hand.
+#[derive(Clone, Copy, Drop)]
+pub struct Locate {
+    pub inode: Dinode,
+    pub sizes: Super,
+    pub stage: Stage,
+}
+
+/// One that has begun, or has its result at once.
+#[derive(Clone, Copy, Drop)]
+pub enum Begun {
+    Is(Located),
+    Runs(Locate),
+}
+
+impl Locate {
+    /// Block `k` of the content of this inode, on a disk with this superblock.
+    pub fn begin(inode: &Dinode, sizes: &Super, k: usize) -> Begun
+        requires block { k < most_blocks }
+        requires size { sizes.now.size ≤ bits_per_block }
+        ensures program { (h : HandState) → begun_left result h ≡ locate sizes.now inode.now k }
+        ensures ready { (h : HandState) → h.first ≡ None → h.second ≡ None → IsSome h.txn → IfBegun (λ m. LocateReady m h) result }
+    {
+        match address_of(k) {
+            Address::Direct(i) => {
+                let number = inode.addrs[i];
+                if number != 0 {
+                    return Begun::Is(Located {
+                        inode: *inode,
+                        number: Some(number),
+                    });
+                }
+                let take = TakeBlock::new(sizes.bmapstart, sizes.size, Place::First);
+                Begun::Runs(Locate {
+                    inode: *inode,
+                    sizes: *sizes,
+                    stage: Stage::Direct(i, take),
+                })
+            }
+            Address::InTable(i) => {
+                let table = inode.addrs[DIRECT];
+                if table != 0 {
+                    return Begun::Runs(Locate {
+                        inode: *inode,
+                        sizes: *sizes,
+                        stage: Stage::Table(i, Fetch::Get(Place::Second, table)),
+                    });
+                }
+                let take = TakeBlock::new(sizes.bmapstart, sizes.size, Place::First);
+                Begun::Runs(Locate {
+                    inode: *inode,
+                    sizes: *sizes,
+                    stage: Stage::NewTable(i, take),
+                })
+            }
+        }
+    }
+}
+
+impl Control for Locate {
+    type Out = Located;
+
+    ghost Value = { LocatedState };
+
+    ghost value = { λ _ l _. l };
+
+    ghost left = { locate_left };
+
+    ghost asked = { locate_asked };
+
+    ghost Ready = { LocateReady };
+
+    ghost Ends = { λ _ _. Unit {0} };
+
+    fn op(&self, hand: &mut Hand) -> Op {
+        match &self.stage {
+            Stage::Direct(_, take) => take.op(hand),
+            Stage::NewTable(_, take) => take.op(hand),
+            Stage::Table(_, fetch) => fetch.op(hand),
+            Stage::NewEntry(_, take) => take.op(hand),
+            Stage::Name(i, number) => match number {
+                None => Op::Give(Place::Second),
+                Some(b) => {
+                    name_at(hand, Place::Second, *i, *b);
+                    Op::Record(Place::Second)
+                }
+            },
+            Stage::Give(_) => Op::Give(Place::Second),
+        }
+    }
+
+    #[tactic(auto, using(hands::proofs::Going::goes_bind, hands::proofs::Goings::fetched_goes))]
+    fn next(&mut self, answer: &Answer, hand: &mut Hand) -> Option<Located>
+        requires came { (before : HandState) × LocateReady self.old before × IsAfter (locate_asked self.old) before answer.now hand.old }
+        ensures goes { (before : HandState) → LocateReady self.old before → IsAfter (locate_asked self.old) before answer.now hand.old
+            → Goes (locate_left self.old before) (answer_in (locate_asked self.old) answer.now hand.old) (left_after locate_left (λ l _. l) result self.new hand.new) }
+        ensures ready { IfNone result (LocateReady self.new hand.new) }
+        ensures ends { IfSome result (λ _. Unit {0}) }
+        ensures hand { bare hand.new ≡ bare hand.old }
+        ensures same { hand.new ≡ hand.old }
+        ensures over { IfSome result (λ _. (hand.old.first ≡ None) × (hand.old.second ≡ None)) }
+        ensures beside { (before : HandState) → LocateReady self.old before → IsAfter (locate_asked self.old) before answer.now hand.old → Leaves before hand.old }
+    {
+        match &mut self.stage {
+            Stage::Direct(i, take) => {
+                let i = *i;
+                match take.next(answer, hand) {
+                    None => None,
+                    Some(number) => Some(direct_named(self.inode, i, number)),
+                }
+            }
+            Stage::NewTable(i, take) => {
+                let i = *i;
+                match take.next(answer, hand) {
+                    None => None,
+                    Some(None) => Some(Located {
+                        inode: self.inode,
+                        number: None,
+                    }),
+                    Some(Some(table)) => {
+                        self.inode.addrs[DIRECT] = table;
+                        self.stage = Stage::Table(i, Fetch::Get(Place::Second, table));
+                        None
+                    }
+                }
+            }
+            Stage::Table(i, fetch) => {
+                let i = *i;
+                match fetch.next(answer, hand) {
+                    None => None,
+                    Some(_) => {
+                        let number = number_at(hand, Place::Second, i);
+                        if number == 0 {
+                            let take = TakeBlock::new(
+                                self.sizes.bmapstart,
+                                self.sizes.size,
+                                Place::First,
+                            );
+                            self.stage = Stage::NewEntry(i, take);
+                            return None;
+                        }
+                        self.stage = Stage::Give(number);
+                        None
+                    }
+                }
+            }
+            Stage::NewEntry(i, take) => {
+                let i = *i;
+                match take.next(answer, hand) {
+                    None => None,
+                    Some(number) => {
+                        self.stage = Stage::Name(i, number);
+                        None
+                    }
+                }
+            }
+            Stage::Name(_, number) => Some(Located {
+                inode: self.inode,
+                number: *number,
+            }),
+            Stage::Give(number) => Some(Located {
+                inode: self.inode,
+                number: Some(*number),
+            }),
+        }
+    }
+}
+
+// What was taken for a place of the inode.
+fn direct_named(inode: Dinode, place: usize, number: Option<u32>) -> Located
+    requires { place < direct }
+    ensures { result ≡ named_direct place inode number }
+{
+    let mut inode = inode;
+    match number {
+        None => {}
+        Some(b) => inode.addrs[place] = b,
+    }
+    Located { inode, number }
+}

@@ -1,0 +1,23 @@
+use Rattle.std.proofs.Common.{ℕ, None, sym, subst}
+use Rattle.fs_layout.specs.declared.inode.Dinode.{Dinode}
+use Rattle.atomic_programs.specs.Prog.{Ret, Do, bind, unmarked}
+use Rattle.fs_machine.specs.Steps as steps
+use Rattle.inode_table.specs.Programs.{give_back}
+use Rattle.hands.specs.Hands.{block_at}
+use Rattle.hands.specs.Ops.{answer_in}
+use Rattle.hands.specs.Controls.{Goes}
+use Rattle.hands.specs.Fetching.{fetch_left, fetch_asked, fetch_block}
+use Rattle.hands.proofs.Goings.{fetched_goes}
+use Rattle.inode_table.proofs.load_inode.LoadInodePart.next.Goals as goal
+
+pub returns-in-Some-clause-goes : goal.returns-in-Some-clause-goes
+returns-in-Some-clause-goes c before =
+    let f = c.in-Fetching.fetch in
+    let k = c.args.hand.now in
+    let out = c.in-Some.fetched in
+    let n = c.in-Fetching.number in
+    let did = c.in-Some.ensures in
+    let answer = answer_in (fetch_asked f) c.args.answer.now c.args.hand.now in
+    rw c.in-Fetching.is (λ ready after.
+    subst (λ (d : Dinode). Goes (bind (fetch_left f before) (give_back (fetch_block f) n)) answer (Do (steps.Put (block_at out.place k) None) unmarked (λ _. Ret d))) (sym c.dinode_at-inode.ensures)
+    (fetched_goes f before k answer out (λ (b : ℕ). give_back b n) (did.goes before ready after) did.ends))

@@ -1,0 +1,28 @@
+use Rattle.std.proofs.Common.{◌≡◌, ◌∙◌, sym, ap, ℕ}
+use Rattle.fs_layout.specs.declared.inode.Dinode.{Dinode}
+use Rattle.fs_tables.specs.declared.inodes.Inode.{Inode}
+use Rattle.fs_machine.specs.Machines.{P}
+use Rattle.inode_table.specs.Programs.{load_unless}
+use Rattle.hands.specs.Hands.{inode_in, number_at}
+use Rattle.hands.specs.Ops.{answer_in}
+use Rattle.inode_table.specs.HeldInodes.{number_in}
+use Rattle.hands.proofs.Goings.{inode-there}
+use Rattle.inode_table.proofs.lock_inode.LockInodeRoutine.next.Goals as goal
+
+pub returns-in-None-clause-goes : goal.returns-in-None-clause-goes
+unfolding answer_in
+returns-in-None-clause-goes c before =
+    let h = c.args.hand.now in
+    let k = c.in-Lock.seat in
+    rw c.in-Lock.is (λ ready after.
+    let named : number_at k before ≡ number_in k h = sym (ap (λ (v : Inode). v.number) (ap (inode_in k) after.1 ∙ inode-there k after.0 before) ∙ after.2) in
+    ap (λ (n : ℕ). let p : P Dinode = load_unless c.in-Lock.inodestart n (inode_in k h).content in p) named ∙ sym c.in-None.ensures.program)
+
+pub returns-in-Some-clause-goes : goal.returns-in-Some-clause-goes
+unfolding answer_in
+returns-in-Some-clause-goes c before =
+    let h = c.args.hand.now in
+    let k = c.in-Lock.seat in
+    rw c.in-Lock.is (λ ready after.
+    let named : number_at k before ≡ number_in k h = sym (ap (λ (v : Inode). v.number) (ap (inode_in k) after.1 ∙ inode-there k after.0 before) ∙ after.2) in
+    ap (λ (n : ℕ). let p : P Dinode = load_unless c.in-Lock.inodestart n (inode_in k h).content in p) named ∙ sym c.in-Some.ensures.program)

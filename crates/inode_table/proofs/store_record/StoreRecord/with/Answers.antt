@@ -1,0 +1,19 @@
+use Rattle.std.proofs.Common.{ap, ◌∙◌}
+use Rattle.fs_tables.specs.declared.inodes.Inode.{Inode}
+use Rattle.inode_table.specs.Programs.{record_of, store}
+use Rattle.hands.specs.Hands.{inode_in}
+use Rattle.inode_table.proofs.Goings.{recorded-in}
+use Rattle.inode_table.proofs.store_record.StoreRecord.with.Goals as goal
+
+pub returns-clause-program : goal.returns-clause-program
+returns-clause-program c =
+    let h = c.args.hand.now in
+    let k = c.args.seat in
+    let is = ap (inode_in k) c.set_record.ensures ∙ recorded-in k c.args.inode h c.requires.loaded in
+    c.new.ensures.program ∙ ap (λ (v : Inode). store c.args.inodestart v.number (record_of v)) is
+
+pub returns-clause-record : goal.returns-clause-record
+returns-clause-record c =
+    let h = c.args.hand.now in
+    let k = c.args.seat in
+    ap (λ (v : Inode). record_of v) (ap (inode_in k) c.set_record.ensures ∙ recorded-in k c.args.inode h c.requires.loaded)

@@ -1,0 +1,31 @@
+-- An inode loaded.
+use Rattle.std.specs.Prelude.{None, IsSome}
+use Rattle.fs_layout.specs.declared.inode.Dinode.{Dinode}
+use Rattle.atomic_programs.specs.Prog.{Ret, Do, bind, unmarked}
+use Rattle.fs_machine.specs.Steps as steps
+use Rattle.fs_machine.specs.Machines.{P}
+use Rattle.inode_table.specs.Programs.{give_back}
+use Rattle.hands.specs.declared.hand.Hand.{Hand}
+use Rattle.hands.specs.declared.hand.Place.{Place}
+use Rattle.hands.specs.declared.op.Op.{Op}
+use Rattle.hands.specs.declared.op.Op.TheVariants as ops
+use Rattle.hands.specs.Hands.{buffer_at, block_at}
+use Rattle.hands.specs.Fetching.{fetch_left, fetch_asked, fetch_block, fetch_place, FetchReady}
+use Rattle.inode_table.specs.declared.load_inode.LoadInode.{LoadInode}
+use Rattle.inode_table.specs.declared.load_inode.LoadInode.TheVariants.{Fetching, Give}
+
+abbrev pub load_left : LoadInode → Hand → P Dinode
+load_left (Fetching n f) h = bind (fetch_left f h) (give_back (fetch_block f) n)
+load_left (Give d p) h = Do (steps.Put (block_at p h) None) unmarked (λ _. Ret d)
+
+abbrev pub load_asked : LoadInode → Op
+load_asked (Fetching n f) = fetch_asked f
+load_asked (Give d p) = ops.Give p
+
+abbrev pub LoadReady : LoadInode → Hand → Type 0
+LoadReady (Fetching n f) h = FetchReady f h
+LoadReady (Give d p) h = IsSome (buffer_at p h)
+
+abbrev pub load_place : LoadInode → Place
+load_place (Fetching n f) = fetch_place f
+load_place (Give d p) = p

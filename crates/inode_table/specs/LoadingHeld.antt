@@ -1,0 +1,29 @@
+-- The inode whose lock is at a seat, loaded where it isn't.
+use Rattle.std.specs.Prelude.{◌≡◌, Option, Some, None, IsSome}
+use Rattle.fs_layout.specs.declared.inode.Dinode.{Dinode}
+use Rattle.atomic_programs.specs.Prog.{Ret}
+use Rattle.fs_machine.specs.Machines.{P}
+use Rattle.hands.specs.declared.hand.Hand.{Hand}
+use Rattle.hands.specs.declared.hand.Place.TheVariants.{First}
+use Rattle.hands.specs.declared.hand.Seat.{Seat}
+use Rattle.hands.specs.Hands.{inode_at, with_buffer, with_inode}
+use Rattle.inode_table.specs.HeldInodes.{record_in, IsLoadedAt}
+use Rattle.inode_table.specs.Loading.{load_left, load_place, LoadReady}
+use Rattle.inode_table.specs.declared.load_inode.LoadInode.{LoadInode}
+
+-- a loading that has begun, where there is one
+abbrev pub begun_left : Option LoadInode → Seat → Hand → P Dinode
+begun_left None k h = Ret (record_in k h)
+begun_left (Some m) k h = load_left m h
+
+-- it is loaded by way of the first place
+abbrev pub IsLoading : Seat → LoadInode → Hand → Type 0
+IsLoading k m h = LoadReady m h × (load_place m ≡ First) × IsSome (inode_at k h)
+
+abbrev pub HasBegun : Seat → Option LoadInode → Hand → Type 0
+HasBegun k None h = IsLoadedAt k h
+HasBegun k (Some m) h = IsLoading k m h
+
+-- but for the lock at a seat, and a buffer
+abbrev pub beside_lock : Seat → Hand → Hand
+beside_lock k h = with_buffer First None (with_inode k None h)

@@ -1,0 +1,30 @@
+-- An inode stored.
+use Rattle.std.specs.Prelude.{IsSome}
+use Rattle.std.specs.Option.{MatchOption}
+use Rattle.atomic_programs.specs.Prog.{bind}
+use Rattle.fs_machine.specs.Machines.{P}
+use Rattle.inode_table.specs.Programs.{put_inode}
+use Rattle.hands.specs.declared.hand.Hand.{Hand}
+use Rattle.hands.specs.declared.hand.Place.{Place}
+use Rattle.hands.specs.declared.op.Op.{Op}
+use Rattle.hands.specs.declared.op.Op.TheVariants as ops
+use Rattle.hands.specs.Hands.{buffer_at, block_at, bytes_at}
+use Rattle.hands.specs.Fetching.{fetch_left, fetch_asked, FetchReady, fetch_block, fetch_place}
+use Rattle.inode_table.specs.declared.store_inode.StoreInode.{StoreInode}
+use Rattle.inode_table.specs.declared.store_inode.StoreInode.TheVariants.{Fetching, Write}
+
+abbrev pub store_left : StoreInode → Hand → P (Unit {0})
+store_left (Fetching n d f) h = bind (fetch_left f h) (put_inode (fetch_block f) n d)
+store_left (Write n d p) h = put_inode (block_at p h) n d (bytes_at p h)
+
+abbrev pub store_asked : StoreInode → Op
+store_asked (Fetching n d f) = fetch_asked f
+store_asked (Write n d p) = ops.Record p
+
+abbrev pub StoreReady : StoreInode → Hand → Type 0
+StoreReady (Fetching n d f) h = FetchReady f h × IsSome h.txn
+StoreReady (Write n d p) h = MatchOption (buffer_at p h) ⊥ (λ g. IsSome g.value.content) × IsSome h.txn
+
+abbrev pub store_place : StoreInode → Place
+store_place (Fetching n d f) = fetch_place f
+store_place (Write n d p) = p

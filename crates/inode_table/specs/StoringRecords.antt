@@ -1,0 +1,36 @@
+-- The inode at a seat stored.
+use Rattle.std.specs.Prelude.{IsSome}
+use Rattle.std.specs.Option.{MatchOption}
+use Rattle.atomic_programs.specs.Prog.{bind}
+use Rattle.fs_machine.specs.Machines.{P}
+use Rattle.inode_table.specs.Programs.{put_inode}
+use Rattle.hands.specs.declared.hand.Hand.{Hand}
+use Rattle.hands.specs.declared.hand.Place.{Place}
+use Rattle.hands.specs.declared.hand.Seat.{Seat}
+use Rattle.hands.specs.declared.op.Op.{Op}
+use Rattle.hands.specs.declared.op.Op.TheVariants as ops
+use Rattle.hands.specs.Hands.{buffer_at, block_at, bytes_at}
+use Rattle.hands.specs.Fetching.{fetch_left, fetch_asked, fetch_block, fetch_place, FetchReady}
+use Rattle.inode_table.specs.HeldInodes.{number_in, record_in, IsLoadedAt}
+use Rattle.inode_table.specs.declared.store_record.StoreRecord.{StoreRecord}
+use Rattle.inode_table.specs.declared.store_record.StoreRecord.TheVariants.{Fetching, Write}
+
+abbrev pub record_left : StoreRecord → Hand → P (Unit {0})
+record_left (Fetching k f) h = bind (fetch_left f h) (put_inode (fetch_block f) (number_in k h) (record_in k h))
+record_left (Write k p) h = put_inode (block_at p h) (number_in k h) (record_in k h) (bytes_at p h)
+
+abbrev pub record_asked : StoreRecord → Op
+record_asked (Fetching k f) = fetch_asked f
+record_asked (Write k p) = ops.Record p
+
+abbrev pub RecordReady : StoreRecord → Hand → Type 0
+RecordReady (Fetching k f) h = FetchReady f h × IsSome h.txn × IsLoadedAt k h
+RecordReady (Write k p) h = MatchOption (buffer_at p h) ⊥ (λ g. IsSome g.value.content) × IsSome h.txn × IsLoadedAt k h
+
+abbrev pub record_place : StoreRecord → Place
+record_place (Fetching k f) = fetch_place f
+record_place (Write k p) = p
+
+abbrev pub record_seat : StoreRecord → Seat
+record_seat (Fetching k f) = k
+record_seat (Write k p) = k

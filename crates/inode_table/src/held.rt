@@ -1,0 +1,64 @@
+// Inodes whose locks are in hand.
+ghost use Rattle.std.specs.Prelude.{◌≡◌, Some, None, IsSome};
+ghost use Rattle.std.specs.Option.{option_map, option_map_or, MatchOption};
+ghost use Rattle.inode_table.specs.Programs.{record_of};
+ghost use Rattle.hands.specs.Hands.{inode_at, no_inode};
+ghost use Rattle.inode_table.specs.HeldInodes.{record_in, without_content, unloaded, IsLoadedAt};
+
+use fs_layout::Dinode;
+use fs_tables::Inode;
+use hands::{Hand, Seat};
+use sleep_lock::Guard;
+
+/// The record of an inode that is loaded, as the holder of its lock has it.
+pub fn record(guard: &Guard<Inode>) -> Dinode
+    requires { IsSome guard.now.value.content }
+    ensures { result ≡ record_of guard.now.value }
+{
+    match guard.value().content {
+        Some(inode) => inode,
+        None => unreachable!(),
+    }
+}
+
+fn record_of(place: &Option<Guard<Inode>>) -> Dinode
+    requires { MatchOption place.now ⊥ (λ g. IsSome g.value.content) }
+    ensures { result ≡ record_of (option_map_or (λ g. g.value) place.now no_inode) }
+{
+    match place {
+        Some(guard) => record(guard),
+        None => unreachable!(),
+    }
+}
+
+/// The record of the inode at a seat.
+pub fn record_at(hand: &Hand, seat: Seat) -> Dinode
+    requires { IsLoadedAt seat hand.now }
+    ensures { result ≡ record_in seat hand.now }
+{
+    match seat {
+        Seat::One => record_of(&hand.one),
+        Seat::Two => record_of(&hand.two),
+    }
+}
+
+fn unload(place: &mut Option<Guard<Inode>>)
+    requires { IsSome place.old }
+    ensures { place.new ≡ option_map without_content place.old }
+{
+    match place {
+        Some(guard) => guard.value_mut().content = None,
+        None => unreachable!(),
+    }
+}
+
+/// Nothing is loaded of the inode at a seat from now on.
+pub fn unload_at(hand: &mut Hand, seat: Seat)
+    requires { IsSome (inode_at seat hand.old) }
+    ensures { hand.new ≡ unloaded seat hand.old }
+{
+    match seat {
+        Seat::One => unload(&mut hand.one),
+        Seat::Two => unload(&mut hand.two),
+    }
+}

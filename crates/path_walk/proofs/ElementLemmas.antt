@@ -1,0 +1,87 @@
+-- An element that stands in a path.
+use Rattle.std.proofs.Common.{◌≡◌, ◌≢◌, ℕ, suc, ◌+◌, ◌-◌, ◌<◌, ◌≤◌, min, Bool, true, ◌&&◌, nat_lt, nat_le, not, eqb, List, [], ◌∷◌, length, take, drop, get_or, refl, ap, ◌∙◌, arith, ⊎_elim}
+use Rattle.std.specs.Prelude.{slice_range, All}
+use Rattle.std.specs.List.{list_all}
+use Rattle.std.proofs.lemmas.Bool.{cases_lt, and_from, not_from_false, ne_eqb, lt-ltb, le-leb}
+use Rattle.std.proofs.lemmas.List.{drop-drop, drop_all, take_all, get_or-take, get_or-drop, length-take-le, take-take}
+use Rattle.std.proofs.lemmas.List.Elements.{All-get_or}
+use Rattle.std.proofs.Common.{length-drop}
+use Rattle.path_walk.specs.Names.{is_name_byte}
+use Rattle.plain_tree.specs.Code.{with_element}
+use Rattle.plain_tree.specs.Tree.{Name, elements}
+use Rattle.path_walk.specs.Elements.{IsElement}
+
+-- bytes that are there are an element
+some_element : (bytes : List ℕ) (es : List Name) → 0 < length bytes → with_element bytes es ≡ take 14 bytes ∷ es
+some_element [] es h = absurd (omega arith)
+some_element (x ∷ xs) es h = refl
+
+none_element : (ys : List ℕ) (es : List Name) → with_element (take 0 ys) es ≡ es
+none_element ys es = refl
+
+all_bytes : (p : ℕ → Bool) (xs : List ℕ) → ((k : ℕ) → k < length xs → p (get_or xs k 0) ≡ true) → list_all p xs ≡ true
+all_bytes p [] each = refl
+all_bytes p (x ∷ xs) each = and_from (p x) (list_all p xs) (each 0 (omega arith)) (all_bytes p xs (λ k h. each (suc k) (omega arith)))
+
+name_byte : (b : ℕ) → b ≢ 0 → b ≢ 47 → is_name_byte b ≡ true
+name_byte b some other =
+    and_from (not (eqb b 0)) (not (eqb b 47)) (not_from_false (eqb b 0) (ne_eqb b 0 some)) (not_from_false (eqb b 47) (ne_eqb b 47 other))
+
+-- so many bytes of the path from a place on, none of them 0 or '/'
+module _ (path : List ℕ) (at len : ℕ) (some : 0 < len) (within : at + len ≤ length path) where
+  rest_at : ℕ
+  rest_at = min (at + len + 1) (length path)
+
+  front : take 14 (take len (drop at path)) ≡ slice_range path at (at + min len 14)
+  front =
+      ⊎_elim
+      (λ (short : len < 14).
+      let e : len ≡ at + min len 14 - at = omega arith in
+      take_all 14 (take len (drop at path)) (omega (arith, length-take-le len (drop at path) (omega (arith, length-drop at path)))) ∙ ap (λ (n : ℕ). take n (drop at path)) e)
+      (λ (long : 14 ≤ len).
+      let e : at + min len 14 - at ≡ 14 = omega arith in
+      rw e (take-take 14 len (drop at path) long))
+      (cases_lt len 14)
+
+  behind : elements (drop (len + 1) (drop at path)) ≡ elements (drop rest_at path)
+  unfolding rest_at
+  behind =
+      ap elements (drop-drop (len + 1) at path)
+      ∙ ⊎_elim
+      (λ (more : at + len < length path). let e : at + (len + 1) ≡ rest_at = omega arith in ap (λ (n : ℕ). elements (drop n path)) e)
+      (λ (end : length path ≤ at + len).
+      let e : rest_at ≡ length path = omega arith in
+      rw (e, drop_all (at + (len + 1)) path (omega arith), drop_all (length path) path (omega arith)) refl)
+      (cases_lt (at + len) (length path))
+
+  -- it is the first element from there on
+  pub element_here : elements (drop at path) ≡ with_element (take len (drop at path)) (elements (drop (len + 1) (drop at path)))
+      → elements (drop at path) ≡ slice_range path at (at + min len 14) ∷ elements (drop (min (at + len + 1) (length path)) path)
+  unfolding rest_at
+  element_here cut =
+      let here : 0 < length (take len (drop at path)) = omega (arith, length-take-le len (drop at path) (omega (arith, length-drop at path))) in
+      cut ∙ some_element (take len (drop at path)) (elements (drop (len + 1) (drop at path))) here
+      ∙ ap (λ (e : Name). e ∷ elements (drop (len + 1) (drop at path))) front ∙ ap (λ (es : List Name). slice_range path at (at + min len 14) ∷ es) behind
+
+  -- and its name is one
+  pub is_element : ((k : ℕ) → k < len → get_or (drop at path) k 0 ≢ 47) → All (λ b. b ≢ 0) path
+      → IsElement path (record { start = at; end = at + min len 14; rest = min (at + len + 1) (length path) })
+  is_element other nonzero =
+      let n : ℕ = at + min len 14 - at in
+      let bytes : List ℕ = take n (drop at path) in
+      let long : length bytes ≡ n = length-take-le n (drop at path) (omega (arith, length-drop at path)) in
+      let each : (k : ℕ) → k < length bytes → is_name_byte (get_or bytes k 0) ≡ true =
+      λ k h.
+      let here = get_or-take n (drop at path) k 0 (omega arith) in
+      let there = get_or-drop at path k 0 in
+      name_byte (get_or bytes k 0)
+      (λ z. All-get_or (λ b. b ≢ 0) path (at + k) 0 (omega arith) nonzero (omega arith))
+      (λ z. other k (omega arith) (omega arith)) in
+      record {
+        ordered = omega arith;
+        within = omega arith;
+        rest = omega arith;
+        name = and_from (nat_lt 0 (length bytes) && nat_le (length bytes) 14) (list_all is_name_byte bytes)
+            (and_from (nat_lt 0 (length bytes)) (nat_le (length bytes) 14) (lt-ltb 0 (length bytes) (omega arith)) (le-leb (length bytes) 14 (omega arith)))
+            (all_bytes is_name_byte bytes each);
+      }

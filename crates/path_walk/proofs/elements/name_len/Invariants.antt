@@ -1,0 +1,6 @@
+use Rattle.std.proofs.Common.{◌≡◌, ◌≢◌, ℕ, ◌<◌, [], take, drop, get_or}
+use Rattle.plain_tree.specs.Tree.{pieces}
+use Rattle.path_walk.proofs.elements.name_len.Given as goal
+
+abbrev pub invariant-loop-i : goal.invariant-loop-i
+invariant-loop-i l = (pieces (take l.i l.path) (drop l.i l.path) ≡ pieces [] l.path) × ((k : ℕ) → k < l.i → get_or l.path k 0 ≢ 47)

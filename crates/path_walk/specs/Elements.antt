@@ -1,0 +1,35 @@
+-- The elements of a path, where they stand in it.
+use Rattle.std.specs.Prelude.{ℕ, ◌+◌, ◌≤◌, ◌⊎◌, List, [], ◌∷◌, length, slice_range, Option, Some, None}
+use Rattle.path_walk.specs.Names.{IsName}
+use Rattle.plain_tree.specs.Tree.{Name}
+use Rattle.path_walk.specs.declared.elements.Element.{Element}
+
+-- bytes of the longest path, and the elements that it has at most
+abbrev pub longest_path : ℕ
+longest_path = 127
+
+abbrev pub most_elements : ℕ
+most_elements = 64
+
+-- the name of an element
+abbrev pub name_in : List ℕ → Element → Name
+name_in path e = slice_range path e.start e.end
+
+pub record IsElement (path : List ℕ) (e : Element) : Type 0 where
+  pub ordered : e.start ≤ e.end
+  pub within : e.end ≤ length path
+  pub rest : e.rest ≤ length path
+  pub name : IsName (name_in path e)
+
+-- the same where so many bytes stand before its path
+abbrev pub shifted : ℕ → Element → Element
+shifted by e = record { start = by + e.start; end = by + e.end; rest = by + e.rest }
+
+-- of two texts, the first of which is this, it stands in one
+abbrev pub IsInOne : List ℕ → Element → Type 0
+IsInOne first e = (e.end ≤ length first) ⊎ (length first ≤ e.start)
+
+-- the last element, if one is left
+abbrev pub names_of : List ℕ → Option Element → List Name
+names_of path None = []
+names_of path (Some e) = name_in path e ∷ []

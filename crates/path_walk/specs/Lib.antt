@@ -1,0 +1,4 @@
+pub mod Asks
+pub mod Elements
+pub mod Names
+pub mod Walks

@@ -1,0 +1,100 @@
+-- What is left of a walk.
+use Rattle.std.specs.Prelude.{◌≤◌, ℕ, ◌+◌, List, [], ◌∷◌, drop, length, Option, Some, None, IfSome}
+use Rattle.std.specs.Option.{option_map}
+use Rattle.plain_tree.specs.Tree.{Name, elements}
+use Rattle.plain_tree.specs.declared.answer.Reply.{Reply}
+use Rattle.plain_tree.specs.declared.step.Action.{Action}
+use Rattle.atomic_programs.specs.Prog.{Do, unmarked}
+use Rattle.path_walk.specs.Elements.{name_in, IsElement}
+use Rattle.inode_machine.specs.Inodes.{AtName}
+use Rattle.inode_machine.specs.World.Op.{Take, Give, WalkDown}
+use Rattle.inode_machine.specs.Parts as parts
+use Rattle.inode_machine.specs.Parts.{P, leave_directory, looks_or_quits, see_parent, start, walk, walk_parent, walk_step, with_last}
+use Rattle.path_walk.specs.declared.walk.Goal.{Goal}
+use Rattle.path_walk.specs.declared.walk.Goal.TheVariants as goal
+use Rattle.path_walk.specs.declared.walk.Lost.{Lost}
+use Rattle.path_walk.specs.declared.walk.Lost.TheVariants as lost
+use Rattle.path_walk.specs.declared.walk.Next.{Next}
+use Rattle.path_walk.specs.declared.walk.Next.TheVariants as next
+use Rattle.path_walk.specs.declared.walk.Walk.{Walk}
+use Rattle.path_walk.specs.declared.walk.Walk.TheVariants as walking
+use Rattle.path_walk.specs.declared.walk.Walked.{Walked}
+use Rattle.path_walk.specs.declared.walk.Walked.TheVariants as walked
+
+abbrev pub stop_of : Lost → parts.Stop
+stop_of lost.NotThere = parts.NotThere
+stop_of lost.NoMemory = parts.NoMemory
+
+-- what comes after a walk: at this directory, with the last name where it is one to the parent; or where it is lost
+pub record After : Type 0 where
+  pub found : ℕ → Option Name → List ℕ → P Reply
+  pub lost : parts.Stop → List ℕ → P Reply
+
+module _ (s : Action) (path : List ℕ) (after : After) where
+  -- from directory d through these elements
+  abbrev pub onward : Goal → ℕ → List Name → List ℕ → P Reply
+  onward goal.Inside d es ns = walk s d es ns (λ j ms. after.found j None ms) after.lost
+  onward goal.Parent d [] ns = after.lost parts.NotThere ns
+  onward goal.Parent d (e ∷ es) ns = walk_parent s d e es ns (λ j e ms. after.found j (Some e) ms) after.lost
+
+  abbrev pub next_of : Goal → Next → List ℕ → P Reply
+  next_of to (next.Go j rest) ns = onward to j (elements (drop rest path)) ns
+  next_of to (next.Quits why) ns = after.lost (stop_of why) ns
+
+  abbrev pub walk_of : Goal → List ℕ → Walk → P Reply
+  walk_of to ns walking.Start = start s path ns (λ d. onward to d (elements path) ns) after.lost
+  walk_of to ns (walking.Look d e) =
+      Do (Take d (AtName (name_in path e))) (looks_or_quits s) (λ a. walk_step d ns (λ j ms. onward to j (elements (drop e.rest path)) ms) after.lost a.found)
+  walk_of to ns (walking.See d e) = see_parent s d ns (after.found d (Some (name_in path e))) after.lost
+  walk_of to ns (walking.Up d j rest) = walk_step d ns (λ j ms. onward to j (elements (drop rest path)) ms) after.lost (Some j)
+  walk_of to ns (walking.Give d then_) = leave_directory d ns (next_of to then_)
+  walk_of to ns (walking.Down d then_) = Do (WalkDown d) unmarked (λ last. next_of to then_ (with_last ns d last))
+  walk_of to ns (walking.Leave d e) = Do (Give d) unmarked (λ _. after.found d (Some (name_in path e)) ns)
+
+  abbrev pub walked_to : Goal → List ℕ → Walked → P Reply
+  walked_to to ns (walked.Walks w) = walk_of to ns w
+  walked_to to ns (walked.Reached d e) = after.found d (option_map (name_in path) e) ns
+  walked_to to ns (walked.Lost why) = after.lost (stop_of why) ns
+
+-- ---- how long its list may grow
+
+abbrev pub elements_from : List ℕ → ℕ → ℕ
+elements_from path rest = length (elements (drop rest path))
+
+abbrev pub most_next : List ℕ → Next → ℕ
+most_next path (next.Go j rest) = elements_from path rest
+most_next path (next.Quits why) = 0
+
+-- the inodes that may yet go on it
+abbrev pub most_left : List ℕ → Walk → ℕ
+most_left path walking.Start = length (elements path)
+most_left path (walking.Look d e) = 1 + elements_from path e.rest
+most_left path (walking.See d e) = 1
+most_left path (walking.Up d j rest) = 1 + elements_from path rest
+most_left path (walking.Give d then_) = 1 + most_next path then_
+most_left path (walking.Down d then_) = 1 + most_next path then_
+most_left path (walking.Leave d e) = 0
+
+abbrev pub most_walked : List ℕ → Walked → ℕ
+most_walked path (walked.Walks w) = most_left path w
+most_walked path (walked.Reached d e) = 0
+most_walked path (walked.Lost why) = 0
+
+-- its places are in the path
+abbrev pub next_stands : List ℕ → Next → Type 0
+next_stands path (next.Go j rest) = rest ≤ length path
+next_stands path (next.Quits why) = Unit {0}
+
+abbrev pub Stands : List ℕ → Walk → Type 0
+Stands path walking.Start = Unit {0}
+Stands path (walking.Look d e) = IsElement path e
+Stands path (walking.See d e) = IsElement path e
+Stands path (walking.Up d j rest) = rest ≤ length path
+Stands path (walking.Give d then_) = next_stands path then_
+Stands path (walking.Down d then_) = next_stands path then_
+Stands path (walking.Leave d e) = IsElement path e
+
+abbrev pub StandsAt : List ℕ → Walked → Type 0
+StandsAt path (walked.Walks w) = Stands path w
+StandsAt path (walked.Reached d e) = IfSome e (IsElement path)
+StandsAt path (walked.Lost why) = Unit {0}

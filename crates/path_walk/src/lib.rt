@@ -1,0 +1,17 @@
+//! Walks along paths over whole inodes (xv6's `skipelem` and `namex` of fs.c), and what calls over whole inodes ask and hear.
+//!
+//! A control says what it asks next, and goes on with what it hears. `Walk` leads along a path's elements, which are places in the
+//! path's bytes, to what the path names or to its parent (`Goal`); the inodes that are to be freed behind the call stand on its list.
+#![tactic(auto)]
+
+mod asks;
+mod elements;
+mod numbers;
+mod walk;
+
+pub use crate::asks::{
+    Ask, Claimed, Entered, Face, Heard, Joined, Loan, Locked, Mark, Query, Sight, Sort, Turn, Wrote,
+};
+pub use crate::elements::{Element, is_absolute, next_element};
+pub use crate::numbers::{MOST_LISTED, Numbers};
+pub use crate::walk::{Goal, Lost, Next, Walk, Walked, face_or, is_directory, is_live, stopped};

@@ -1,0 +1,233 @@
+//! A path walked, from directory to directory.
+ghost use Rattle.std.specs.Prelude.{◌≡◌, ◌≢◌, ◌≤◌, ◌+◌, ℕ, All, List, Option, Some, drop, length};
+ghost use Rattle.plain_tree.specs.Tree.{elements};
+ghost use Rattle.plain_tree.specs.declared.step.Action.{Action};
+ghost use Rattle.path_walk.specs.Asks.{asks, hears, mark_at, marked_as, op_in, sight_of, reply_to, face_of, IsNamed, OnlySeeks};
+ghost use Rattle.path_walk.specs.Walks.{After, Stands, StandsAt, elements_from, most_left, most_walked, onward, walk_of, walked_to, most_next, next_of, next_stands, stop_of};
+ghost use Rattle.inode_machine.specs.Inodes.{is_directory_face, is_live_face, face_or};
+ghost use Rattle.plain_tree.specs.declared.call.Call.{Call};
+ghost use Rattle.inode_machine.specs.Parts.{stopped};
+
+use crate::asks::{Ask, Face, Heard, Mark, Query, Sight, Sort};
+use crate::elements::{Element, is_absolute, next_element};
+use crate::numbers::{MOST_LISTED, Numbers};
+use plain_tree::{Answer, Cause, Full};
+
+/// What a path leads to: what it names, or the directory of its last element.
+#[derive(Clone, Copy)]
+pub enum Goal {
+    Inside,
+    Parent,
+}
+
+/// Why a walk ends before its end.
+#[derive(Clone, Copy)]
+pub enum Lost {
+    NotThere,
+    NoMemory,
+}
+
+/// What comes after a directory was left: the next one, where the path goes on at a place; or nothing.
+#[derive(Clone, Copy)]
+pub enum Next {
+    Go(u32, usize),
+    Quits(Lost),
+}
+
+/// A walk. Its places are in the path.
+#[derive(Clone, Copy)]
+pub enum Walk {
+    /// A reference to the path's start is taken.
+    Start,
+    /// An element is looked up in a directory.
+    Look(u32, Element),
+    /// The last element's directory is seen to be one.
+    See(u32, Element),
+    /// A reference to what was found is taken.
+    Up(u32, u32, usize),
+    /// The directory's lock is given up ..
+    Give(u32, Next),
+    /// .. and the reference to it dropped.
+    Down(u32, Next),
+    /// The lock of the parent that was reached is given up.
+    Leave(u32, Element),
+}
+
+/// How a walk goes on: it walks, or has come to its end.
+#[derive(Clone, Copy)]
+pub enum Walked {
+    Walks(Walk),
+    Reached(u32, Option<Element>),
+    Lost(Lost),
+}
+
+/// On from a directory, at this place of the path.
+fn onward(goal: Goal, directory: u32, path: &[u8], rest: usize) -> Walked
+    requires rest { rest ≤ length path.now }
+    requires nonzero { All (λ b. b ≢ 0) path.now }
+    ensures goes { (s : Action) (after : After) (list : List ℕ) → walked_to s path.now after goal list result ≡ onward s path.now after goal directory (elements (drop rest path.now)) list }
+    ensures most { most_walked path.now result ≤ elements_from path.now rest }
+    ensures stands { StandsAt path.now result }
+{
+    match (goal, next_element(path, rest)) {
+        (Goal::Inside, None) => Walked::Reached(directory, None),
+        (Goal::Inside, Some(element)) => Walked::Walks(Walk::Look(directory, element)),
+        (Goal::Parent, None) => Walked::Lost(Lost::NotThere),
+        (Goal::Parent, Some(element)) => match next_element(path, element.rest) {
+            None => Walked::Walks(Walk::See(directory, element)),
+            Some(_) => Walked::Walks(Walk::Look(directory, element)),
+        },
+    }
+}
+
+/// After a directory was left.
+fn go_on(goal: Goal, next: Next, path: &[u8]) -> Walked
+    requires stands { next_stands path.now next }
+    requires nonzero { All (λ b. b ≢ 0) path.now }
+    ensures goes { (s : Action) (after : After) (list : List ℕ) → walked_to s path.now after goal list result ≡ next_of s path.now after goal next list }
+    ensures most { most_walked path.now result ≤ most_next path.now next }
+    ensures stands { StandsAt path.now result }
+{
+    match next {
+        Next::Go(directory, rest) => onward(goal, directory, path, rest),
+        Next::Quits(why) => Walked::Lost(why),
+    }
+}
+
+/// A directory was seen.
+pub fn is_directory(sight: &Sight) -> bool
+    ensures { result ≡ is_directory_face (sight_of sight.now).face }
+{
+    match sight.face {
+        Some(face) => match face.sort {
+            Sort::Directory => true,
+            _ => false,
+        },
+        None => false,
+    }
+}
+
+/// A directory with links was seen.
+pub fn is_live(sight: &Sight) -> bool
+    ensures { result ≡ is_live_face (sight_of sight.now).face }
+{
+    match sight.face {
+        Some(face) => match face.sort {
+            Sort::Directory => face.count > 0,
+            _ => false,
+        },
+        None => false,
+    }
+}
+
+impl Walk {
+    pub fn ask(&self, path: &[u8]) -> Ask
+        ensures asks { (s : Action) (after : After) (goal : Goal) (list : List ℕ) → asks (walk_of s path.now after goal list self.now) ≡ Some (op_in path.now result) }
+        ensures named { Stands path.now self.now → IsNamed path.now result }
+        ensures seeks { OnlySeeks result }
+    {
+        match self {
+            Walk::Start => Ask::UpStart(is_absolute(path)),
+            Walk::Look(directory, element) => Ask::Take(*directory, Query::Name(*element)),
+            Walk::See(directory, _) => Ask::Take(*directory, Query::Nothing),
+            Walk::Up(_, number, _) => Ask::Up(*number),
+            Walk::Give(directory, _) | Walk::Leave(directory, _) => Ask::Give(*directory),
+            Walk::Down(directory, _) => Ask::WalkDown(*directory),
+        }
+    }
+
+    pub fn next(self, goal: Goal, heard: &Heard, path: &[u8], list: &mut Numbers) -> Walked
+        requires nonzero { All (λ b. b ≢ 0) path.now }
+        requires room { length list.old + most_left path.now self ≤ MOST_LISTED }
+        requires stands { Stands path.now self }
+        ensures goes { (text : List ℕ) (s : Action) (after : After) → hears text (walk_of s path.now after goal list.old self) heard.now ≡ walked_to s path.now after goal list.new result }
+        ensures most { length list.new + most_walked path.now result ≤ length list.old + most_left path.now self }
+        ensures stands { StandsAt path.now result }
+    {
+        match self {
+            Walk::Start => match heard.start() {
+                Some(directory) => onward(goal, directory, path, 0),
+                None => Walked::Lost(Lost::NoMemory),
+            },
+            Walk::Look(directory, element) => match heard.sight().found {
+                Some(number) => Walked::Walks(Walk::Up(directory, number, element.rest)),
+                None => Walked::Walks(Walk::Give(directory, Next::Quits(Lost::NotThere))),
+            },
+            Walk::See(directory, element) => {
+                if is_directory(&heard.sight()) {
+                    Walked::Walks(Walk::Leave(directory, element))
+                } else {
+                    Walked::Walks(Walk::Give(directory, Next::Quits(Lost::NotThere)))
+                }
+            }
+            Walk::Up(directory, number, rest) => {
+                let next = if heard.is() {
+                    Next::Go(number, rest)
+                } else {
+                    Next::Quits(Lost::NoMemory)
+                };
+                Walked::Walks(Walk::Give(directory, next))
+            }
+            Walk::Give(directory, next) => Walked::Walks(Walk::Down(directory, next)),
+            Walk::Down(directory, next) => {
+                if heard.is() {
+                    list.push(directory);
+                }
+                go_on(goal, next, path)
+            }
+            Walk::Leave(directory, element) => Walked::Reached(directory, Some(element)),
+        }
+    }
+
+    /// The move of the walk that is made here, if one is.
+    pub fn mark(&self, heard: &Heard) -> Option<Mark>
+        ensures { (s : Action) (path : List ℕ) (after : After) (goal : Goal) (list : List ℕ) → mark_at (walk_of s path after goal list self.now) heard.now ≡ marked_as s result }
+    {
+        match self {
+            Walk::Start => match heard.start() {
+                Some(_) => Some(Mark::Begin),
+                None => Some(Mark::Mends),
+            },
+            Walk::Look(_, _) => {
+                if is_live(&heard.sight()) {
+                    Some(Mark::Look(0))
+                } else {
+                    Some(Mark::Quit)
+                }
+            }
+            Walk::See(_, _) => {
+                if is_directory(&heard.sight()) {
+                    None
+                } else {
+                    Some(Mark::Quit)
+                }
+            }
+            Walk::Up(_, _, _) => { if heard.is() { None } else { Some(Mark::Mends) } }
+            _ => None,
+        }
+    }
+}
+
+/// Why a call fails whose walk is lost.
+pub fn stopped(why: Lost) -> Answer
+    ensures { (call : Call) → reply_to call result ≡ stopped call (stop_of why) }
+{
+    match why {
+        Lost::NotThere => Answer::Failed(Cause::NoEntry),
+        Lost::NoMemory => Answer::Full(Full::MemInodes),
+    }
+}
+
+/// A face that was seen, or one that nobody asks for.
+pub fn face_or(sight: &Sight) -> Face
+    ensures { face_of result ≡ face_or (sight_of sight.now).face }
+{
+    match sight.face {
+        Some(face) => face,
+        None => Face {
+            sort: Sort::File,
+            count: 0,
+            size: 0,
+        },
+    }
+}
