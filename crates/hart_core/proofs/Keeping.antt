@@ -22,22 +22,22 @@ none_of L C None e = refl
 none_of L C (Some r) e = absurd cc
 
 module _ {D : Type 0} (contents : D → List (List ℕ)) (failures : D → ℕ) (sizes : Super) (w : HartsOf D) (is : IsWorld contents failures sizes w) where
-  abbrev L : Theory
+  abbrev pub L : Theory
   L = block_calls sizes
 
-  abbrev C : Code L
+  abbrev pub C : Code L
   C = block_code sizes
 
-  abbrev sound : SoundPlain L C (calls_of contents failures sizes w)
+  abbrev pub sound : SoundPlain L C (calls_of contents failures sizes w)
   sound = world_sound contents failures sizes w is
 
-  abbrev state : State L
+  abbrev pub state : State L
   state = sound.state
 
-  told : IsExplained L (L.M.tree sound.sound.first) state
+  pub told : IsExplained L (L.M.tree sound.sound.first) state
   told = sound_explained L (lawful sizes) state sound.sound
 
-  same : ◌≡◌ {A = steps.State} state.world.real.blocks.state (shared_of contents failures w)
+  pub same : ◌≡◌ {A = steps.State} state.world.real.blocks.state (shared_of contents failures w)
   same = ap (λ (p : Plain L C). p.shared.state) sound.is
 
   no_call : (h : ℕ) → get_or w.calls h None ≡ None → state.running h ≡ None

@@ -8,6 +8,7 @@ pub mod Resting
 pub mod Calming
 pub mod Histories
 pub mod Keeping
+pub mod Waiting
 pub mod Counts
 pub mod Returning
 pub mod Storing

@@ -1,10 +1,14 @@
 -- What always holds of a world, in plain words.
-use Rattle.std.specs.Prelude.{◌≡◌, ◌≢◌, ℕ, ◌<◌, List, length, false, Some, None, get_or}
+use Rattle.std.specs.Prelude.{◌≡◌, ◌≢◌, ◌⊎◌, ℕ, ◌<◌, List, length, false, Some, None, get_or, IsTrue}
+use Rattle.fs_layout.specs.declared.superblock.Super.{Super}
+use Rattle.atomic_programs.specs.Calls.{Step, DidWait}
 use Rattle.fs_tables.specs.Tables.{holder_of}
 use Rattle.buffer_cache.specs.Limits.{hart_count}
 use Rattle.buffer_cache.specs.Lists.{count_of}
-use Rattle.buffer_cache.specs.Seats.{is_held_by}
-use Rattle.fs_machine.specs.LogPart.{LogPart}
+use Rattle.buffer_cache.specs.Seats.{is_held_by, holder_of as buffer_holder}
+use Rattle.group_log.specs.Turns.{turn_is_out}
+use Rattle.fs_machine.specs.LogPart.{LogPart, Outside}
+use Rattle.fs_machine.specs.Premises.{IsElsewhere, JoinWaits}
 use Rattle.fs_machine.specs.Shown.{seen_of}
 use Rattle.fs_machine.specs.Steps.{State}
 use Rattle.image_laws.specs.Seen.{IsRecoveredSo}
@@ -13,6 +17,7 @@ use Rattle.image_tree.specs.Trees.{tree_in}
 use Rattle.inodes_on_blocks.specs.Below.{disk_of}
 use Rattle.inodes_on_blocks.specs.OnBlocks.{is_joined}
 use Rattle.hart_core.specs.Harts.{HartsOf, shared_of}
+use Rattle.hart_core.specs.Worlds.{Answers, Makes}
 
 -- no buffer and no inode's lock is in the hart's hand
 pub record HasNothing (h : ℕ) (s : State) : Type 0 where
@@ -28,7 +33,27 @@ pub record ShowsImage (l : LogPart) : Type 0 where
   pub well : IsWellFormed (disk_of l)
   pub recovered : (disk : List (List ℕ)) → length disk ≡ length l.contents → IsRecoveredSo l.sizes (seen_of l) disk → IsWellFormed disk × (tree_in disk ≡ tree_in (disk_of l))
 
+-- another hart has the lock of an inode in its hand, or a buffer
+abbrev pub InodeIsElsewhere : ℕ → State → Type 0
+InodeIsElsewhere h s = (n : ℕ) × IsElsewhere h (holder_of n s.tables)
+
+abbrev pub BufferIsElsewhere : ℕ → State → Type 0
+BufferIsElsewhere h s = (b : ℕ) × IsElsewhere h (buffer_holder b s.log.seats)
+
+-- the log's commit is under way, or the log has no room for one more transaction; or the buffer that the commit copies next is out
+abbrev pub LogIsBusy : LogPart → Type 0
+LogIsBusy l = JoinWaits l ⊎ IsTrue (turn_is_out l.seats l.group l.phase)
+
+-- why a hart must wait
+abbrev pub MustWait : ℕ → State → Type 0
+MustWait h s = InodeIsElsewhere h s ⊎ BufferIsElsewhere h s ⊎ LogIsBusy s.log
+
 module _ {D : Type 0} (contents : D → List (List ℕ)) (failures : D → ℕ) where
+  -- a step of any hart waits only where it must
+  abbrev pub WaitsByTheRule : Super → HartsOf D → Type 0
+  WaitsByTheRule sizes w =
+      (h : ℕ) (x : Outside) (v : HartsOf D) → Answers contents failures sizes (Step h x) w → Makes contents failures sizes (Step h x) w DidWait v → MustWait h (shared_of contents failures w)
+
   -- a hart without a call has nothing in hand; and is in no transaction, unless a failure of the device has stopped the harts
   abbrev pub IdleHartsHaveNothing : HartsOf D → Type 0
   IdleHartsHaveNothing w =

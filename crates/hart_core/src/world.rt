@@ -7,7 +7,7 @@ ghost use Rattle.fs_layout.specs.Recovered.{sizes_of};
 ghost use Rattle.image_tree.specs.Damage.{IsWellFormed};
 ghost use Rattle.hart_core.specs.Harts.{outcome_of, said, shared_of};
 ghost use Rattle.hart_core.specs.Mounting.{HandsBack, Rests};
-ghost use Rattle.hart_core.specs.Promised.{IdleHartsHaveNothing, QuietBlocksAreAnImage};
+ghost use Rattle.hart_core.specs.Promised.{IdleHartsHaveNothing, QuietBlocksAreAnImage, WaitsByTheRule};
 ghost use Rattle.hart_core.specs.Starts.{child_refusal, fault_of, others_refusal, refusal_of, start_outcome, IsOfBytes};
 ghost use Rattle.hart_core.specs.Worlds.{Makes, Answers};
 
@@ -187,6 +187,15 @@ impl<D: Device> World<D> {
     /// leave, also in the middle of a commit, with the same tree.
     pub fn quiet_blocks_are_an_image(&self)
         ensures { QuietBlocksAreAnImage D.contents D.failures self.now.harts }
+    {
+        let _ = &self.harts;
+    }
+
+    /// A law, for a reader; nothing is done. A step of any hart waits only where another hart has an inode's lock or a buffer in its
+    /// hand, where a commit is under way or the log has no room for one more transaction, or where the buffer that its commit copies
+    /// next is out.
+    pub fn waits_by_the_rule(&self)
+        ensures { WaitsByTheRule D.contents D.failures self.now.sizes self.now.harts }
     {
         let _ = &self.harts;
     }

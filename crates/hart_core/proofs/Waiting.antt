@@ -1,0 +1,65 @@
+-- A step waits only where it must.
+use Rattle.std.proofs.Common.{◌≡◌, ℕ, List, Option, Some, None, refl, sym, ◌∙◌, ap, subst, inl, inr}
+use Rattle.std.specs.Option.{MatchOption}
+use Rattle.fs_layout.specs.declared.superblock.Super.{Super}
+use Rattle.atomic_programs.specs.Calls.{Theory, Outcome, Step, Came, Started, Refused, WasIdle, DidWait, DidRun, DidEnd, DidStop, WasStopped, makes}
+use Rattle.atomic_programs.specs.Plain.{Code, PlainMade, PlainHonest, by_kind, erase, plain_makes}
+use Rattle.atomic_programs.proofs.Erased.{erase-makes}
+use Rattle.atomic_programs.proofs.Reached.{honest_event}
+use Rattle.fs_tables.specs.declared.files.OpenFile.{OpenFile}
+use Rattle.fs_tables.specs.Tables.{file_named, holder_of}
+use Rattle.fs_machine.specs.LogPart.{Outside}
+use Rattle.fs_machine.specs.Premises.{IsElsewhere, MayWait}
+use Rattle.fs_machine.specs.Steps as steps
+use Rattle.calls_on_blocks.specs.Theory.{block_calls, block_code}
+use Rattle.calls_on_blocks.proofs.Lawful.{is_code}
+use Rattle.hart_core.specs.Harts.{HartsOf, shared_of}
+use Rattle.hart_core.specs.Promised.{MustWait, WaitsByTheRule}
+use Rattle.hart_core.specs.Worlds.{Answers, IsWorld, Makes, calls_of}
+use Rattle.hart_core.proofs.Keeping.{same, sound, state, told}
+
+-- who waited in the words of the code did so
+waited : (L : Theory) (C : Code L) (c : Came L) → by_kind L C c ≡ DidWait → c ≡ DidWait
+waited L C Started e = absurd (cc e)
+waited L C (Refused why) e = absurd (cc e)
+waited L C WasIdle e = absurd (cc e)
+waited L C DidWait e = refl
+waited L C (DidRun did) e = absurd (cc e)
+waited L C (DidEnd reply) e = absurd (cc e)
+waited L C DidStop e = absurd (cc e)
+waited L C WasStopped e = absurd (cc e)
+
+-- an operation that may wait is one that must
+must : (h : ℕ) (op : steps.Op) (s : steps.State) → MayWait h op s → MustWait h s
+unfolding MayWait
+must h steps.Join s may = inr (inr (inl may))
+must h (steps.JoinToWrite fd) s may = inr (inr (inl may))
+must h (steps.Get b) s may = inr (inl (b, may))
+must h steps.Commit s may = inr (inr (inr may))
+must h (steps.Lock n) s may = inl (n, may)
+must h (steps.LockFile want fd) s may = by (file_named h fd s.tables) may
+  where
+    by : (o : Option OpenFile) → MatchOption o ⊥ (λ f. IsElsewhere h (holder_of f.number s.tables)) → MustWait h s
+    by None may = absurd may
+    by (Some f) may = inl (f.number, may)
+must h (steps.LockOpen fd) s may = by (file_named h fd s.tables) may
+  where
+    by : (o : Option OpenFile) → MatchOption o ⊥ (λ f. IsElsewhere h (holder_of f.number s.tables)) → MustWait h s
+    by None may = absurd may
+    by (Some f) may = inl (f.number, may)
+must h op s may = absurd may
+
+module _ {D : Type 0} (contents : D → List (List ℕ)) (failures : D → ℕ) (sizes : Super) (w : HartsOf D) (is : IsWorld contents failures sizes w) where
+  abbrev L : Theory
+  L = block_calls sizes
+
+  abbrev C : Code L
+  C = block_code sizes
+
+  pub waits_by_the_rule : WaitsByTheRule contents failures sizes w
+  waits_by_the_rule h x v honest makes_so =
+      let s = state contents failures sizes w is in
+      let q = sound contents failures sizes w is in
+      let came : by_kind L C (makes L (Step h x) s).came ≡ DidWait = ap (λ (m : PlainMade L C). m.came) (sym (erase-makes L C (is_code sizes) (Step h x) s) ∙ ap (plain_makes L C (Step h x)) q.is ∙ makes_so) in
+      let blocked = (told contents failures sizes w is).waits h x (honest_event L C (is_code sizes) (Step h x) s (subst (PlainHonest L C (Step h x)) (sym q.is) honest)) (waited L C (makes L (Step h x) s).came came) in
+      subst (MustWait h) (same contents failures sizes w is) (must h blocked.op s.world.real.blocks.state blocked.may)
