@@ -1,5 +1,5 @@
 -- What the harts' programs are answered in a run, and what they end with.
-use Rattle.std.proofs.Common.{◌≡◌, ◌≢◌, ℕ, ◌<◌, Bool, true, false, List, [], ◌∷◌, length, Option, Some, None, refl, sym, ◌∙◌, ap, subst, replicate}
+use Rattle.std.proofs.Common.{◌≡◌, ◌≢◌, ℕ, ◌<◌, Bool, false, List, [], ◌∷◌, Option, Some, None, refl, sym, ◌∙◌, ap, subst}
 use Rattle.fs_layout.specs.declared.superblock.Super.{Super}
 use Rattle.fs_layout.specs.Recovered.{sizes_of}
 use Rattle.block_device.specs.Fuse.{Fuse}
@@ -15,14 +15,14 @@ use Rattle.atomic_programs.proofs.Explains.{inv_of, sound_keeps}
 use Rattle.atomic_programs.proofs.Reached.{sound_fresh, sound_event, sound_may}
 use Rattle.fs_machine.specs.LogPart.{LogPart, Outside}
 use Rattle.fs_machine.specs.Machines.{P}
-use Rattle.fs_machine.specs.Steps.{State, Op, Answer, exec}
+use Rattle.fs_machine.specs.Steps.{State, exec}
 use Rattle.fs_machine.specs.Whole.{IsWholeLog}
 use Rattle.inode_machine.specs.Programs.{program}
 use Rattle.inode_machine.specs.Theory.{Refusal}
 use Rattle.inodes_on_blocks.specs.Shown.{Shows}
 use Rattle.inodes_on_blocks.proofs.Mounted.{mounts_show_their_trees}
 use Rattle.calls_on_blocks.specs.History.{first}
-use Rattle.calls_on_blocks.specs.Layer.{SharedState, layer, exec_shared}
+use Rattle.calls_on_blocks.specs.Layer.{SharedState, layer}
 use Rattle.inodes_on_blocks.specs.Programs.{handlers}
 use Rattle.calls_on_blocks.specs.Theory.{served_calls, child_of, begin_in, block_calls, block_code}
 use Rattle.calls_on_blocks.proofs.History.{first_holds, first_idle}
@@ -33,7 +33,7 @@ use Rattle.hart_core.specs.Mounting.{Rests}
 use Rattle.hart_core.specs.Runs.{AllAnswer}
 use Rattle.hart_core.specs.Worlds.{WorldOf, calls_of}
 use Rattle.hart_core.proofs.Resting.{mountable, rests_erased}
-use Rattle.locked_world.specs.HandedBack.{HandsBack, FitsBlock, EndsWith, cleared}
+use Rattle.locked_world.specs.HandedBack.{HandsBack, EndsWith, cleared}
 use Rattle.locked_world.specs.Kept.{StoredRun, IsRunOf, contents, failures, disk_of}
 use Rattle.locked_world.proofs.Endings.{Leaves, OfCall, is_read, leaves_plain, leaves_lowered, program_ends}
 use Rattle.locked_world.proofs.Fitting.{SeesWhole, op_fits, ran_in}

@@ -8,7 +8,6 @@ use Rattle.plain_tree.specs.declared.step.Action.{Action}
 use Rattle.plain_tree.specs.declared.step.Action.TheVariants as actions
 use Rattle.plain_tree.specs.declared.answer.Cause.TheVariants.{NoEntry}
 use Rattle.plain_tree.specs.Tree.{Name, elements, same_name, dot, dotdot}
-use Rattle.plain_tree.specs.Calls.{piece, piece_count}
 use Rattle.plain_tree.specs.Steps.{creates}
 use Rattle.plain_tree.specs.Widths.{descriptor_count}
 use Rattle.atomic_programs.specs.Prog.{Prog, Ret, Do, bind, plain, unmarked}

@@ -8,8 +8,8 @@ use Rattle.plain_tree.specs.declared.answer.Reply.{Reply}
 use Rattle.plain_tree.specs.declared.call.Call.{Call}
 use Rattle.plain_tree.specs.Explains.{Shown}
 use Rattle.plain_tree.specs.Explains.Shown.{Started as IsBegun, Replied, Other}
-use Rattle.atomic_programs.specs.Calls.{Event as EventOf, Start, Step, Outcome as OutcomeOf, Started, Refused, DidWait, DidEnd, with_answer, changed}
-use Rattle.atomic_programs.specs.Plain.{Plain, PlainMade, plain_makes}
+use Rattle.atomic_programs.specs.Calls.{Start, Step, Outcome as OutcomeOf, Started, Refused, DidWait, DidEnd, with_answer, changed}
+use Rattle.atomic_programs.specs.Plain.{Plain, PlainMade}
 use Rattle.fs_machine.specs.declared.kind.Kind.{Kind}
 use Rattle.fs_machine.specs.LogPart.{Outside}
 use Rattle.inode_machine.specs.Theory.{Refusal}
@@ -22,15 +22,15 @@ use Rattle.hart_core.specs.declared.outcome.Outcome.{Outcome}
 use Rattle.hart_core.specs.declared.outcome.Outcome.TheVariants as outcome
 use Rattle.hart_core.specs.declared.starts.StartRefused.{StartRefused}
 use Rattle.hart_core.specs.Events.{event_of, came_of}
-use Rattle.hart_core.specs.Harts.{HartsOf, outcome_of, shared_of}
+use Rattle.hart_core.specs.Harts.{outcome_of}
 use Rattle.hart_core.specs.Runs.{all_shown, shown, shown_outcome}
 use Rattle.hart_core.specs.Starts.{reason_of}
 use Rattle.hart_core.specs.Worlds.{WorldOf, calls_of, Makes, Answers}
 use Rattle.hart_core.proofs.Histories.{history_more, one_each}
 use Rattle.locked_world.specs.HandedBack.{HandsBack, SpareFits}
-use Rattle.locked_world.specs.Kept.{StoredRun, with_event, contents, failures, IsRunOf, IsKept, replied_by, replies_in, replies_of, counts, count_in, count_of, shown_in}
+use Rattle.locked_world.specs.Kept.{StoredRun, with_event, contents, failures, IsRunOf, IsKept, replied_by, replies_in, replies_of, counts, count_in, shown_in}
 use Rattle.locked_world.proofs.Blocks.{answers_fit, may_here, started}
-use Rattle.locked_world.proofs.Spares.{AnswersFit, Ends, step_keeps, step_ends, step_waits, start_refused}
+use Rattle.locked_world.proofs.Spares.{Ends, step_keeps, step_ends, step_waits, start_refused}
 
 -- ---- lists
 

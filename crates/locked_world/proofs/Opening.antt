@@ -1,8 +1,7 @@
 -- A locked world before its first event.
-use Rattle.std.proofs.Common.{◌≡◌, ℕ, zero, suc, List, [], ◌∷◌, Option, Some, None, replicate, get_or, refl, sym, ◌∙◌, ap, subst}
+use Rattle.std.proofs.Common.{◌≡◌, ℕ, zero, suc, List, [], Option, None, replicate, get_or, refl, sym, ◌∙◌, ap, subst}
 use Rattle.fs_layout.specs.Recovered.{sizes_of}
 use Rattle.block_device.specs.Fuse.{Fuse}
-use Rattle.plain_tree.specs.declared.call.Call.{Call}
 use Rattle.atomic_programs.specs.Machines.{program_at}
 use Rattle.syscalls.specs.Machines.{Running, running_of}
 use Rattle.hart_core.specs.declared.events.Event.{Event}

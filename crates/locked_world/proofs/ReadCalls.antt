@@ -1,5 +1,5 @@
 -- A read hands back a buffer of the length that it was given.
-use Rattle.std.proofs.Common.{◌≡◌, ℕ, zero, suc, ◌+◌, ◌-◌, ◌*◌, ◌/◌, ◌%◌, ◌≤◌, min, List, [], ◌++◌, length, take, drop, replicate, Option, Some, None, refl, ap, arith, length-append, length-drop, length-take}
+use Rattle.std.proofs.Common.{◌≡◌, ℕ, zero, suc, ◌+◌, ◌-◌, ◌/◌, ◌%◌, ◌≤◌, List, [], ◌++◌, length, take, drop, replicate, Option, Some, None, refl, ap, arith, length-append, length-drop, length-take}
 use Rattle.fs_layout.specs.Bytes.{overwrite}
 use Rattle.fs_layout.specs.declared.inode.Dinode.{Dinode}
 use Rattle.fs_layout.specs.declared.superblock.Super.{Super}

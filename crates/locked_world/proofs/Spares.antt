@@ -1,13 +1,12 @@
 -- A copy of each call that is under way is laid by: events keep that.
-use Rattle.std.proofs.Common.{◌≡◌, ℕ, ◌<◌, Bool, true, false, List, length, Option, Some, None, get_or, slice_set, ◌==◌, if◌then◌else◌, nat_eq, inl, inr, refl, sym, ◌∙◌, ap, subst, arith}
+use Rattle.std.proofs.Common.{◌≡◌, ℕ, Bool, true, false, Option, Some, None, if◌then◌else◌, nat_eq, inl, inr, refl, sym, ◌∙◌, subst}
 use Rattle.std.proofs.lemmas.Bool.Decides.{eqb_tells}
-use Rattle.std.proofs.lemmas.List.{get_or-set_same, get_or-set_other}
 use Rattle.fs_layout.specs.declared.superblock.Super.{Super}
 use Rattle.plain_tree.specs.declared.answer.Reply.{Reply}
 use Rattle.plain_tree.specs.declared.call.Call.{Call}
-use Rattle.atomic_programs.specs.Prog.{Prog, Ret, Do, Did, Waits, Ran, Stops}
+use Rattle.atomic_programs.specs.Prog.{Ret, Do, Did, Waits, Ran, Stops}
 use Rattle.atomic_programs.specs.Calls.{Event, Start, Step, Outcome, Started, Refused, WasIdle, DidWait, DidRun, DidEnd, DidStop, WasStopped, Began, Refuses, Begins, changed}
-use Rattle.atomic_programs.specs.Plain.{Plain, PlainMade, MayOf, plain_makes, plain_step, plain_unless, plain_prog, plain_tried, plain_moved, plain_start, plain_begun}
+use Rattle.atomic_programs.specs.Plain.{Plain, PlainMade, MayOf, plain_step, plain_unless, plain_prog, plain_tried, plain_moved, plain_start, plain_begun}
 use Rattle.fs_machine.specs.declared.kind.Kind.{Kind}
 use Rattle.fs_machine.specs.LogPart.{Outside}
 use Rattle.fs_machine.specs.Machines.{P}

@@ -1,5 +1,5 @@
 -- What a call hands back when it ends: itself, but for the bytes that a read writes into its buffer.
-use Rattle.std.specs.Prelude.{◌≡◌, ℕ, ◌≤◌, List, length, replicate, Option, Some, None, IfSome}
+use Rattle.std.specs.Prelude.{◌≡◌, ◌≤◌, length, replicate, Option, Some, None, IfSome}
 use Rattle.fs_layout.specs.Widths.{block_len}
 use Rattle.plain_tree.specs.declared.answer.Reply.{Reply}
 use Rattle.plain_tree.specs.declared.call.Call.{Call}

@@ -62,11 +62,15 @@ LeavesDisk s bytes = (w : WorldOf Fuse) × IsRunOf s w × (bytes ≡ w.harts.cor
 abbrev pub WaitsThere : StoredRun → ℕ → Type 0
 WaitsThere s h = (w : WorldOf Fuse) × IsRunOf s w × ((still : HartsOf Fuse) × Makes contents failures w.sizes (Step h Passes) w.harts DidWait still)
 
--- If no step of the run found no room, one list of tree steps explains all calls that were started, from the image's tree: as long as no path climbs, or
--- where one hart has made all calls.
+-- In this run of what is stored, if no step of it found no room, one list of tree steps explains all calls that were started, from the image's tree: as long as
+-- no path climbs, or where one hart has made all calls.
+abbrev pub OneListExplains : (s : StoredRun) (w : WorldOf Fuse) → IsRunOf s w → Type 0
+OneListExplains s w run =
+    FoundRoom contents failures run.first run.history.0 → NoneClimbs (trace_in s.events s.outcomes) ⊎ OneHart (trace_in s.events s.outcomes) → IsExplained (tree_in (blocks_of s.image)) (trace_in s.events s.outcomes)
+
+-- It is a run, and so is explained whichever run it is.
 abbrev pub HasOneHistory : StoredRun → Type 0
-HasOneHistory s =
-    (w : WorldOf Fuse) × ((run : IsRunOf s w) × (FoundRoom contents failures run.first run.history.0 → NoneClimbs (trace_in s.events s.outcomes) ⊎ OneHart (trace_in s.events s.outcomes) → IsExplained (tree_in (blocks_of s.image)) (trace_in s.events s.outcomes)))
+HasOneHistory s = IsRun s × ((w : WorldOf Fuse) (run : IsRunOf s w) → OneListExplains s w run)
 
 -- ---- calls and replies
 

@@ -79,8 +79,9 @@ impl<L: Ledger> Closed<L> {
         self.story.difference(hart, replies)
     }
 
-    /// A law, for a reader; nothing is done. If no step of the run found no room, one list of tree steps explains all calls that were
-    /// started, from the image's tree: as long as no path has the element "..", or where one hart has made all calls.
+    /// A law, for a reader; nothing is done. The events came to their outcomes in some run; and of whichever run they are: if no step of it
+    /// found no room, one list of tree steps explains all calls that were started, from the image's tree, as long as no path has the
+    /// element "..", or where one hart has made all calls.
     pub fn one_list_explains_it(&self)
         ensures { HasOneHistory self.now }
     {

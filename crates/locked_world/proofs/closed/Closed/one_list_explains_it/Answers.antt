@@ -7,4 +7,4 @@ pub returns : goal.returns
 returns g c =
     let i = c.self.inside in
     let left = c.self.invariant in
-    subst HasOneHistory c.self.view_is (left.0, (left.1, explained_run (record { image = i.image.items; fuse = i.fuse; events = i.story.events; outcomes = i.story.outcomes }) left.0 left.1))
+    subst HasOneHistory c.self.view_is ((left.0, left.1), explained_run (record { image = i.image.items; fuse = i.fuse; events = i.story.events; outcomes = i.story.outcomes }))

@@ -1,14 +1,10 @@
-use Rattle.std.proofs.Common.{rules, ◌≡◌, ◌∙◌, ◌++◌, ◌∷◌, [], List, refl, ap, sym, arith, length}
-use Rattle.std.proofs.lemmas.Grind.{common_steps}
-use Rattle.plain_tree.specs.declared.call.Call.{Call}
+use Rattle.std.proofs.Common.{◌∙◌, ◌++◌, ◌∷◌, [], List, refl, ap}
 use Rattle.fs_machine.specs.LogPart.{Passes}
-use Rattle.hart_core.specs.declared.events.Event.{Event}
 use Rattle.hart_core.specs.declared.events.Event.TheVariants.{Start}
 use Rattle.hart_core.specs.declared.events.Came.{Came}
 use Rattle.hart_core.specs.declared.events.Came.TheVariants.{Started, Refused}
 use Rattle.locked_world.specs.Kept.{StoredRun, with_event}
 use Rattle.locked_world.proofs.Keeping.{kept_started, kept_refused, begun_below}
-use Rattle.locked_world.proofs.Endings.{program_ends}
 use Rattle.locked_world.proofs.locked.Locked.start.Goals as goal
 
 pub lay_by-requires : goal.lay_by-requires
