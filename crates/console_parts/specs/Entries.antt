@@ -1,5 +1,5 @@
 -- The line of an entry of a history, for people.
-use Rattle.std.specs.Prelude.{ℕ, Bool, ◌&&◌, nat_lt, if◌then◌else◌, List, [], ◌∷◌, ◌++◌, length, codes, decimal}
+use Rattle.std.specs.Prelude.{ℕ, Bool, true, false, not, ◌&&◌, ◌==◌, nat_lt, if◌then◌else◌, List, [], ◌∷◌, ◌++◌, length, Option, Some, None, codes, decimal}
 use Rattle.std.specs.List.{list_all}
 use Rattle.console_parts.specs.Text.{bytes_text, hex, numbered_text, stat_text}
 use Rattle.plain_tree.specs.declared.step.Action.{Action}
@@ -51,9 +51,23 @@ answer_text (Full full) = numbered_text (codes "full") (full_number full) (full_
 abbrev pub step_text : Placed → List ℕ
 step_text e = codes "event " ++ decimal e.event ++ codes ": " ++ decimal e.step.hart ++ codes " " ++ action_text e.step.action
 
--- what the step answered, and the line's end
-abbrev pub told_text : StepAnswer → List ℕ
-told_text a = codes ": " ++ answer_text a ++ codes "\n"
+-- a path that may make what it names, and has led to it
+abbrev pub may_make : Action → StepAnswer → Bool
+may_make (Open path flags) (Opened fd id is_file) = true
+may_make (Mkdir path) Done = true
+may_make a b = false
+
+-- the number of the node that was made; where none was made a step says 0
+abbrev pub made_number : Placed → Option ℕ
+made_number e = if may_make e.step.action e.answer && not (e.step.new == 0) then Some e.step.new else None
+
+abbrev pub made_text : Option ℕ → List ℕ
+made_text None = []
+made_text (Some number) = codes ", inode " ++ decimal number
+
+-- what the step answered, what it made, and the line's end
+abbrev pub told_text : Placed → List ℕ
+told_text e = codes ": " ++ answer_text e.answer ++ made_text (made_number e) ++ codes "\n"
 
 abbrev pub entry_line : Placed → List ℕ
-entry_line e = step_text e ++ told_text e.answer
+entry_line e = step_text e ++ told_text e

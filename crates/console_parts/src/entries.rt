@@ -2,7 +2,7 @@
 ghost use Rattle.std.specs.Prelude.{◌≡◌, ◌++◌, codes, decimal, length, OnOk};
 ghost use Rattle.std.specs.Io.KnownBytes.{Appends};
 ghost use Rattle.console_parts.specs.Text.{bytes_text, numbered_text, stat_text};
-ghost use Rattle.console_parts.specs.Entries.{action_text, all_printed, answer_text, entry_line, is_printed, path_word, step_text, told_text};
+ghost use Rattle.console_parts.specs.Entries.{action_text, all_printed, answer_text, entry_line, is_printed, made_number, made_text, may_make, path_word, step_text, told_text};
 
 use crate::text::{write_bytes, write_hex};
 use plain_tree::{Action, Placed, Stat, StepAnswer};
@@ -10,12 +10,13 @@ use std::io;
 use std::io::Write;
 
 /// The line of an entry, as `event 12: 0 open /d/f 0: failed 1 NoEntry`: its event, its hart, what the step did, and what that answered.
-/// A piece of a write stands with its length, a read with the bytes that it gave.
+/// A piece of a write stands with its length, a read with the bytes that it gave, and a node that was made with its inode's number, as
+/// `event 30: 0 open /f 513: fd 0, inode 2`.
 pub fn write_entry<W: Write>(out: &mut W, entry: &Placed) -> io::Result<()>
     ensures { OnOk result (Appends (W.contents out.old) (W.contents out.new) (entry_line entry.now)) }
 {
     write_step(out, entry)?;
-    write_told(out, &entry.answer)
+    write_told(out, entry)
 }
 
 // The event, the hart, and what its step did.
@@ -27,13 +28,46 @@ fn write_step<W: Write>(out: &mut W, entry: &Placed) -> io::Result<()>
     write_action(out, &entry.step.action)
 }
 
-// What the step answered, and the line's end.
-fn write_told<W: Write>(out: &mut W, answer: &StepAnswer) -> io::Result<()>
-    ensures { OnOk result (Appends (W.contents out.old) (W.contents out.new) (told_text answer.now)) }
+// What the step answered, what it made, and the line's end.
+fn write_told<W: Write>(out: &mut W, entry: &Placed) -> io::Result<()>
+    ensures { OnOk result (Appends (W.contents out.old) (W.contents out.new) (told_text entry.now)) }
 {
     write!(out, ": ")?;
-    write_answer(out, answer)?;
+    write_answer(out, &entry.answer)?;
+    write_made(out, made_number(entry))?;
     writeln!(out)
+}
+
+// Whether the step led to what its path names, which it may have made.
+fn may_make(action: &Action, answer: &StepAnswer) -> bool
+    ensures { result ≡ may_make action.now answer.now }
+{
+    match action {
+        Action::Open { .. } => matches!(answer, StepAnswer::Opened { .. }),
+        Action::Mkdir { .. } => matches!(answer, StepAnswer::Done),
+        _ => false,
+    }
+}
+
+// The number of the node that the step made.
+fn made_number(entry: &Placed) -> Option<u16>
+    ensures { result ≡ made_number entry.now }
+{
+    let new = entry.step.new;
+    if may_make(&entry.step.action, &entry.answer) && new != 0 {
+        Some(new)
+    } else {
+        None
+    }
+}
+
+fn write_made<W: Write>(out: &mut W, made: Option<u16>) -> io::Result<()>
+    ensures { OnOk result (Appends (W.contents out.old) (W.contents out.new) (made_text made)) }
+{
+    match made {
+        Some(number) => write!(out, ", inode {number}"),
+        None => Ok(()),
+    }
 }
 
 // What a step does.

@@ -1,5 +1,5 @@
 -- What a start asks of a call: a path has at most one element for each two of its bytes, so its references have room on the list.
-use Rattle.std.proofs.Common.{◌≡◌, ℕ, suc, ◌+◌, ◌*◌, ◌^◌, ◌<◌, ◌≤◌, Bool, true, false, not, List, [], ◌∷◌, ◌++◌, length, map, filter, take, Option, None, if◌then◌else◌, ◌==◌, arith}
+use Rattle.std.proofs.Common.{◌≡◌, ℕ, suc, ◌+◌, ◌*◌, ◌^◌, ◌<◌, ◌≤◌, Bool, true, false, not, List, [], ◌∷◌, ◌++◌, length, map, filter, take, None, if◌then◌else◌, ◌==◌, arith}
 use Rattle.std.proofs.lemmas.List.{length-append}
 use Rattle.plain_tree.specs.Tree.{elements, is_empty, pieces}
 use Rattle.plain_tree.specs.Widths.{name_len}

@@ -18,13 +18,13 @@ use Rattle.fs_machine.specs.LogPart.{Outside, Passes}
 use Rattle.fs_machine.specs.Steps.{State, state_of}
 use Rattle.fs_machine.specs.Machines.{P}
 use Rattle.fs_machine.specs.Tied.{LeavesTied}
-use Rattle.syscalls.specs.Machines.{Running, running_of, RunningFits}
+use Rattle.syscalls.specs.Machines.{Running, running_of}
 use Rattle.syscalls.specs.Places.{HasBegun, StepsAt}
 use Rattle.syscalls.proofs.HasOnes.{has_running}
 use Rattle.syscalls.proofs.Staying.{stays}
 use Rattle.hands.proofs.HasOnes.{HasOne}
 use Rattle.hart_core.specs.Blocks.{blocks, code}
-use Rattle.hart_core.specs.Harts.{HartFits, AllFit, AreHarts}
+use Rattle.hart_core.specs.Harts.{HartFits, AreHarts}
 use Rattle.calls_on_blocks.specs.Theory.{block_calls}
 use Rattle.plain_tree.specs.declared.call.Call.{Call}
 use Rattle.fs_layout.specs.declared.superblock.Super.{Super}

@@ -13,7 +13,7 @@ use Rattle.group_log.specs.Group.{joined}
 use Rattle.group_log.specs.Phases.{is_point}
 use Rattle.group_log.specs.Stories.{no_marks, IsMarked}
 use Rattle.tree_moves.specs.Laws.{before}
-use Rattle.atomic_programs.specs.Calls.{Theory, State, Event as EventOf, AllHonest, fresh, makes, next, run, with_answer}
+use Rattle.atomic_programs.specs.Calls.{Theory, State, Event as EventOf, AllHonest, fresh, next, run, with_answer}
 use Rattle.atomic_programs.specs.Plain.{Code, Plain, PlainMade, plain_run, erase}
 use Rattle.atomic_programs.proofs.Erased.{erase-makes, erase-run}
 use Rattle.fs_machine.specs.LogPart.{Outside, Passes}

@@ -1,5 +1,5 @@
 // The calls that eight harts have under way.
-ghost use Rattle.std.specs.Prelude.{◌≡◌, ◌<◌, [], ◌∷◌, false, None, IfOk, get_or, is_some, replicate, slice_set};
+ghost use Rattle.std.specs.Prelude.{◌≡◌, ◌<◌, [], ◌∷◌, false, None, IfOk, IfSome, get_or, is_some, replicate, slice_set};
 ghost use Rattle.atomic_programs.specs.Plain.{PlainHonestStep, MayOf, hart_step};
 ghost use Rattle.atomic_programs.specs.Machines.{program_at};
 ghost use Rattle.fs_machine.specs.Steps.{state_of};
@@ -18,6 +18,7 @@ use block_device::Device;
 use buffer_cache::HARTS;
 use fs_layout::Super;
 use fs_machine::{Core, RetiredCore};
+use path_walk::Heard;
 use plain_tree::{Call, Reply};
 use std::alloc::{AllocError, Global};
 use std::marker::Model;
@@ -158,6 +159,14 @@ impl Calls {
         ensures kept { self.new ≡ slice_set self.old hart (get_or self.new hart None) }
     {
         self.places[hart as usize].start(sizes, call);
+    }
+
+    /// What a hart's call heard in its last step, where an operation over whole inodes ended there.
+    pub fn heard(&self, hart: u8) -> Option<Heard>
+        requires { hart < HARTS }
+        ensures { IfSome (get_or self.now hart None) (λ call. result ≡ call.control.heard) }
+    {
+        self.places[hart as usize].heard()
     }
 
     /// Ends those of idle harts.

@@ -1,5 +1,5 @@
 // Eight harts' machines over all that they share.
-ghost use Rattle.std.specs.Prelude.{◌≡◌, ◌<◌, ◌&&◌, false, Some, None, get_or, is_some, length, replicate, slice_get, slice_set};
+ghost use Rattle.std.specs.Prelude.{◌≡◌, ◌<◌, ◌&&◌, false, Some, None, IfSome, get_or, is_some, length, replicate, slice_get, slice_set};
 ghost use Rattle.atomic_programs.specs.Calls.{Start as StartOf, Step as StepOf, Started};
 ghost use Rattle.atomic_programs.specs.Plain.{plain_makes, PlainHonest};
 ghost use Rattle.group_log.specs.Phases.{is_point};
@@ -20,6 +20,7 @@ use fs_layout::Super;
 use fs_machine::Core;
 use fs_tables::DESCRIPTORS;
 use group_log::Phase;
+use path_walk::Heard;
 use plain_tree::{Call, Reply};
 use std::marker::Model;
 
@@ -147,6 +148,18 @@ impl<D: Device> Harts<D> {
         }
         self.calls
             .step(replied, hart, &mut self.core, &mut self.stopped)
+    }
+
+    /// What a hart's call heard in its last step, where an operation over whole inodes ended there.
+    pub fn heard(&self, hart: u8) -> Option<Heard>
+        ensures { IfSome (get_or self.now.calls hart None) (λ call. result ≡ call.control.heard) }
+    {
+        // What holds of the harts is needed in both cases.
+        let _ = &self.calls;
+        if hart >= HARTS {
+            return None;
+        }
+        self.calls.heard(hart)
     }
 
     /// Where the log's commit is.

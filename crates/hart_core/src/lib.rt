@@ -21,7 +21,7 @@ mod world;
 
 pub use crate::events::{Came, Event, Run};
 pub use crate::outcome::{Outcome, Stop};
-pub use crate::runs::run;
+pub use crate::runs::{Observer, run, run_noted};
 pub use crate::starts::{StartRefused, find_fault};
 pub use crate::traces::trace;
 pub use crate::world::World;

@@ -9,8 +9,20 @@ use crate::marks::{doubt_of, last_of, no_marks, note};
 use crate::world::World;
 use block_device::Device;
 use group_log::Marks;
+use path_walk::Heard;
 use plain_tree::NoMemory;
 use std::alloc::{AllocError, Global};
+
+/// Who is told of a run's events, in their order, as they are made. Nothing of the run depends on it.
+pub trait Observer {
+    /// What the next event came to; and what its hart's call heard, where one of its operations over whole inodes ended in it.
+    fn noted(&mut self, came: &Came, heard: Option<Heard>);
+}
+
+/// Nobody.
+impl Observer for () {
+    fn noted(&mut self, _came: &Came, _heard: Option<Heard>) {}
+}
 
 // A copy of each event.
 fn copies(alloc: Global, events: &[Event]) -> Result<Vec<Event>, AllocError>
@@ -28,8 +40,20 @@ struct Ran<D: Device> {
     marks: Marks,
 }
 
+fn hart_of(event: &Event) -> u8 {
+    match event {
+        Event::Start { hart, .. } => *hart,
+        Event::Step { hart } => *hart,
+    }
+}
+
 // These events, one after the other. It takes no memory.
-fn run_all<D: Device>(world: World<D>, events: Vec<Event>, room: Vec<Came>) -> Ran<D>
+fn run_all<D: Device, O: Observer>(
+    world: World<D>,
+    events: Vec<Event>,
+    room: Vec<Came>,
+    observer: &mut O,
+) -> Ran<D>
     requires empty { room.items ≡ [] }
     requires room { length events.items ≤ vec_capacity room }
     ensures history { HasMarks D.contents D.failures world.sizes world.harts events.items result.outcomes.items result.world.harts result.marks }
@@ -42,7 +66,9 @@ fn run_all<D: Device>(world: World<D>, events: Vec<Event>, room: Vec<Came>) -> R
     for event in events {
         let before = world.phase();
         let at_point = world.is_at_point();
+        let hart = hart_of(&event);
         let came = world.event(event);
+        observer.noted(&came, world.heard(hart));
         match outcomes.push(came) {
             Ok(()) => {}
             Err(_) => unreachable!(),
@@ -82,6 +108,23 @@ pub fn run<D: Device>(
     ensures sizes { IfOk result (λ r. r.world.sizes ≡ world.sizes) }
     ensures err { IfErr result (λ e. e.0 ≡ world) }
 {
+    run_noted(alloc, world, events, &mut ())
+}
+
+/// The same, and an observer is told of each event as it is made.
+pub fn run_noted<D: Device, O: Observer>(
+    alloc: Global,
+    world: World<D>,
+    events: &[Event],
+    observer: &mut O,
+) -> Result<Run<D>, (World<D>, NoMemory)>
+    ensures history { IfOk result (λ r. HasHistory D.contents D.failures world.sizes world.harts events.now r.outcomes.items r.world.harts) }
+    ensures explained { IfOk result (λ r. OneHistory D.contents D.failures world events.now r.outcomes.items r.world.harts) }
+    ensures stops { IfOk result (λ r. RunLeavesABeginning D.contents D.failures world events.now r.outcomes.items r.world.harts r.cut r.doubt) }
+    ensures each { IfOk result (λ r. length r.outcomes.items ≡ length events.now) }
+    ensures sizes { IfOk result (λ r. r.world.sizes ≡ world.sizes) }
+    ensures err { IfErr result (λ e. e.0 ≡ world) }
+{
     let Ok(copies) = copies(alloc, events) else {
         return Err((world, NoMemory));
     };
@@ -91,7 +134,7 @@ pub fn run<D: Device>(
                 world,
                 outcomes,
                 marks,
-            } = run_all(world, copies, room);
+            } = run_all(world, copies, room, observer);
             Ok(Run {
                 world,
                 outcomes,

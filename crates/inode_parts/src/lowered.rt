@@ -47,6 +47,8 @@ pub struct Lowered {
     list: Numbers,
     notes: Notes,
     part: InodePart,
+    // What the call heard in its last step, where an operation over whole inodes ended there.
+    heard: Option<Heard>,
     // What the call answers, once it has ended.
     says: CallAnswer,
 }
@@ -61,6 +63,7 @@ impl Lowered {
             list,
             notes: Notes::new(),
             part: InodePart::idle(),
+            heard: None,
             says: CallAnswer::Done,
         })
     }
@@ -79,10 +82,18 @@ impl Lowered {
         self.call = Whole::new(call);
         self.list.clear();
         self.notes = Notes::new();
+        self.heard = None;
         let ask = self.call.ask();
         let path = self.call.text();
         let second = self.call.second();
         self.part.begin(ask, sizes, path, second, &self.notes, hand);
+    }
+
+    /// What the call heard in its last step, where an operation over whole inodes ended there; also of a call that has ended.
+    pub fn heard(&self) -> Option<Heard>
+        ensures { result ≡ self.now.heard }
+    {
+        self.heard
     }
 
     /// The reply of the call, once it has ended.
@@ -174,6 +185,7 @@ impl Control for Lowered {
             hand,
             &mut heard,
         ) {
+            self.heard = Some(heard);
             if self.call.next(&heard, &mut self.list, &mut self.says) {
                 Some(())
             } else {
@@ -185,6 +197,7 @@ impl Control for Lowered {
                 None
             }
         } else {
+            self.heard = None;
             None
         }
     }

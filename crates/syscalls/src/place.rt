@@ -1,5 +1,5 @@
 //! The place of a hart's call.
-ghost use Rattle.std.specs.Prelude.{◌≡◌, ◌<◌, None, IfOk, IsSome, is_some};
+ghost use Rattle.std.specs.Prelude.{◌≡◌, ◌<◌, None, IfOk, IfSome, IsSome, is_some};
 ghost use Rattle.std.specs.Option.{MatchOption};
 ghost use Rattle.fs_machine.specs.Steps.{state_of};
 ghost use Rattle.fs_machine.specs.Machines.{MayNext};
@@ -17,6 +17,7 @@ use fs_layout::Super;
 use fs_machine::{Core, Kind, RetiredCore};
 use hands::{Answer, Hand, Machine};
 use inode_parts::Lowered;
+use path_walk::Heard;
 use plain_tree::{Call, Reply};
 use std::alloc::{AllocError, AllocFailed, Global};
 use std::marker::Model;
@@ -146,6 +147,14 @@ impl CallPlace {
             }
             Came::Stopped => Came::Stopped,
         }
+    }
+
+    /// What the call under way heard in its last step, where an operation over whole inodes ended there; also what the last one heard
+    /// last, once it has replied.
+    pub fn heard(&self) -> Option<Heard>
+        ensures { IfSome self.now (λ call. result ≡ call.control.heard) }
+    {
+        self.machine.control.heard()
     }
 
     /// Ends an idle place.

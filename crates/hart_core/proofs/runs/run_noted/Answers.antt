@@ -3,7 +3,7 @@ use Rattle.hart_core.specs.declared.events.Event.{Event}
 use Rattle.hart_core.specs.Stops.{HasMarks, RunLeavesABeginning, last_of}
 use Rattle.hart_core.proofs.Histories.{explained}
 use Rattle.hart_core.proofs.Stopping.{leaves_a_beginning}
-use Rattle.hart_core.proofs.runs.run.Goals as goal
+use Rattle.hart_core.proofs.runs.run_noted.Goals as goal
 
 pub returns-in-Ok-with_capacity-clause-history : goal.returns-in-Ok-with_capacity-clause-history
 returns-in-Ok-with_capacity-clause-history g c =
