@@ -201,9 +201,9 @@ const SHORT: &str = "0 fstat 0\n1 dup 0\n0 dup 1\nall\n9 dup 0\n";
 const SHORT_ANSWERS: &str =
     "0 dup refused 41 Busy\n0 fstat failed 6 BadDescriptor\n1 dup failed 6 BadDescriptor\n9 dup refused 45 NoSuchHart\n";
 
-// Each step stands as early as the order of the steps allows: here at its call's start.
+// Each step stands at the event at which it was made: here at its call's second.
 const SHORT_HISTORY: &str =
-    "event 0: 0 fstat 0: failed 6 BadDescriptor\nevent 1: 1 dup 0: failed 6 BadDescriptor\n";
+    "event 3: 0 fstat 0: failed 6 BadDescriptor\nevent 4: 1 dup 0: failed 6 BadDescriptor\n";
 
 // What is written, and how much of it was handed on at last.
 #[derive(Drop)]

@@ -3,8 +3,8 @@
 #![tactic(auto)]
 
 mod history;
+mod keep;
 mod play;
-mod ran;
 mod refused;
 
 pub use crate::history::explain;

@@ -1,11 +1,10 @@
-//! What `explain` needs besides a world: what calls tell of themselves, and where their steps acted.
+//! What `explain` needs besides a world: what calls tell of themselves, and the tree kept beside a run with the list of its steps.
 #![tactic(auto)]
 
-mod marks;
-mod numbers;
-mod order;
+mod kept;
 mod paths;
+mod sees;
+mod standing;
 
-pub use crate::marks::Ran;
-pub use crate::order::hints;
+pub use crate::kept::Kept;
 pub use crate::paths::{any_climbs, any_full};

@@ -5,6 +5,7 @@ ghost use Rattle.plain_tree.specs.Code.{with_element};
 ghost use Rattle.plain_tree.specs.Tree.{climbs, dotdot, elements, same_name};
 ghost use Rattle.explain_parts.specs.Told.{any_climbs, any_full, is_full_reply};
 
+use path_walk::Element;
 use plain_tree::{Answer, Call, TracedCall};
 
 const SLASH: u8 = b'/';
@@ -53,6 +54,17 @@ pub(crate) fn next_element(path: &[u8]) -> Option<(&[u8], &[u8])>
         rest = after;
     }
     None
+}
+
+/// The name of an element, which stands in a path or in the second one behind it; nothing where it stands in neither.
+pub(crate) fn name_in<'a>(path: &'a [u8], second: &'a [u8], element: &Element) -> &'a [u8] {
+    let len = path.len();
+    let name = if element.end <= len {
+        path.get(element.start..element.end)
+    } else {
+        second.get(element.start.saturating_sub(len)..element.end - len)
+    };
+    name.unwrap_or(&[])
 }
 
 // The name is "..".

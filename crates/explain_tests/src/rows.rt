@@ -80,8 +80,8 @@ const ROWS: [Row; 3] = [
     Row {
         text: UNLINKED,
         lines: &[
-            "1 mkdir /d: ok",
-            "1 open /d/f 512: fd 0",
+            "1 mkdir /d: ok, inode 2",
+            "1 open /d/f 512: fd 0, inode 3",
             "1 close 0: ok",
             "1 unlink /d/f: ok",
             "1 unlink /d: ok",
@@ -92,30 +92,30 @@ const ROWS: [Row; 3] = [
     Row {
         text: MADE_ANEW,
         lines: &[
-            "1 mkdir /d: ok",
-            "1 open /d/f 512: fd 0",
+            "1 mkdir /d: ok, inode 2",
+            "1 open /d/f 512: fd 0, inode 3",
             "1 close 0: ok",
             "1 unlink /d/f: ok",
             "1 unlink /d: ok",
             "0 open /d/f 0: failed 1 NoEntry",
-            "1 mkdir /d: ok",
-            "1 open /d/f 512: fd 0",
+            "1 mkdir /d: ok, inode 3",
+            "1 open /d/f 512: fd 0, inode 4",
         ],
         moves: &[(5, 4, true), (5, 3, false), (5, 6, true), (5, 7, false)],
     },
     Row {
         text: RAISE_TAKEN_BACK,
         lines: &[
-            "0 mkdir /d: ok",
+            "0 mkdir /d: ok, inode 2",
             "0 chdir /d: ok",
-            "1 open /f 512: fd 0",
+            "1 open /f 512: fd 0, inode 3",
             "0 find /f: ok",
             "1 unlink /d: ok",
             "0 bump: ok",
             "0 enter x: failed 1 NoEntry",
             "0 unbump: ok",
         ],
-        moves: &[(4, 5, true), (4, 6, false)],
+        moves: &[(5, 4, true), (4, 6, false)],
     },
 ];
 

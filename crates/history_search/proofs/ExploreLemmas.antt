@@ -17,7 +17,7 @@ use Rattle.history_search.specs.declared.position.Placing.TheVariants as placing
 use Rattle.history_search.specs.declared.position.Position.{Position}
 use Rattle.history_search.specs.Stands.{start}
 use Rattle.history_search.specs.Ordered.{IsDue}
-use Rattle.history_search.specs.Searching.{CallIsExplored, CanEnd, HasFound, IsExplored, IsPlaced, IsTried, IsAt, IsDead, IsDeadWith, IsHopeless, IsKept, IsMade, IsOfCall, IsSteppedOn, IsUndone, NeedsNumber, last_event, left, steps_left}
+use Rattle.history_search.specs.Searching.{CallIsExplored, CanEnd, HasFound, IsExplored, IsPlaced, IsTried, IsAt, IsDead, IsDeadWith, IsEarliest, IsHopeless, IsKept, IsMade, IsOfCall, IsSteppedOn, IsUndone, NeedsNumber, last_event, left, steps_left}
 use Rattle.history_search.proofs.StandLemmas.{acts_none}
 use Rattle.history_search.proofs.CallLemmas.{some_not, written_end}
 use Rattle.history_search.proofs.EndLemmas.{First, first, not_nothing}
@@ -67,13 +67,16 @@ due_on base t p q d at k due = record {
 
 -- ---- one step
 
+pub earliest : (p : Position) (d : Due) → IsDue p.ends d → IsEarliest p 0 d.limit
+earliest p d due = record { unwished = refl; due = d; is = due; at = refl }
+
 -- a step that was taken back, since nothing came of it
-pub taken_back : (base : TreeData) (t : Trace) (p q r s : Position) (id new : ℕ) → IsAt base t p → IsMade base t p id new q → IsKept base t q r → IsHopeless t q → IsUndone base t r s → IsKept base t p s × IsDeadWith t p id new
-taken_back base t p q r s id new at made kept hopeless undone =
+pub taken_back : (base : TreeData) (t : Trace) (p q r s : Position) (id new limit : ℕ) → IsAt base t p → IsMade base t p id new 0 limit q → IsEarliest p 0 limit → IsKept base t q r → IsHopeless t q → IsUndone base t r s → IsKept base t p s × IsDeadWith t p id new
+taken_back base t p q r s id new limit at made earliest kept hopeless undone =
     let list : s.list.items ≡ p.list.items = undone.list p.list.items made.more.entry (kept.same.list ∙ made.more.list) in
     let chain : Chain (tree_of base) p.list.items (tree_of s.tree) = subst (λ l. Chain (tree_of base) l (tree_of s.tree)) list undone.at.chain in (
       record { at = undone.at; same = record { list = list; tree = chain_one (tree_of base) p.list.items (tree_of s.tree) (tree_of p.tree) chain at.chain } },
-      made.ruled_out hopeless,
+      made.ruled_out earliest hopeless,
     )
 
 -- zero stands for every number
@@ -155,11 +158,20 @@ tried_not base t p q id new tried.Found not some h = absurd (not refl)
 tried_not base t p q id new tried.Dead not some h = h
 tried_not base t p q id new tried.BadChoice not some h = (h.0, h.2 some)
 
-pub placed_made : (base : TreeData) (t : Trace) (p q : Position) (id new : ℕ) (r : Placing) → r ≡ placing.Made → IsPlaced base t p id new r q → IsMade base t p id new q
-placed_made base t p q id new r e h = subst (λ (x : Placing). IsPlaced base t p id new x q) e h
+pub placed_made : (base : TreeData) (t : Trace) (p q : Position) (id new limit : ℕ) (r : Placing) → r ≡ placing.Made → IsPlaced base t p id new 0 limit r q → IsMade base t p id new 0 limit q
+placed_made base t p q id new limit r e h = subst (λ (x : Placing). IsPlaced base t p id new 0 limit x q) e h
 
-pub placed_bad : (base : TreeData) (t : Trace) (p q : Position) (id new : ℕ) (r : Placing) → r ≡ placing.BadChoice → IsPlaced base t p id new r q → IsKept base t p q
-placed_bad base t p q id new r e h = (let k : IsKept base t p q × NeedsNumber t p id × (new ≢ 0 → IsDeadWith t p id new) = subst (λ (x : Placing). IsPlaced base t p id new x q) e h in k.0)
+pub placed_not : (base : TreeData) (t : Trace) (p q : Position) (id new limit : ℕ) (r : Placing) → r ≡ placing.Refused → IsPlaced base t p id new 0 limit r q → IsEarliest p 0 limit → IsKept base t p q × IsDeadWith t p id new
+placed_not base t p q id new limit r e h earliest = (let k : IsKept base t p q × (IsEarliest p 0 limit → IsDeadWith t p id new) = subst (λ (x : Placing). IsPlaced base t p id new 0 limit x q) e h in (k.0, k.1 earliest))
+
+-- whatever came of it
+pub placed_at_all : (base : TreeData) (t : Trace) (p q : Position) (id new wish limit : ℕ) (r : Placing) → IsPlaced base t p id new wish limit r q → IsAt base t q
+placed_at_all base t p q id new wish limit placing.Made h = h.at
+placed_at_all base t p q id new wish limit placing.Refused h = h.0.at
+placed_at_all base t p q id new wish limit placing.BadChoice h = h.0.at
+
+pub placed_bad : (base : TreeData) (t : Trace) (p q : Position) (id new wish limit : ℕ) (r : Placing) → r ≡ placing.BadChoice → IsPlaced base t p id new wish limit r q → IsKept base t p q
+placed_bad base t p q id new wish limit r e h = (let k : IsKept base t p q × NeedsNumber t p id × (new ≢ 0 → IsDeadWith t p id new) = subst (λ (x : Placing). IsPlaced base t p id new wish limit x q) e h in k.0)
 
 pub stepped_not : (base : TreeData) (t : Trace) (p q : Position) (b : Bool) → b ≡ false → IsSteppedOn base t p b q → IsKept base t p q
 stepped_not base t p q b e h = subst (λ x. IsSteppedOn base t p x q) e h

@@ -22,12 +22,10 @@ use Rattle.plain_tree.specs.Checked.{Leads}
 use Rattle.plain_tree.specs.Explains.{AllBelong, Belongs, Chain, IsInTime, Rises, act_of, acts_of}
 use Rattle.plain_tree.proofs.LeadLemmas.{step_placed}
 use Rattle.plain_tree.proofs.StepLaws.{applied_step, chain_one, step_one}
-use Rattle.history_search.specs.declared.ends.Due.{Due}
 use Rattle.history_search.specs.declared.position.Position.{Position}
 use Rattle.history_search.specs.declared.stand.Stand.{Stand}
 use Rattle.history_search.specs.Stands.{after, next_from, stand_from, stand_of, start}
-use Rattle.history_search.specs.Ordered.{IsDue}
-use Rattle.history_search.specs.Searching.{AreOfCalls, CanEnd, Fits, IsAt, IsDeadWith, IsHopeless, IsKept, IsMade, IsOfCall, IsTimely, Precedes, end_at, end_of, last_event, left, most, steps_left}
+use Rattle.history_search.specs.Searching.{AreOfCalls, CanEnd, Fits, IsAt, IsDeadWith, IsEarliest, IsHopeless, IsKept, IsLimit, IsMade, IsOfCall, IsTimely, Precedes, end_at, end_of, last_event, left, most, steps_left}
 use Rattle.history_search.proofs.StandLemmas.{next_is, stand_count, stand_push, push_own, push_other, acts_none}
 use Rattle.history_search.proofs.CallLemmas.{call_front, call_push, call_start}
 use Rattle.history_search.proofs.EndLemmas.{can_swap}
@@ -53,16 +51,16 @@ not_through : (c : TracedCall) (r : ℕ × Reply) (a : Action) (n : Option Actio
 not_through c r a n is fin = ap (λ (x : Option Action). end_of c (is_nothing x)) is ∙ ap end_at fin
 
 -- an event that is timely is in the call's time
-in_time : (base : TreeData) (t : Trace) (p : Position) (id event : ℕ) (c : TracedCall) (a : Action) (d : Due) → IsAt base t p → slice_get t.calls id ≡ Some c → IsDue p.ends d → next_from c.call (get_or p.stands.items id start) ≡ Some a → IsTimely c.finished event d.limit t.events → IsInTime t.events event c.finished
-in_time base t p id event c a d at is due next timely = go c.finished refl timely where
-  go : (f : Option (ℕ × Reply)) → c.finished ≡ f → IsTimely f event d.limit t.events → IsInTime t.events event f
+in_time : (base : TreeData) (t : Trace) (p : Position) (id event : ℕ) (c : TracedCall) (a : Action) (limit : ℕ) → IsAt base t p → slice_get t.calls id ≡ Some c → IsLimit p.ends limit → next_from c.call (get_or p.stands.items id start) ≡ Some a → IsTimely c.finished event limit t.events → IsInTime t.events event c.finished
+in_time base t p id event c a limit at is below next timely = go c.finished refl timely where
+  go : (f : Option (ℕ × Reply)) → c.finished ≡ f → IsTimely f event limit t.events → IsInTime t.events event f
   go None e w = w.1
   go (Some r) e w =
       let of : IsOfCall c (acts_of id p.list.items) (get_or p.stands.items id start) (get_or p.ends id None) = at.calls id c is in
       let n : next_of c.call (acts_of id p.list.items) ≡ Some a = next_is c.call (acts_of id p.list.items) ∙ (ap (λ (s : Stand). next_from c.call s) (sym of.stand) ∙ next) in
       let end : get_or p.ends id None ≡ Some r.0 = of.end ∙ not_through c r a (next_of c.call (acts_of id p.list.items)) n e in
-      let le : d.limit ≤ r.0 = due.least id r.0 end in
-      let lt : event ≤ d.limit = w in
+      let le : limit ≤ r.0 = below id r.0 end in
+      let lt : event ≤ limit = w in
       omega arith
 
 limit_of : (f : Option (ℕ × Reply)) (event limit events : ℕ) → IsTimely f event limit events → event ≤ limit
@@ -80,9 +78,9 @@ end_some c false e h = go c.finished refl h where
 in_time_at : (events event : ℕ) (f : Option (ℕ × Reply)) (r : ℕ × Reply) → f ≡ Some r → IsInTime events event f → event ≤ r.0
 in_time_at events event f r e h = subst (λ g. IsInTime events event g) e h
 
-precedes_push : (p : Position) (id event : ℕ) (c : TracedCall) (x : Placed) (d : Due) (e : Option ℕ) (through : Bool) (events : ℕ) → IsDue p.ends d → id < length p.ends → x.event ≡ event → event ≤ d.limit → e ≡ end_of c through → IsInTime events event c.finished
+precedes_push : (p : Position) (id event : ℕ) (c : TracedCall) (x : Placed) (limit : ℕ) (e : Option ℕ) (through : Bool) (events : ℕ) → IsLimit p.ends limit → id < length p.ends → x.event ≡ event → event ≤ limit → e ≡ end_of c through → IsInTime events event c.finished
     → Precedes (p.list.items ++ x ∷ []) (set p.ends id e)
-precedes_push p id event c x d e through events due lt at le end time k n h = elim (cases_eq k id) [
+precedes_push p id event c x limit e through events below lt at le end time k n h = elim (cases_eq k id) [
   | inl y ↦ (
       let own : e ≡ Some n = sym (get_or-set_same p.ends id e None lt) ∙ (ap (λ j. get_or (set p.ends id e) j None) (sym y) ∙ h) in
       let r = end_some c through n (sym end ∙ own) in
@@ -91,18 +89,18 @@ precedes_push p id event c x d e through events due lt at le end time k n h = el
       )
   | inr ne ↦ (
       let other : get_or p.ends k None ≡ Some n = sym (get_or-set_other p.ends id k e None ne) ∙ h in
-      omega (arith, last_push p.list.items x, due.least k n other)
+      omega (arith, last_push p.list.items x, below k n other)
       )
 ]
 
-pub record Placing (base : TreeData) (t : Trace) (p : Position) (id new event : ℕ) (c : TracedCall) (d : Due) (a : Action) (b : StepAnswer) (u : Tree) (s : Stand) (e : Option ℕ) (q : Position) : Type 0 where
+pub record Placing (base : TreeData) (t : Trace) (p : Position) (id new wish event : ℕ) (c : TracedCall) (limit : ℕ) (a : Action) (b : StepAnswer) (u : Tree) (s : Stand) (e : Option ℕ) (q : Position) : Type 0 where
   pub at : IsAt base t p
   pub is : slice_get t.calls id ≡ Some c
-  pub due : IsDue p.ends d
+  pub below : IsLimit p.ends limit
   pub low : last_event p.list.items ≤ event
   pub started : c.start ≤ event
-  pub least : (n : ℕ) → last_event p.list.items ≤ n → c.start ≤ n → event ≤ n
-  pub timely : IsTimely c.finished event d.limit t.events
+  pub least : wish ≡ 0 → (n : ℕ) → last_event p.list.items ≤ n → c.start ≤ n → event ≤ n
+  pub timely : IsTimely c.finished event limit t.events
   pub next : next_from c.call (get_or p.stands.items id start) ≡ Some a
   pub place : IsInPlace (tree_of p.tree) c.hart a
   pub made : IsApplied (tree_of p.tree) (record { hart = c.hart; new = new; action = a }) b u
@@ -114,18 +112,18 @@ pub record Placing (base : TreeData) (t : Trace) (p : Position) (id new event : 
   pub stands : q.stands.items ≡ set p.stands.items id s
   pub ends : q.ends ≡ set p.ends id e
 
-placed_at : (base : TreeData) (t : Trace) (p : Position) (id new event : ℕ) (c : TracedCall) (d : Due) (a : Action) (b : StepAnswer) (u : Tree) (s : Stand) (e : Option ℕ) (q : Position) → Placing base t p id new event c d a b u s e q → IsAt base t q
-placed_at base t p id new event c d a b u s e q w =
+placed_at : (base : TreeData) (t : Trace) (p : Position) (id new wish event : ℕ) (c : TracedCall) (limit : ℕ) (a : Action) (b : StepAnswer) (u : Tree) (s : Stand) (e : Option ℕ) (q : Position) → Placing base t p id new wish event c limit a b u s e q → IsAt base t q
+placed_at base t p id new wish event c limit a b u s e q w =
     let y : Placed = entry c event id new a b in
     let lt : id < length t.calls = slice_get_within t.calls id c w.is in
     let lts : id < length p.stands.items = omega (arith, w.at.stands) in
     let lte : id < length p.ends = omega (arith, w.at.ends) in
     let step : Step (tree_of p.tree) y.step y.answer u = applied_step (tree_of p.tree) y.step w.made.id b u w.place w.made.least w.made.made in
-    let time : IsInTime t.events event c.finished = in_time base t p id event c a d w.at w.is w.due w.next w.timely in
+    let time : IsInTime t.events event c.finished = in_time base t p id event c a limit w.at w.is w.below w.next w.timely in
     let belong : Belongs t y = record { traced = c; is = w.is; hart = refl; after_start = w.started; before_return = time } in
     let of : IsOfCall c (acts_of id p.list.items ++ act_of y ∷ []) s e = call_push c (acts_of id p.list.items) (act_of y) (get_or p.stands.items id start) s (get_or p.ends id None) e (w.at.calls id c w.is) w.next w.stand w.end w.fits in
     let calls : AreOfCalls t.calls (p.list.items ++ y ∷ []) (set p.stands.items id s) (set p.ends id e) = calls_push t.calls p.list.items p.stands.items p.ends id y c s e w.at.calls w.is refl lts lte of in
-    let before : Precedes (p.list.items ++ y ∷ []) (set p.ends id e) = precedes_push p id event c y d e (is_nothing (next_from c.call s)) t.events w.due lte refl (limit_of c.finished event d.limit t.events w.timely) w.end time in record {
+    let before : Precedes (p.list.items ++ y ∷ []) (set p.ends id e) = precedes_push p id event c y limit e (is_nothing (next_from c.call s)) t.events w.below lte refl (limit_of c.finished event limit t.events w.timely) w.end time in record {
       chain = subst (λ (z : Tree). Chain (tree_of base) q.list.items z) (sym w.tree) (subst (λ l. Chain (tree_of base) l u) (sym w.list) (chain_push (tree_of base) (tree_of p.tree) u p.list.items y w.at.chain step));
       rises = subst (λ l. Rises 0 l) (sym w.list) (rises_push p.list.items y w.at.rises w.low);
       belongs = subst (λ l. AllBelong t l) (sym w.list) (belong_push t p.list.items y w.at.belongs belong);
@@ -138,18 +136,18 @@ placed_at base t p id new event c d a b u s e q w =
 act_is : (s t : Action) (a b : StepAnswer) → s ≡ t → a ≡ b → let x : Act = record { step = s; answer = a } in x ≡ record { step = t; answer = b }
 act_is s t a b e f = cc
 
-placed_rules_out : (base : TreeData) (t : Trace) (p : Position) (id new event : ℕ) (c : TracedCall) (d : Due) (a : Action) (b : StepAnswer) (u : Tree) (s : Stand) (e : Option ℕ) (q : Position) → Placing base t p id new event c d a b u s e q → IsHopeless t q → IsDeadWith t p id new
-placed_rules_out base t p id new event c d a b u s e q w hopeless lo x rest low own same can =
+placed_rules_out : (base : TreeData) (t : Trace) (p : Position) (id new wish event : ℕ) (c : TracedCall) (limit : ℕ) (a : Action) (b : StepAnswer) (u : Tree) (s : Stand) (e : Option ℕ) (q : Position) → Placing base t p id new wish event c limit a b u s e q → IsEarliest p wish limit → IsHopeless t q → IsDeadWith t p id new
+placed_rules_out base t p id new wish event c limit a b u s e q w earliest hopeless lo x rest low own same can =
     let y : Placed = entry c event id new a b in
     let come : Coming t p id c x rest = coming base t p id lo c x rest w.at w.is low own can in
     let app : Applied t p id c x rest a b u = applied t p id new c x rest a b u w.next w.place w.made same come in
     let swapped : CanEnd t u (p.list.items ++ y ∷ []) x.event rest = can_swap t app.tree u p.list.items x y x.event rest own (act_is x.step.action a x.answer b app.action app.answer) app.is app.later in
     let there : CanEnd t (tree_of q.tree) q.list.items x.event rest = subst (λ (z : Tree). CanEnd t z q.list.items x.event rest) (sym w.tree) (subst (λ l. CanEnd t u l x.event rest) (sym w.list) swapped) in
     let last : last_event q.list.items ≡ event = ap last_event w.list ∙ last_push p.list.items y in
-    hopeless x.event rest (omega (arith, w.least x.event come.low come.started)) there
+    hopeless x.event rest (omega (arith, w.least earliest.unwished x.event come.low come.started)) there
 
-placed_fewer : (base : TreeData) (t : Trace) (p : Position) (id new event : ℕ) (c : TracedCall) (d : Due) (a : Action) (b : StepAnswer) (u : Tree) (s : Stand) (e : Option ℕ) (q : Position) → Placing base t p id new event c d a b u s e q → steps_left t q < steps_left t p
-placed_fewer base t p id new event c d a b u s e q w =
+placed_fewer : (base : TreeData) (t : Trace) (p : Position) (id new wish event : ℕ) (c : TracedCall) (limit : ℕ) (a : Action) (b : StepAnswer) (u : Tree) (s : Stand) (e : Option ℕ) (q : Position) → Placing base t p id new wish event c limit a b u s e q → steps_left t q < steps_left t p
+placed_fewer base t p id new wish event c limit a b u s e q w =
     let y : Placed = entry c event id new a b in
     let of : IsOfCall c (acts_of id p.list.items) (get_or p.stands.items id start) (get_or p.ends id None) = w.at.calls id c w.is in
     let n : (get_or p.stands.items id start).count ≡ length (acts_of id p.list.items) = ap (λ (z : Stand). z.count) of.stand ∙ (stand_count start (acts_of id p.list.items) ∙ omega arith) in
@@ -157,12 +155,12 @@ placed_fewer base t p id new event c d a b u s e q w =
     let less : left 0 t.calls (p.list.items ++ y ∷ []) < left 0 t.calls p.list.items = left_less id 0 t.calls p.list.items y c (omega arith) w.is (omega arith) in
     subst (λ l. left 0 t.calls l < left 0 t.calls p.list.items) (sym w.list) less
 
-pub placed : (base : TreeData) (t : Trace) (p : Position) (id new event : ℕ) (c : TracedCall) (d : Due) (a : Action) (b : StepAnswer) (u : Tree) (s : Stand) (e : Option ℕ) (q : Position) → Placing base t p id new event c d a b u s e q → IsMade base t p id new q
-placed base t p id new event c d a b u s e q w = record {
-  at = placed_at base t p id new event c d a b u s e q w;
+pub placed : (base : TreeData) (t : Trace) (p : Position) (id new wish event : ℕ) (c : TracedCall) (limit : ℕ) (a : Action) (b : StepAnswer) (u : Tree) (s : Stand) (e : Option ℕ) (q : Position) → Placing base t p id new wish event c limit a b u s e q → IsMade base t p id new wish limit q
+placed base t p id new wish event c limit a b u s e q w = record {
+  at = placed_at base t p id new wish event c limit a b u s e q w;
   more = record { entry = entry c event id new a b; call = refl; list = w.list };
-  fewer = placed_fewer base t p id new event c d a b u s e q w;
-  ruled_out = placed_rules_out base t p id new event c d a b u s e q w;
+  fewer = placed_fewer base t p id new wish event c limit a b u s e q w;
+  ruled_out = placed_rules_out base t p id new wish event c limit a b u s e q w;
 }
 
 -- ---- the tree again

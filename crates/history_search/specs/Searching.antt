@@ -13,12 +13,14 @@ use Rattle.plain_tree.specs.Steps.{is_nothing}
 use Rattle.plain_tree.specs.Calls.{Act, Follows, had_room, next_of, piece_count, reply_of}
 use Rattle.plain_tree.specs.Checked.{Leads, is_full}
 use Rattle.plain_tree.specs.Explains.{AllBelong, Chain, IsWritten, Rises, acts_of}
+use Rattle.history_search.specs.declared.ends.Due.{Due}
 use Rattle.history_search.specs.declared.explore.Tried.{Tried}
 use Rattle.history_search.specs.declared.explore.Tried.TheVariants as tried
 use Rattle.history_search.specs.declared.position.Placing.{Placing}
 use Rattle.history_search.specs.declared.position.Placing.TheVariants as placing
 use Rattle.history_search.specs.declared.position.Position.{Position}
 use Rattle.history_search.specs.declared.stand.Stand.{Stand}
+use Rattle.history_search.specs.Ordered.{IsDue}
 use Rattle.history_search.specs.Stands.{is_told, reply_at, stand_of, start}
 
 -- the number of the last entry's event
@@ -129,20 +131,31 @@ pub record IsMore (p : Position) (id : ℕ) (q : Position) : Type 0 where
 
 -- What came of a try to place the next step of a call.
 
-pub record IsMade (base : TreeData) (t : Trace) (p : Position) (id new : ℕ) (q : Position) : Type 0 where
+-- no call that has to go on has to return before this event
+abbrev pub IsLimit : List (Option ℕ) → ℕ → Type 0
+IsLimit ends limit = (id e : ℕ) → slice_index_or ends id None ≡ Some e → limit ≤ e
+
+-- No later event was wished for, and at the limit some call has to return: then it is placed as early as any may be.
+pub record IsEarliest (p : Position) (wish limit : ℕ) : Type 0 where
+  pub unwished : wish ≡ 0
+  pub due : Due
+  pub is : IsDue p.ends due
+  pub at : due.limit ≡ limit
+
+pub record IsMade (base : TreeData) (t : Trace) (p : Position) (id new wish limit : ℕ) (q : Position) : Type 0 where
   pub at : IsAt base t q
   pub more : IsMore p id q
   pub fewer : steps_left t q < steps_left t p
-  pub ruled_out : IsHopeless t q → IsDeadWith t p id new
+  pub ruled_out : IsEarliest p wish limit → IsHopeless t q → IsDeadWith t p id new
 
 pub record IsKept (base : TreeData) (t : Trace) (p q : Position) : Type 0 where
   pub at : IsAt base t q
   pub same : IsSame p q
 
-abbrev pub IsPlaced : TreeData → Trace → Position → ℕ → ℕ → Placing → Position → Type 0
-IsPlaced base t p id new placing.Made q = IsMade base t p id new q
-IsPlaced base t p id new placing.Refused q = IsKept base t p q × IsDeadWith t p id new
-IsPlaced base t p id new placing.BadChoice q = IsKept base t p q × NeedsNumber t p id × (new ≢ 0 → IsDeadWith t p id new)
+abbrev pub IsPlaced : TreeData → Trace → Position → ℕ → ℕ → ℕ → ℕ → Placing → Position → Type 0
+IsPlaced base t p id new wish limit placing.Made q = IsMade base t p id new wish limit q
+IsPlaced base t p id new wish limit placing.Refused q = IsKept base t p q × (IsEarliest p wish limit → IsDeadWith t p id new)
+IsPlaced base t p id new wish limit placing.BadChoice q = IsKept base t p q × NeedsNumber t p id × (new ≢ 0 → IsDeadWith t p id new)
 
 -- the last entry is taken back
 pub record IsUndone (base : TreeData) (t : Trace) (p q : Position) : Type 0 where

@@ -11,13 +11,14 @@ use crate::position::{Placing, Position};
 use plain_tree::{NoMemory, Placed, Trace, Tree};
 use std::alloc::Global;
 
-/// A step to be tried before others: the step of the call at place `call` of the trace that comes after `step` of them,
-/// with this number for a node that it makes.
+/// A step to be tried before others: the step of the call at place `call` of the trace that comes after `step` of them, with this
+/// number for a node that it makes. It is placed at this event, where it may stand there.
 #[derive(Clone, Copy)]
 pub struct Hint {
     pub call: usize,
     pub step: usize,
     pub new: u16,
+    pub event: u64,
 }
 
 /// What came of a step that was tried.
@@ -63,7 +64,7 @@ impl Position {
         requires due { IsDue self.old.ends due }
         ensures { IfOk result (λ r. IsTried base.now trace.now self.old id new r self.new) }
     {
-        match self.place(alloc, base, trace, id, new, due)? {
+        match self.place(alloc, base, trace, id, new, 0, due.limit)? {
             Placing::Made => {
                 if self.explore(alloc, base, trace, hints, from)? {
                     return Ok(Tried::Found);

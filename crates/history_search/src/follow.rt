@@ -18,6 +18,7 @@ impl Position {
         base: &Tree,
         trace: &Trace,
         id: usize,
+        wish: u64,
         due: Due,
     ) -> Attempt<bool>
         requires at { IsAt base.now trace.now self.old }
@@ -26,7 +27,7 @@ impl Position {
     {
         let ninodes = self.tree.ninodes().min(65536);
         for number in 1..ninodes {
-            match self.place(alloc, base, trace, id, number as u16, due)? {
+            match self.place(alloc, base, trace, id, number as u16, wish, due.limit)? {
                 Placing::Made => return Ok(true),
                 Placing::Refused => return Ok(false),
                 Placing::BadChoice => {}
@@ -43,16 +44,17 @@ impl Position {
         trace: &Trace,
         id: usize,
         preferred: u16,
+        wish: u64,
         due: Due,
     ) -> Attempt<bool>
         requires at { IsAt base.now trace.now self.old }
         requires due { IsDue self.old.ends due }
         ensures { IfOk result (λ b. IsSteppedOn base.now trace.now self.old b self.new) }
     {
-        match self.place(alloc, base, trace, id, preferred, due)? {
+        match self.place(alloc, base, trace, id, preferred, wish, due.limit)? {
             Placing::Made => Ok(true),
             Placing::Refused => Ok(false),
-            Placing::BadChoice => self.step_on_numbers(alloc, base, trace, id, due),
+            Placing::BadChoice => self.step_on_numbers(alloc, base, trace, id, wish, due),
         }
     }
 
@@ -69,25 +71,49 @@ impl Position {
         requires due { IsDue self.old.ends due }
         ensures { IfOk result (λ b. IsSteppedOn base.now trace.now self.old b self.new) }
     {
-        let (first, preferred) = match hint {
-            Some(hint) => (hint.call, hint.new),
-            None => (due.id, 0),
+        let (first, preferred, wish) = match hint {
+            Some(hint) => (hint.call, hint.new, hint.event),
+            None => (due.id, 0, 0),
         };
-        if self.step_on_call(alloc, base, trace, first, preferred, due)? {
+        if self.step_on_call(alloc, base, trace, first, preferred, wish, due)? {
             return Ok(true);
         }
-        if self.step_on_call(alloc, base, trace, due.id, 0, due)? {
+        if self.step_on_call(alloc, base, trace, due.id, 0, 0, due)? {
             return Ok(true);
         }
         for id in 0..trace.calls.as_slice().len() {
-            if self.step_on_call(alloc, base, trace, id, 0, due)? {
+            if self.step_on_call(alloc, base, trace, id, 0, 0, due)? {
                 return Ok(true);
             }
         }
         Ok(false)
     }
 
-    /// Places steps as long as one fits.
+    /// Places the steps of calls that haven't replied, to which hints lead, where no call has to go on.
+    fn append(&mut self, alloc: Global, base: &Tree, trace: &Trace, hints: &[Hint]) -> Attempt<()>
+        requires { IsAt base.now trace.now self.old }
+        ensures { IfOk result (λ _. IsAt base.now trace.now self.new) }
+    {
+        for hint in hints {
+            if let Some(_) = self.due() {
+                return Ok(());
+            }
+            if self.awaits(trace, hint.call, hint.step) {
+                self.place(
+                    alloc,
+                    base,
+                    trace,
+                    hint.call,
+                    hint.new,
+                    hint.event,
+                    u64::MAX,
+                )?;
+            }
+        }
+        Ok(())
+    }
+
+    /// Places steps as long as one fits; and, where no call has to go on any more, those that hints tell of others.
     pub(crate) fn follow(
         &mut self,
         alloc: Global,
@@ -106,6 +132,6 @@ impl Position {
                 return Ok(());
             }
         }
-        Ok(())
+        self.append(alloc, base, trace, hints.get(from..).unwrap_or(&[]))
     }
 }

@@ -4,7 +4,7 @@ ghost use Rattle.plain_tree.specs.Checked.{Leads};
 ghost use Rattle.plain_tree.specs.Explains.{Chain, acts_of};
 ghost use Rattle.plain_tree.specs.Tree.{tree_of};
 ghost use Rattle.history_search.specs.Ordered.{IsDue};
-ghost use Rattle.history_search.specs.Searching.{Fits, IsAt, IsKept, IsMore, IsPlaced, IsThrough, IsTimely, IsUndone, end_of, last_event};
+ghost use Rattle.history_search.specs.Searching.{Fits, IsAt, IsKept, IsLimit, IsMore, IsPlaced, IsThrough, IsTimely, IsUndone, end_of, last_event};
 ghost use Rattle.history_search.specs.Stands.{next_from, stand_of};
 ghost use Rattle.plain_tree.specs.Steps.{is_nothing};
 
@@ -76,6 +76,20 @@ fn is_timely(traced: &TracedCall, event: u64, limit: u64, events: u64) -> bool
     ensures { IsTrue result ↔ IsTimely traced.now.finished event limit events }
 {
     event <= limit && (traced.finished.is_some() || event < events)
+}
+
+/// The number that the step gets: the one that is wished for, where it is above the least and the step may have it.
+fn event_for(traced: &TracedCall, least: u64, wish: u64, limit: u64, events: u64) -> u64
+    requires { IsTimely traced.now.finished least limit events }
+    ensures timely { IsTimely traced.now.finished result limit events }
+    ensures least { least ≤ result }
+    ensures unwished { wish ≡ 0 → result ≡ least }
+{
+    if wish > least && is_timely(traced, wish, limit, events) {
+        wish
+    } else {
+        least
+    }
 }
 
 /// A finished call may have this answer.
@@ -155,7 +169,8 @@ impl Position {
         }
     }
 
-    /// Places the next step of the call, with this number for a node that it makes.
+    /// Places the next step of the call, with this number for a node that it makes; at the event that is wished for, where it may
+    /// stand there, else as early as it may stand. No call has to return before the limit.
     pub(crate) fn place(
         &mut self,
         alloc: Global,
@@ -163,17 +178,18 @@ impl Position {
         trace: &Trace,
         id: usize,
         new: u16,
-        due: Due,
+        wish: u64,
+        limit: u64,
     ) -> Attempt<Placing>
         requires at { IsAt base.now trace.now self.old }
-        requires due { IsDue self.old.ends due }
-        ensures { IfOk result (λ r. IsPlaced base.now trace.now self.old id new r self.new) }
+        requires limit { IsLimit self.old.ends limit }
+        ensures { IfOk result (λ r. IsPlaced base.now trace.now self.old id new wish limit r self.new) }
     {
         let Some(traced) = trace.calls.as_slice().get(id) else {
             return Ok(Placing::Refused);
         };
-        let event = last_event(&self.list).max(traced.start);
-        if !is_timely(traced, event, due.limit, trace.events) {
+        let least = last_event(&self.list).max(traced.start);
+        if !is_timely(traced, least, limit, trace.events) {
             return Ok(Placing::Refused);
         }
         let stand = self.stands[id];
@@ -198,6 +214,7 @@ impl Position {
             self.tree = tree_after(alloc, base, &self.list)?;
             return Ok(Placing::Refused);
         }
+        let event = event_for(traced, least, wish, limit, trace.events);
         self.list.push(Placed {
             event,
             call: id,

@@ -1,15 +1,15 @@
 //! A stop behind each event of a row: the disk has the tree that a beginning of its history leads to.
-use crate::histories::{history_of, is_named_after};
+use crate::histories::is_named_after;
 use crate::images::{SMALL, disk_of};
-use crate::lists::{Ended, Group, Made, first, groups_in, mounted_again, play, run_over, traced};
+use crate::lists::{Ended, Group, first, groups_in, mounted_again, play, run_over};
 use crate::rows::Line;
 use crate::worked::{
     DIRECTORY_IS_MADE, EMPTIED, LINKED_AND_UNLINKED, RAISED_AND_LOWERED, TWO_PIECES, WALK_IS_LOST,
 };
-use fs_machine::Kind;
-use hart_core::{Came, Event, Outcome};
-use plain_tree::{Call, Placed, Trace};
-use std::alloc::Global;
+use explain::{ExplainRefused, explain};
+use hart_core::Event;
+use plain_tree::Placed;
+use std::alloc::{AllocError, Global};
 use std::process::Abort;
 use std::test::Fail;
 
@@ -23,81 +23,44 @@ const STOPPED: &[(&[Line<'static>], usize)] = &[
     (RAISED_AND_LOWERED, 3),
 ];
 
-fn is_leave(made: &Made, hart: u8, event: usize) -> bool {
-    let is_step = match made.events.get(event) {
-        Some(Event::Step { hart: other }) => *other == hart,
-        _ => false,
-    };
-    is_step
-        && matches!(
-            made.outcomes.get(event),
-            Some(Came::Stepped(Outcome::Ran(Kind::Leave)))
-        )
-}
-
-// The event in which a hart left its transaction for this time, from one event to another one; or that one.
-fn leave_of(made: &Made, hart: u8, from: u64, to: u64, time: usize) -> u64 {
-    let mut left = time;
-    for event in from..to {
-        if is_leave(made, hart, event as usize) {
-            if left == 0 {
-                return event;
-            }
-            left -= 1;
-        }
-    }
-    to
-}
-
-// How many steps of the same call come before this one.
-fn steps_before(list: &[Placed], place: usize, call: usize) -> usize {
-    let mut count = 0usize;
-    for placed in first(list, place) {
-        if placed.call == call {
-            count = count.saturating_add(1);
-        }
-    }
-    count
-}
-
-// The event by which a step of the list is all made: that in which its hart leaves the step's transaction. Each piece of a write has a
-// transaction of its own, and else the steps of a call have one; of a call without one it is the reply's.
-fn made_at(made: &Made, trace: &Trace, list: &[Placed], place: usize) -> Option<u64> {
-    let id = list.get(place)?.call;
-    let call = trace.calls.as_slice().get(id)?;
-    let (end, _reply) = call.finished.as_ref()?;
-    let time = match &call.call {
-        Call::Write { .. } => steps_before(list, place, id),
-        _ => 0,
-    };
-    Some(leave_of(made, call.hart, call.start, *end, time))
-}
-
-fn is_up_to(event: Option<u64>, cut: Option<u64>) -> bool {
-    match (event, cut) {
-        (Some(event), Some(cut)) => event <= cut,
-        _ => false,
+// The list that is handed out for these events.
+fn list_of(alloc: Global, events: &[Event]) -> Result<Vec<Placed>, Fail> {
+    let image = disk_of(alloc, SMALL)?.into_bytes();
+    match explain(alloc, image.as_slice(), events) {
+        Ok(list) => Ok(list),
+        Err(ExplainRefused::NoMemory) => Err(Fail::from(AllocError)),
+        Err(_) => Err(Fail::new("no list is handed out")),
     }
 }
 
-// How many steps of the list are made up to an event. They are its first ones.
-fn steps_up_to(
-    rt: &impl Abort,
-    made: &Made,
-    trace: &Trace,
-    list: &[Placed],
-    cut: Option<u64>,
-) -> usize {
-    let mut count = 0;
-    for place in 0..list.len() {
-        let at = made_at(made, trace, list, place);
-        assert!(rt; at.is_some());
-        if is_up_to(at, cut) {
-            assert!(rt; count == place, "step {place} is made before another one");
-            count = place.saturating_add(1);
-        }
+// Its first entries, up to that event.
+fn up_to(list: &[Placed], cut: Option<u64>) -> &[Placed] {
+    match cut {
+        Some(cut) => first(
+            list,
+            list.iter().take_while(|placed| placed.event <= cut).count(),
+        ),
+        None => &[],
     }
-    count
+}
+
+fn is_same_entry(entry: &Placed, wanted: &Placed) -> bool {
+    (entry.event, entry.call) == (wanted.event, wanted.call)
+        && (entry.step.hart, entry.step.new) == (wanted.step.hart, wanted.step.new)
+        && entry.answer == wanted.answer
+}
+
+// Of the first so many events the list is that of all, up to there: nothing is put into the past.
+fn is_beginning(list: &[Placed], whole: &[Placed], count: usize) -> bool {
+    let before = whole
+        .iter()
+        .take_while(|placed| placed.event < count as u64)
+        .count();
+    list.len() == before
+        && list
+            .iter()
+            .zip(whole.iter())
+            .all(|(entry, wanted)| is_same_entry(entry, wanted))
 }
 
 // The leave of the last group whose head was written in the first so many events.
@@ -141,19 +104,19 @@ fn stops(rt: &impl Abort, alloc: Global, row: &[Line], commits: usize) -> Result
     let (made, _disk) = play(rt, alloc, disk_of(alloc, SMALL)?, row)?;
     let groups = groups_in(alloc, made.outcomes.as_slice())?;
     assert_eq!(rt; groups.len(), commits);
-    let trace = traced(alloc, &made)?;
-    let list = history_of(alloc, &mut disk_of(alloc, SMALL)?, &trace)?;
+    let whole = list_of(alloc, made.events.as_slice())?;
     for count in 0..=made.events.len() {
         let cut = cut_of(&groups, count);
-        let steps = steps_up_to(rt, &made, &trace, &list, cut);
         let events = first(made.events.as_slice(), count);
-        stops_behind(rt, alloc, events, cut, first(list.as_slice(), steps))?;
+        let list = list_of(alloc, events)?;
+        assert!(rt; is_beginning(&list, &whole, count), "{count} events");
+        stops_behind(rt, alloc, events, cut, up_to(&list, cut))?;
     }
     Ok(())
 }
 
-/// Stopped behind any event of a row, the disk has the tree of a beginning of the row's history: all steps of the transactions that
-/// were left up to the run's cut, and no other. The cut is the leave behind which the last head was written.
+/// Stopped behind any event of a row, the disk has the tree of the history that is handed out, up to the run's cut: the leave behind which
+/// the last head was written. And the history of a beginning of the events is a beginning of that of all.
 #[test]
 fn stop_everywhere(rt: HostRuntime) -> Result<(), Fail> {
     for (row, commits) in STOPPED {

@@ -2,7 +2,7 @@ use Rattle.std.proofs.Common.{◌≡◌, ◌≢◌, ◌≤◌, ℕ, length, sym,
 use Rattle.std.proofs.lemmas.Bool.{cases_eq}
 use Rattle.history_search.specs.declared.position.Position.{Position}
 use Rattle.history_search.specs.Searching.{IsDead, IsDeadWith, IsKept}
-use Rattle.history_search.proofs.ExploreLemmas.{all_dead, call_not, dead_back, dead_numbers, dead_with_back, due_on, explored_not, kept_then, left_on, numbers_on, placed_made, taken_back, tried_bad, tried_not}
+use Rattle.history_search.proofs.ExploreLemmas.{all_dead, call_not, dead_back, dead_numbers, dead_with_back, due_on, explored_not, kept_then, left_on, numbers_on, earliest, placed_made, placed_not, taken_back, tried_bad, tried_not}
 use Rattle.history_search.proofs.position.Position.+exploring.Goals as goal
 use Rattle.history_search.proofs.position.Position.+exploring.Goals.{explore-else-due-first-via-then-due-first+in_ok-explore_call-2+else-branch-2, explore-else-due-first-via-else-due-first, explore-then-id-first+then-id-due+in_ok-explore_call-3+else-branch-3, explore-else-id-first, explore-else-id-first-via-then-id-first+else-id-due, explore-else-id-first-via-else-id-first, explore_numbers-then-new-preferred+in_ok-explore_step-2+in_default-2, explore_numbers-else-new-preferred}
 
@@ -120,6 +120,13 @@ explore_step-returns-in_ok-undo-in-Made t c =
     let base = c.args.base.now in
     let trace = c.args.trace.now in
     let p = c.args.self.now in
-    let made = placed_made base trace p c.place.new.self c.args.id c.args.new c.in_ok-place.field-0 c.in-Made.is c.in_ok-place.ensures in
+    let made = placed_made base trace p c.place.new.self c.args.id c.args.new c.args.due.limit c.in_ok-place.field-0 c.in-Made.is c.in_ok-place.ensures in
     let e = explored_not base trace c.place.new.self c.explore.new.self c.in_ok-explore-in-Made.field-0 c.if-branch.false c.in_ok-explore-in-Made.ensures in
-    taken_back base trace p c.place.new.self c.explore.new.self c.undo.new.self c.args.id c.args.new c.requires.at made e.0 e.1 c.in_ok-undo-in-Made.ensures
+    taken_back base trace p c.place.new.self c.explore.new.self c.undo.new.self c.args.id c.args.new c.args.due.limit c.requires.at made (earliest p c.args.due c.requires.due) e.0 e.1 c.in_ok-undo-in-Made.ensures
+
+pub explore_step-place-requires-clause-limit : goal.explore_step-place-requires-clause-limit
+explore_step-place-requires-clause-limit t c = c.requires.due.least
+
+pub explore_step-returns-in-Refused : goal.explore_step-returns-in-Refused
+explore_step-returns-in-Refused t c =
+    placed_not c.args.base.now c.args.trace.now c.args.self.now c.place.new.self c.args.id c.args.new c.args.due.limit c.in_ok-place.field-0 c.in-Refused.is c.in_ok-place.ensures (earliest c.args.self.now c.args.due c.requires.due)

@@ -1,0 +1,8 @@
+use Rattle.std.proofs.Common.{sym, subst, ◌∙◌}
+use Rattle.plain_tree.specs.declared.call.Call.{Call}
+use Rattle.whole_calls.specs.Wholes.{IsCall}
+use Rattle.hart_core.proofs.RightCalls.{right_call}
+use Rattle.explain.proofs.keep.Keeper.start.Goals as goal
+
+pub starts-requires : goal.starts-requires
+starts-requires c = subst (λ (call : Call). IsCall call) (sym c.in_ok-copied-in-None.ensures) (right_call c.args.call.now (sym c.find_fault.ensures.fault ∙ c.in-None.is))
