@@ -1,0 +1,97 @@
+-- Each operation on whole inodes that fits acts at one moment below, within what its call's transactions may record: under the history that is the operations
+-- themselves.
+use Rattle.std.proofs.Common.{◌<◌, ℕ, Option}
+use Rattle.fs_layout.specs.declared.superblock.Super.{Super}
+use Rattle.plain_tree.specs.Widths.{hart_count}
+use Rattle.atomic_programs.specs.Lifting.{Uses}
+use Rattle.atomic_programs.specs.Prog.{Ret, Do}
+use Rattle.atomic_programs.specs.Spending.{AtomicWithin}
+use Rattle.inode_machine.specs.Parts.{P}
+use Rattle.inode_machine.specs.World as above
+use Rattle.inode_machine.specs.World.{JoinResult, LoanResult, LockResult, Wrote}
+use Rattle.inode_machine.specs.World.Op.{Take, Give, UpStart, Up, WalkDown, Down, Free, Forget, Claim, Store, Fill, Enter, Clear, Empty, Slot, Install, StatFile, LockFile, ReadFile, LockOpen, CheckFile, JoinFile, WriteFile, Double, Shut, Settle, Lend, LendDirectory, Release, Join, Leave, Say}
+use Rattle.inodes_on_blocks.specs.Acting.{ActsOnceAt}
+use Rattle.inodes_on_blocks.specs.Making.{HasInodes}
+use Rattle.inodes_on_blocks.specs.Room.{HasSpent}
+use Rattle.inodes_on_blocks.specs.Spending.{recorded_blocks, ActsWithin, ProgramsSpend, Spends}
+use Rattle.inodes_on_blocks.proofs.CountSteps.{up_acts, up_start_acts, walk_down_acts, down_acts}
+use Rattle.inodes_on_blocks.proofs.ForgetSteps.{forget_acts}
+use Rattle.inodes_on_blocks.proofs.JoinFileSteps.{join_file_acts}
+use Rattle.inodes_on_blocks.proofs.JoinSteps.{join_acts}
+use Rattle.inodes_on_blocks.proofs.LeaveSteps.{leave_acts}
+use Rattle.inodes_on_blocks.proofs.LendSteps.{lend_acts, lend_directory_acts, release_acts}
+use Rattle.inodes_on_blocks.proofs.ClaimSteps.{claim_within}
+use Rattle.inodes_on_blocks.proofs.NamingWithins.{enter_within, fill_within}
+use Rattle.inodes_on_blocks.proofs.LockSteps.{file_acts, open_acts}
+use Rattle.inodes_on_blocks.proofs.ReadSteps.{read_acts}
+use Rattle.inodes_on_blocks.proofs.SlotSteps.{slot_acts, install_acts, double_acts, close_acts, check_acts, say_acts}
+use Rattle.inodes_on_blocks.proofs.Spends.{programs_spend}
+use Rattle.inodes_on_blocks.proofs.StatSteps.{stat_acts}
+use Rattle.inodes_on_blocks.proofs.TableSteps.{give_acts, settle_acts}
+use Rattle.inodes_on_blocks.proofs.TakeSteps.{take_acts}
+use Rattle.inodes_on_blocks.proofs.Withins.{acts_within, store_within, clear_within, empty_within, free_within}
+use Rattle.inodes_on_blocks.proofs.WriteSteps.{write_within}
+use Rattle.inodes_on_blocks.specs.Programs.{handlers}
+use Rattle.calls_on_blocks.specs.Layer.{layer}
+use Rattle.run_laws.specs.WholeInodes.{operations, whole_inodes}
+use Rattle.run_laws.proofs.Beside.{within_beside}
+use Rattle.run_laws.proofs.Fits.{AllFit, Fits}
+use Rattle.run_laws.proofs.Whole.{keeps_whole, whole_laws}
+
+-- ---- the operations
+
+module _ (sizes : Super) (h : ℕ) where
+  -- an operation's program acts at one moment, where the hart's transaction has room for what it records
+  abbrev pub Within : (op : above.Op) → (above.Answer op → Option above.Mark) → Type 1
+  Within op m = AtomicWithin whole_inodes (layer sizes) (handlers sizes) (recorded_blocks operations) (λ r s. HasSpent sizes h s r.blocks) h op m
+
+  recorded : (op : above.Op) (m : above.Answer op → Option above.Mark) → ActsWithin sizes operations h op m (λ c. handlers sizes c op) → Within op m
+  recorded op m within = within_beside sizes operations (handlers sizes) h (recorded_blocks operations) (λ r s. HasSpent sizes h s r) op m within
+
+  module _ (lt : h < hart_count) where
+    -- one that asks for no room
+    acting : (op : above.Op) (m : above.Answer op → Option above.Mark) → Spends sizes op (λ c. handlers sizes c op) → ActsOnceAt sizes operations h op m (λ c. handlers sizes c op) → Within op m
+    acting op m spends acts = recorded op m (acts_within sizes operations whole_laws keeps_whole h lt op m (λ c. handlers sizes c op) spends acts)
+
+    spend : ProgramsSpend sizes
+    spend = programs_spend sizes
+
+    module _ (inodes : HasInodes sizes) where
+      within : (op : above.Op) (m : above.Answer op → Option above.Mark) → Fits op → Within op m
+      within (Take n looking) m fits = acting (Take n looking) m (spend.take n looking) (take_acts operations whole_laws keeps_whole h lt sizes n looking m)
+      within (Give n) m fits = acting (Give n) m (spend.give n) (give_acts operations whole_laws keeps_whole h lt n m sizes)
+      within (UpStart absolute) m fits = acting (UpStart absolute) m (spend.up_start absolute) (up_start_acts operations whole_laws keeps_whole h lt absolute m sizes)
+      within (Up n) m fits = acting (Up n) m (spend.up n) (up_acts operations whole_laws keeps_whole h lt n m sizes)
+      within (WalkDown n) m fits = acting (WalkDown n) m (spend.walk_down n) (walk_down_acts operations whole_laws keeps_whole h lt n m sizes)
+      within (Down n) m fits = acting (Down n) m (spend.down n) (down_acts operations whole_laws keeps_whole h lt n m sizes)
+      within (Free n) m fits = recorded (Free n) m (free_within sizes operations whole_laws keeps_whole h lt n m)
+      within (Forget n) m fits = acting (Forget n) m (spend.forget n) (forget_acts operations whole_laws keeps_whole h lt n m sizes)
+      within (Claim sort) m fits = recorded (Claim sort) m (claim_within sizes operations whole_laws keeps_whole h lt sort fits inodes m)
+      within (Store n count) m fits = recorded (Store n count) m (store_within sizes operations whole_laws keeps_whole h lt n count m)
+      within (Fill n d) m fits = recorded (Fill n d) m (fill_within sizes operations whole_laws keeps_whole h lt n d m)
+      within (Enter d e n) m fits = recorded (Enter d e n) m (enter_within sizes operations whole_laws keeps_whole h lt d e n m)
+      within (Clear n e) m fits = recorded (Clear n e) m (clear_within sizes operations whole_laws keeps_whole h lt n e m)
+      within (Empty n) m fits = recorded (Empty n) m (empty_within sizes operations whole_laws keeps_whole h lt n m)
+      within Slot m fits = acting Slot m spend.slot (slot_acts operations whole_laws keeps_whole h lt m sizes)
+      within (Install f sort) m fits = acting (Install f sort) m (spend.install f sort) (install_acts operations whole_laws keeps_whole h lt f sort m sizes)
+      within (StatFile fd) m fits = acting (StatFile fd) m (spend.stat_file fd) (stat_acts operations whole_laws keeps_whole h lt sizes fd m)
+      within (LockFile fd) m fits = acting (LockFile fd) m (spend.lock_file fd) (file_acts operations whole_laws keeps_whole h lt sizes fd m)
+      within (ReadFile fd n offset count) m fits = acting (ReadFile fd n offset count) m (spend.read_file fd n offset count) (read_acts operations whole_laws keeps_whole h lt sizes fd n offset count m)
+      within (CheckFile fd) m fits = acting (CheckFile fd) m (spend.check_file fd) (check_acts operations whole_laws keeps_whole h lt fd m sizes)
+      within (JoinFile fd) m fits = acting (JoinFile fd) m (spend.join_file fd) (join_file_acts operations whole_laws keeps_whole h lt fd m sizes)
+      within (LockOpen fd n) m fits = acting (LockOpen fd n) m (spend.lock_open fd n) (open_acts operations whole_laws keeps_whole h lt sizes fd n m)
+      within (WriteFile fd n offset bytes) m fits = recorded (WriteFile fd n offset bytes) m (write_within sizes operations whole_laws keeps_whole h lt fd n offset bytes fits.0 fits.1 m)
+      within (Double fd) m fits = acting (Double fd) m (spend.double fd) (double_acts operations whole_laws keeps_whole h lt fd m sizes)
+      within (Shut fd) m fits = acting (Shut fd) m (spend.close fd) (close_acts operations whole_laws keeps_whole h lt fd m sizes)
+      within (Settle n) m fits = acting (Settle n) m (spend.settle n) (settle_acts operations whole_laws keeps_whole h lt n m sizes)
+      within (Lend child from) m fits = acting (Lend child from) m (spend.lend child from) (lend_acts operations whole_laws keeps_whole h lt child from m sizes)
+      within (LendDirectory child) m fits = acting (LendDirectory child) m (spend.lend_directory child) (lend_directory_acts operations whole_laws keeps_whole h lt child m sizes)
+      within (Release child) m fits = acting (Release child) m (spend.release child) (release_acts operations whole_laws keeps_whole h lt child m sizes)
+      within Join m fits = acting Join m spend.join (join_acts operations whole_laws keeps_whole h lt m sizes)
+      within Leave m fits = acting Leave m spend.leave (leave_acts operations whole_laws keeps_whole h lt m sizes)
+      within Say m fits = acting Say m spend.say (say_acts operations whole_laws keeps_whole h lt m sizes)
+
+      -- so do all of a program
+      pub all_within : {A : Type 0} (p : P A) → AllFit p → Uses whole_inodes Within p
+      all_within (Ret a) fits = tt
+      all_within (Do op m k) fits = (within op m fits.0, λ a. all_within (k a) (fits.2 a))

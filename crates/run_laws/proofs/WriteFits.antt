@@ -1,0 +1,93 @@
+-- What write asks for fits.
+use Rattle.std.proofs.Common.{◌≡◌, ◌<◌, ◌≤◌, ℕ, zero, suc, ◌+◌, ◌-◌, ◌*◌, ◌/◌, ◌==◌, if◌then◌else◌, refl, nat_lt, Bool, true, false, List, [], ◌∷◌, drop, length, arith}
+use Rattle.std.proofs.lemmas.Bool.Decides.{nat_tests}
+use Rattle.std.proofs.lemmas.List.{length-take, length-drop}
+use Rattle.std.proofs.Math.Nat.{le-div_iff_mul-le}
+use Rattle.fs_layout.specs.Bytes.{IsBytes}
+use Rattle.plain_tree.specs.declared.answer.Full.TheVariants.{Blocks}
+use Rattle.plain_tree.specs.declared.answer.Reply.{Reply}
+use Rattle.plain_tree.specs.declared.call.Call.TheVariants as calls
+use Rattle.plain_tree.specs.Calls.{piece, piece_count}
+use Rattle.plain_tree.specs.Widths.{piece_len}
+use Rattle.tree_laws.proofs.Maps.{and_true, eq_is}
+use Rattle.atomic_programs.specs.Prog.{Do, unmarked}
+use Rattle.inode_machine.specs.Descriptors.{joined_on, write_from, write_piece, write_program, write_reply, wrote_on}
+use Rattle.inode_machine.specs.Parts.{P, failed, full, say}
+use Rattle.inode_machine.specs.Theory.{are_bytes}
+use Rattle.inode_machine.specs.World.{JoinResult, NotJoined, Joined, Wrote, Whole, Refused, Short}
+use Rattle.inode_machine.specs.World.Op.{Join}
+use Rattle.inodes_on_blocks.proofs.Records.{drop_bytes, take_bytes}
+use Rattle.run_laws.proofs.PathFits.{say_fits}
+use Rattle.run_laws.proofs.Fits.{AllFit}
+use Rattle.run_laws.proofs.Telling.{join_tells, piece_tells}
+
+-- ---- the pieces
+
+byte_is : (b : ℕ) → nat_lt b 256 ≡ true → b < 256
+byte_is b e = grind (arith, nat_tests)
+
+pub bytes_are : (bytes : List ℕ) → are_bytes bytes ≡ true → IsBytes bytes
+bytes_are [] e i = omega arith
+bytes_are (b ∷ bs) e zero = byte_is b (and_true (nat_lt b 256) (are_bytes bs) e).0
+bytes_are (b ∷ bs) e (suc i) = bytes_are bs (and_true (nat_lt b 256) (are_bytes bs) e).1 i
+
+piece_bytes : (bytes : List ℕ) (i : ℕ) → IsBytes bytes → IsBytes (piece bytes i)
+piece_bytes bytes i are = take_bytes piece_len (drop (piece_len * i) bytes) (drop_bytes (piece_len * i) bytes are)
+
+-- there is one
+some_pieces : (n : ℕ) (none : Bool) → 0 < n → (n == 0) ≡ none → 0 < (if none then 1 else (n + (3072 - 1)) / 3072)
+some_pieces n true some e = omega arith
+some_pieces n false some e = let a : 1 ≤ (n + (3072 - 1)) / 3072 = (le-div_iff_mul-le {k = 3072} {x = 1} {y = n + (3072 - 1)} (omega arith)).1 (omega (arith, some)) in omega (arith, a)
+
+-- each begins within the bytes
+begins_within : (n i : ℕ) → 0 < n → (none : Bool) → (n == 0) ≡ none → i < (if none then 1 else (n + (3072 - 1)) / 3072) → 3072 * i < n
+begins_within n i some true e lt = absurd (let a = eq_is n 0 e in omega (arith, a, some))
+begins_within n i some false e lt =
+    let q : i + 1 ≤ (n + (3072 - 1)) / 3072 = omega (arith, lt) in
+    let a = (le-div_iff_mul-le {k = 3072} {x = i + 1} {y = n + (3072 - 1)} (omega arith)).0 q in
+    omega (arith, a)
+
+-- so that it has some
+piece_some : (bytes : List ℕ) (i : ℕ) → 0 < length bytes → i < piece_count bytes → 0 < length (piece bytes i)
+piece_some bytes i some lt =
+    let a = begins_within (length bytes) i some (length bytes == 0) refl lt in
+    let t = length-take piece_len (drop (piece_len * i) bytes) in
+    let d = length-drop (piece_len * i) bytes in
+    omega (arith, a, t, d)
+
+-- ---- the call
+
+module _ (fd n b : ℕ) (bs : List ℕ) (are : IsBytes (b ∷ bs)) where
+  abbrev bytes : List ℕ
+  bytes = b ∷ bs
+
+  wrote_fits : (more : P Reply) → AllFit more → (a : Wrote) → AllFit (wrote_on fd bytes more a)
+  wrote_fits more uses Whole = uses
+  wrote_fits more uses (Refused why) = say_fits (failed (calls.Write fd bytes) why)
+  wrote_fits more uses (Short k) = say_fits (full (calls.Write fd bytes) Blocks)
+
+  piece_fits : (i : ℕ) → i < piece_count bytes → (more : P Reply) → AllFit more → AllFit (write_piece fd n bytes i more)
+  piece_fits i below more uses = (
+    tt,
+    λ _. refl,
+    λ at. (
+      (piece_some bytes i (omega arith) below, piece_bytes bytes i are),
+      piece_tells fd (piece bytes i),
+      λ a. (tt, λ _. refl, λ _. wrote_fits more uses a),
+    ),
+  )
+
+  from_fits : (left i : ℕ) → i + left + 1 ≡ piece_count bytes → AllFit (write_from fd n bytes left i)
+  from_fits zero i e = piece_fits i (omega (arith, e)) (say (write_reply fd bytes)) (say_fits (write_reply fd bytes))
+  from_fits (suc left) i e = piece_fits i (omega (arith, e)) (Do Join unmarked (λ _. write_from fd n bytes left (i + 1))) (tt, λ _. refl, λ _. from_fits left (i + 1) (omega (arith, e)))
+
+joined_fits : (fd b : ℕ) (bs : List ℕ) → IsBytes (b ∷ bs) → (a : JoinResult) → AllFit (joined_on fd (b ∷ bs) a)
+joined_fits fd b bs are (NotJoined why) = tt
+joined_fits fd b bs are (Joined n) = from_fits fd n b bs are (piece_count (b ∷ bs) - 1) 0 (some (piece_count (b ∷ bs)) (some_pieces (length (b ∷ bs)) (length (b ∷ bs) == 0) (omega arith) refl))
+  where
+    some : (k : ℕ) → 0 < k → 0 + (k - 1) + 1 ≡ k
+    some k pos = omega (arith, pos)
+
+pub write_fits : (fd : ℕ) (bytes : List ℕ) → are_bytes bytes ≡ true → AllFit (write_program fd bytes)
+write_fits fd [] are = (tt, λ _. refl, λ o. tt)
+write_fits fd (b ∷ bs) are = (tt, join_tells fd (piece (b ∷ bs) 0), λ a. joined_fits fd b bs (bytes_are (b ∷ bs) are) a)

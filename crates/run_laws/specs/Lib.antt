@@ -1,0 +1,4 @@
+pub mod WholeInodes
+pub mod Laws
+pub mod Worlds
+pub mod Rooms

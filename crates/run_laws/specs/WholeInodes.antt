@@ -1,0 +1,96 @@
+-- The calls on blocks as calls of the machine of whole inodes: what explains each is the operations on whole inodes that it ran.
+use Rattle.std.specs.Prelude.{◌≡◌, ℕ, nat_lt, if◌then◌else◌, List, [], ◌∷◌, Option, Some, None}
+use Rattle.fs_layout.specs.declared.superblock.Super.{Super}
+use Rattle.plain_tree.specs.Widths.{descriptor_count}
+use Rattle.atomic_programs.specs.Calls.{Theory}
+use Rattle.atomic_programs.specs.Logic.{Machine}
+use Rattle.atomic_programs.specs.Lowered.{lowered_calls}
+use Rattle.atomic_programs.specs.Prog.{Ret, Do, Ran}
+use Rattle.inode_machine.specs.Marks.{go, made_by, new_id}
+use Rattle.inode_machine.specs.Parts.{P}
+use Rattle.inode_machine.specs.Programs.{program}
+use Rattle.inode_machine.specs.Rules as rules
+use Rattle.inode_machine.specs.Rules.{Honest, May}
+use Rattle.inode_machine.specs.World.{Answer, Desk, Mark, Op, Outside, World}
+use Rattle.inode_machine.specs.World.Mark.{Fills, Frees, Makes, Mends, Orphans, Spoils}
+use Rattle.tree_moves.specs.Moves.{Deed}
+use Rattle.inodes_on_blocks.specs.Lowering.{Labels, labelled}
+use Rattle.inodes_on_blocks.specs.Programs.{handlers}
+use Rattle.calls_on_blocks.specs.Layer.{layer}
+use Rattle.calls_on_blocks.specs.Theory.{begins, served_calls}
+
+-- ---- the machine of whole inodes
+
+-- the descriptors on their way to a child, without which hart that is and how much it has
+abbrev pub on_the_way : (ℕ → Option ℕ) → ℕ → Option ℕ
+on_the_way lent i = if nat_lt i descriptor_count then lent i else None
+
+abbrev pub unreserved_desk : Desk → Desk
+unreserved_desk d = record d { lent = on_the_way d.lent; lender = None }
+
+-- a world, but for what a start reserves: which hart is whose child
+abbrev pub unreserved : World → World
+unreserved w = record w { desks = λ h. unreserved_desk (w.desks h) }
+
+-- what a call is told of a step on the tree that it takes in this world, by the mark of an operation of hart h
+abbrev pub told_by : ℕ → Option Mark → World → Option Deed
+told_by h None w = None
+told_by h (Some (Makes v)) w = (made_by w.all h (new_id w) (w.harts h).walk v).told
+told_by h (Some (Frees n)) w = None
+told_by h (Some (Orphans n)) w = None
+told_by h (Some Fills) w = None
+told_by h (Some Mends) w = None
+told_by h (Some (Spoils s)) w = None
+
+-- an operation with its answer; for the proof, its mark, which says what it does to the tree, and what its call is told of that
+pub record Operation : Type 0 where
+  pub op : Op
+  pub answer : Answer op
+  pub mark : Option Mark
+  pub told : Option Deed
+
+-- Hart h makes this operation, where it may be made, at an answer from outside that may be given: it leads from t to u, but for what starts
+-- reserve.
+pub record IsStep (t : World) (h : ℕ) (e : Operation) (u : World) : Type 0 where
+  pub before : World
+  pub after : World
+  pub outside : Outside
+  pub from : unreserved before ≡ t
+  pub to : unreserved after ≡ u
+  pub may : May h e.op before
+  pub honest : Honest h e.op before outside
+  pub goes : go h outside e.op (λ _. e.mark) before ≡ Ran e.answer after
+  pub tells : e.told ≡ told_by h e.mark before
+
+-- these operations, the oldest first, are a run of the program that ends with r
+abbrev pub IsRunOf : {A : Type 0} → P A → List Operation → A → Type 0
+IsRunOf (Ret a) [] r = a ≡ r
+IsRunOf (Ret a) (e ∷ es) r = ⊥
+IsRunOf (Do op m k) [] r = ⊥
+IsRunOf (Do op m k) (e ∷ es) r =
+    (a : Answer op) × (told : Option Deed) × (e ≡ record { op = op; answer = a; mark = m a; told = told }) × IsRunOf (k a) es r
+
+-- the history that is the operations themselves, from world to world
+abbrev pub operations : Labels
+operations = record {
+  Step = Operation;
+  Tree = World;
+  places = λ h op a m w. (h, record { op = op; answer = a; mark = m; told = told_by h m w }) ∷ [];
+  tree = unreserved;
+  Takes = λ t h e u. IsStep t h e u;
+  Others = λ h v xs w. (xs ≡ []) × rules.Others h v [] w;
+  Clean = λ w. Unit {0};
+}
+
+abbrev pub whole_inodes : Machine
+whole_inodes = labelled operations
+
+-- ---- its calls
+
+-- the operations of a whole call are a run of its program, which ends with its reply
+abbrev pub inode_calls : Theory
+inode_calls = record served_calls { M = whole_inodes; Written = λ call es reply. IsRunOf (program call) es reply }
+
+-- the same calls, run on the blocks
+abbrev pub lowered_inode_calls : Super → Theory
+lowered_inode_calls sizes = lowered_calls inode_calls (layer sizes) (handlers sizes) (begins sizes)

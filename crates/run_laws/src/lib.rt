@@ -1,0 +1,33 @@
+//! Every run of the calls on blocks is a run of the machine of whole inodes. The functions do nothing: each carries a law.
+#![tactic(auto)]
+
+ghost use Rattle.run_laws.specs.Laws.{RunsRefineWholeInodes};
+ghost use Rattle.run_laws.specs.Rooms.{RoomIsToldByAnswers};
+ghost use Rattle.run_laws.specs.Worlds.{WorldsRefineWholeInodes};
+
+use block_device::Device;
+use hart_core::World;
+
+/// Of every list of events of any harts on a mounted disk, with a device that fails at any moment or never: whole operations on inodes,
+/// one after the other, lead from the image's tree to what the blocks show; each finished call's own are a run of its program, with the
+/// reply that was given, and are made between the call's start and its return. It is so also where paths climb, and after a step found
+/// no room.
+pub fn runs_refine_whole_inodes()
+    ensures { RunsRefineWholeInodes }
+{}
+
+/// So in each run of a world as it was mounted, by the events and the outcomes that `run` answers: each of its histories is such a run,
+/// and each call of its trace, with its reply, is a run of the call's program over whole inodes.
+pub fn worlds_refine_whole_inodes<D: Device>(world: &World<D>)
+    ensures { WorldsRefineWholeInodes D.contents D.failures world.now }
+{
+    let _ = world;
+}
+
+/// In such a run each step found room just where no operation on whole inodes was answered that there is none, nor the step on the tree
+/// which acts there.
+pub fn room_is_told_by_answers<D: Device>(world: &World<D>)
+    ensures { RoomIsToldByAnswers D.contents D.failures world.now }
+{
+    let _ = world;
+}
