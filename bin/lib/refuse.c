@@ -61,3 +61,10 @@ __attribute__((destructor)) static void count(void) {
     fprintf(file, "%ld %ld\n", asked, refused);
     fclose(file);
 }
+
+/* So a program with threads ends, which runs no destructors. */
+void _exit(int status) {
+    count();
+    syscall(SYS_exit_group, status);
+    __builtin_unreachable();
+}

@@ -3,13 +3,27 @@
 #![tactic(auto)]
 
 #[cfg(test)]
+mod asks;
+#[cfg(test)]
+mod differences;
+#[cfg(test)]
+mod handed;
+#[cfg(test)]
 mod kernels;
 #[cfg(test)]
 mod meeting;
 #[cfg(test)]
+mod plan;
+#[cfg(test)]
+mod runs;
+#[cfg(test)]
 mod scripts;
 #[cfg(test)]
 mod seats;
+#[cfg(test)]
+mod short;
+#[cfg(test)]
+mod turns;
 #[cfg(test)]
 mod work;
 

@@ -1,7 +1,9 @@
 //! What the calls of two seats come to: at a shared offset, and where the device fails.
 ghost use Rattle.std.specs.Prelude.{◌≡◌};
 
-use crate::kernels::{all_of, bytes, called, first_two, image, no_kernel};
+use crate::kernels::{all_of, bytes, called, first_two, fresh_image, image, no_kernel};
+use block_device::{Fused, MemoryDisk};
+use hart_core::World;
 use hart_runner::{Kernel, NoGate, Seat, two_calls};
 use image_tree::MountFault;
 use locked_world::Halt;
@@ -18,8 +20,8 @@ const DOT: [u8; 16] = *b"\x01\0.\0\0\0\0\0\0\0\0\0\0\0\0\0";
 
 const DOT_DOT: [u8; 16] = *b"\x01\0..\0\0\0\0\0\0\0\0\0\0\0\0";
 
-// No device that opens a kernel on the image needs as many calls.
-const MOST_CALLS: u64 = 1000;
+// No mount of the fresh image makes as many calls of the disk.
+const MOST_CALLS: u64 = 100_000;
 
 fn open_root(alloc: Global) -> Result<Call, AllocError> {
     Ok(Call::Open {
@@ -89,66 +91,119 @@ fn seats_share_an_offset(rt: HostRuntime) -> Result<(), Fail> {
     Ok(())
 }
 
-// What stops two calls.
-type Stopped = (Option<Halt>, Option<Halt>);
+// Whether a world is mounted on a disk of this image that passes so many calls.
+fn is_mounted(alloc: Global, image: &[u8], fuse: u64) -> Result<bool, Fail> {
+    let disk = MemoryDisk::new(Vec::from_slice(alloc, image)?);
+    match World::mount(alloc, Fused::new(disk, fuse)) {
+        Ok(world) => {
+            let _disk = world.unmount();
+            Ok(true)
+        }
+        Err((_, MountFault::DeviceFault)) => Ok(false),
+        Err((_, fault)) => Err(no_kernel(fault)),
+    }
+}
 
-// What stops a call of hart 0, and then one of hart 1. None where the close is strange.
+// The least number of calls that a disk of this image passes for a world to be mounted on it.
+fn least_fuse(alloc: Global, image: &[u8]) -> Result<u64, Fail> {
+    let (mut too_few, mut enough) = (0u64, MOST_CALLS);
+    for _ in 0..u64::BITS {
+        if enough.saturating_sub(too_few) <= 1 {
+            break;
+        }
+        let middle = too_few.saturating_add(enough) / 2;
+        if is_mounted(alloc, image, middle)? {
+            enough = middle;
+        } else {
+            too_few = middle;
+        }
+    }
+    Ok(enough)
+}
+
+// What stops two calls, and what the closed kernel holds.
+#[derive(Drop)]
+struct Stopped {
+    halts: (Option<Halt>, Option<Halt>),
+    image: Vec<u8>,
+    fuse: u64,
+}
+
+// What stops a call of hart 0, and then one of hart 1.
 fn stops_of<L: Ledger, R: Wait>(
     rt: &R,
+    alloc: Global,
     kernel: Kernel<L, NoGate>,
     seats: [Seat<L>; 8],
     calls: (Call, Call),
-) -> Option<Stopped>
+) -> Result<Stopped, Fail>
     requires { L.parts ≡ 8 }
 {
     let (a, b, others) = first_two(seats);
     let (one, other) = calls;
     let (a, first) = called(rt, &kernel, a, one);
     let (b, second) = called(rt, &kernel, b, other);
-    let Ok(_closed) = kernel.close(all_of(a, b, others)) else {
-        return None;
+    let Ok(closed) = kernel.close(all_of(a, b, others)) else {
+        return Err(Fail::new("no close"));
     };
-    Some((first.err().flatten(), second.err().flatten()))
+    Ok(Stopped {
+        halts: (first.err().flatten(), second.err().flatten()),
+        image: Vec::from_slice(alloc, closed.image())?,
+        fuse: closed.fuse(),
+    })
 }
 
-// That, on a device that passes so many calls.
+// That, on a disk of this image that passes so many calls. None where the device fails before.
 fn stops<L: Ledger, R: Wait>(
     rt: &R,
     alloc: Global,
     blank: Blank,
+    image: &[u8],
     fuse: u64,
-) -> Result<Option<Stopped>, MountFault>
+) -> Result<Option<Stopped>, Fail>
     requires name { blank.name ≡ L.name }
     requires parts { blank.parts ≡ L.parts }
     requires eight { blank.parts ≡ 8 }
 {
     let mkdir = Call::Mkdir {
-        path: bytes(alloc, b"/d")?,
+        path: bytes(alloc, b"/a")?,
     };
     let calls = (mkdir, open_root(alloc)?);
-    match Kernel::<L, NoGate>::open(alloc, blank, image(alloc)?, fuse, NoGate) {
+    let copy = Vec::from_slice(alloc, image)?;
+    match Kernel::<L, NoGate>::open(alloc, blank, copy, fuse, NoGate) {
         Ok(opened) => {
             let (kernel, seats) = opened;
-            Ok(stops_of(rt, kernel, seats, calls))
+            Ok(Some(stops_of(rt, alloc, kernel, seats, calls)?))
         }
-        Err(fault) => Err(fault),
+        Err(MountFault::DeviceFault) => Ok(None),
+        Err(fault) => Err(no_kernel(fault)),
     }
 }
 
-/// With the least fuse at which a kernel opens, the first call that needs a block is stopped by the device's failure, and another
-/// hart's call by the halt; given up, both seats are as the list has them.
+fn stops_with<R: Wait>(
+    rt: &R,
+    alloc: Global,
+    image: &[u8],
+    fuse: u64,
+) -> Result<Option<Stopped>, Fail> {
+    stops::<Brand, R>(rt, alloc, Blank::new(8), image, fuse)
+}
+
+/// A kernel opens with the least fuse at which a world is mounted, and with no smaller one. Then the first call that needs a block is stopped by
+/// the device's failure, and another hart's call by the halt; given up, both seats are as the list has them. The closed kernel has image and fuse.
 #[test]
 fn a_fuse_stops_calls(rt: HostRuntime) -> Result<(), Fail> {
-    let mut stopped = None;
-    for fuse in 0..MOST_CALLS {
-        match stops::<Brand, HostRuntime>(&rt, rt.alloc(), Blank::new(8), fuse) {
-            Err(MountFault::DeviceFault) => {}
-            came => {
-                stopped = came.map_err(no_kernel)?;
-                break;
-            }
-        }
-    }
-    assert!(rt; stopped == Some((Some(Halt::DeviceFault), Some(Halt::Halted))));
+    let alloc = rt.alloc();
+    let image = fresh_image(alloc)?;
+    let image = image.as_slice();
+    let least = least_fuse(alloc, image)?;
+    let opened = stops_with(&rt, alloc, image, least.saturating_sub(1))?;
+    assert!(rt; opened.is_none());
+    let Some(stopped) = stops_with(&rt, alloc, image, least)? else {
+        return Err(Fail::new("it isn't opened"));
+    };
+    assert!(rt; stopped.halts == (Some(Halt::DeviceFault), Some(Halt::Halted)));
+    assert!(rt; stopped.image.as_slice() == image);
+    assert_eq!(rt; stopped.fuse, least);
     Ok(())
 }

@@ -1,12 +1,15 @@
 //! Eight harts at work in one directory at once.
 ghost use Rattle.std.specs.Prelude.{◌≡◌};
 
-use crate::kernels::{all_of, bytes, called, first_two, image, no_kernel};
+use crate::asks::{FILES, Rounds, SWEEP, calls_of};
+use crate::kernels::{Came, all_of, came_of, first_two, image, no_kernel};
+use crate::runs::{Left, left_by};
 use block_device::MemoryDisk;
-use hart_runner::{Kernel, NoGate, Seat};
-use image_tree::{MountFault, examine};
-use plain_tree::{Answer, Bytes, Call, Cause};
-use std::alloc::{AllocError, Global};
+use hart_runner::{CallFault, Gate, Kernel, NoGate, Seat};
+use image_tree::examine;
+use locked_world::Halt;
+use plain_tree::Call;
+use std::alloc::Global;
 use std::marker::Brand;
 use std::sync::Wait;
 use std::sync::ledger::{Blank, Ledger};
@@ -14,225 +17,187 @@ use std::test::Fail;
 use std::thread;
 use std::thread::Threads;
 
-// To write, where it may be made.
-const CREATE: u32 = 0x201;
-
 // So many times the harts do their work.
 const ROUNDS: u32 = 100;
-
-// A name in the root. Each hart has two of its own; it begins with another one of the four that all share than its neighbour.
-#[derive(Clone, Copy)]
-enum Name {
-    Mine,
-    Other,
-    Shared(u8),
-}
-
-// A call of a hart's work.
-#[derive(Clone, Copy)]
-enum Ask {
-    Open(Name, u32),
-    // of the hart's digit
-    Write(u32),
-    Read(u32),
-    // a further name of the hart's own file
-    Link(Name),
-    Unlink(Name),
-    Close(u32),
-}
-
-// A call, and the two answers that it may have: of a shared name other harts decide which.
-type Row = (Ask, Answer, Answer);
-
-const MADE: Answer = Answer::Done;
-
-const GONE: Answer = Answer::Failed(Cause::NoEntry);
-
-const THERE: Answer = Answer::Failed(Cause::Exists);
-
-const WORK: [Row; 17] = [
-    (Ask::Open(Name::Mine, CREATE), Answer::Fd(0), Answer::Fd(0)),
-    (Ask::Write(0), Answer::Count(3), Answer::Count(3)),
-    (Ask::Link(Name::Other), MADE, MADE),
-    (Ask::Link(Name::Shared(0)), MADE, THERE),
-    (Ask::Link(Name::Shared(1)), MADE, THERE),
-    (Ask::Unlink(Name::Shared(2)), MADE, GONE),
-    (Ask::Open(Name::Other, 0), Answer::Fd(1), Answer::Fd(1)),
-    (Ask::Link(Name::Shared(2)), MADE, THERE),
-    (Ask::Link(Name::Shared(3)), MADE, THERE),
-    (Ask::Unlink(Name::Shared(0)), MADE, GONE),
-    (Ask::Read(1), Answer::Count(3), Answer::Count(3)),
-    (Ask::Unlink(Name::Shared(1)), MADE, GONE),
-    (Ask::Unlink(Name::Mine), MADE, MADE),
-    (Ask::Unlink(Name::Shared(3)), MADE, GONE),
-    (Ask::Unlink(Name::Other), MADE, MADE),
-    (Ask::Close(0), MADE, MADE),
-    (Ask::Close(1), MADE, MADE),
-];
-
-// What takes the shared names away that are left.
-const SWEEP: [Row; 4] = [
-    (Ask::Unlink(Name::Shared(0)), MADE, GONE),
-    (Ask::Unlink(Name::Shared(1)), MADE, GONE),
-    (Ask::Unlink(Name::Shared(2)), MADE, GONE),
-    (Ask::Unlink(Name::Shared(3)), MADE, GONE),
-];
 
 // How many calls are made in a round.
 const CALLS: u32 = 140;
 
-fn path(alloc: Global, hart: u8, name: Name) -> Result<Bytes, AllocError> {
-    let (letter, number) = match name {
-        Name::Mine => (b'n', hart & 7),
-        Name::Other => (b'm', hart & 7),
-        Name::Shared(number) => (b's', hart.wrapping_add(number) & 3),
-    };
-    bytes(alloc, &[b'/', letter, b'0' | number])
+/// A gate at which harts also ask before they start a call.
+pub trait Turning: Gate {
+    /// Before this hart starts a call.
+    fn start(&self, rt: &impl Wait, hart: u8);
+
+    /// Where the hart's last step found no memory, and it will ask for that step once more.
+    fn again(&self, hart: u8);
+
+    /// When the hart has made all its calls.
+    fn end(&self, hart: u8);
 }
 
-fn call_of(alloc: Global, hart: u8, ask: Ask) -> Result<Call, AllocError> {
-    Ok(match ask {
-        Ask::Open(name, flags) => Call::Open {
-            path: path(alloc, hart, name)?,
-            flags,
-        },
-        Ask::Write(fd) => Call::Write {
-            fd,
-            bytes: bytes(alloc, &[hart; 3])?,
-        },
-        Ask::Read(fd) => Call::Read {
-            fd,
-            buf: bytes(alloc, &[u8::MAX; 4])?,
-        },
-        Ask::Link(name) => Call::Link {
-            old: path(alloc, hart, Name::Mine)?,
-            new: path(alloc, hart, name)?,
-        },
-        Ask::Unlink(name) => Call::Unlink {
-            path: path(alloc, hart, name)?,
-        },
-        Ask::Close(fd) => Call::Close { fd },
-    })
+impl Turning for NoGate {
+    fn start(&self, _rt: &impl Wait, _hart: u8) {}
+
+    fn again(&self, _hart: u8) {}
+
+    fn end(&self, _hart: u8) {}
 }
 
-// Whether a call is handed back as it may be: a read with what the hart has written.
-fn is_handed_back(hart: u8, call: &Call) -> bool {
-    match call {
-        Call::Read { fd: _, buf } => buf.as_slice() == [hart, hart, hart, u8::MAX].as_slice(),
-        _ => true,
-    }
-}
-
-// What harts' work leaves, and how many of their calls were answered as they may be.
-type Worked<S> = (S, u32);
-
-// A hart makes the calls of these rows, one after the other. A call that finds no memory is made once more.
-fn work<L: Ledger, R: Wait>(
-    rt: &R,
-    alloc: Global,
-    kernel: &Kernel<L, NoGate>,
+/// A hart's seat, and the calls that it is to make.
+#[derive(Drop)]
+pub struct Task<L: Ledger> {
     seat: Seat<L>,
-    rows: &[Row],
+    calls: Vec<Call>,
+}
+
+/// What harts' work leaves, and how many of their calls were answered.
+pub type Worked<S> = (S, u32);
+
+// Makes a call. What finds no memory is tried once more.
+fn make<L: Ledger, G: Turning + Drop, R: Wait>(
+    rt: &R,
+    kernel: &Kernel<L, G>,
+    gate: &G,
+    seat: Seat<L>,
+    call: Call,
+) -> (Seat<L>, Came) {
+    let hart = seat.hart();
+    gate.start(rt, hart);
+    let made = match kernel.call(rt, seat, call) {
+        Err(CallFault::Memory(seat, call)) => kernel.call(rt, seat, call),
+        Err(CallFault::Stopped(busy, Halt::NoMemory)) => {
+            gate.again(hart);
+            kernel.resume(rt, busy)
+        }
+        made => made,
+    };
+    came_of(made)
+}
+
+// A hart makes its calls, one after the other.
+fn work<L: Ledger, G: Turning + Drop, R: Wait>(
+    rt: &R,
+    kernel: &Kernel<L, G>,
+    gate: &G,
+    task: Task<L>,
 ) -> Worked<Seat<L>> {
+    let Task { seat, calls } = task;
     let hart = seat.hart();
     let mut seat = seat;
-    let mut good: u32 = 0;
-    for (ask, one, other) in rows {
-        let made = match call_of(alloc, hart, *ask) {
-            Err(_) => call_of(alloc, hart, *ask),
-            made => made,
-        };
-        let Ok(call) = made else {
-            return (seat, good);
-        };
-        let (back, came) = called(rt, kernel, seat, call);
+    let mut answered: u32 = 0;
+    for call in calls {
+        let (back, came) = make(rt, kernel, gate, seat, call);
         seat = back;
-        if let Ok(reply) = came {
-            let is_answer = reply.answer == *one || reply.answer == *other;
-            if is_answer && is_handed_back(hart, &reply.call) {
-                good = good.saturating_add(1);
-            }
+        if came.is_ok() {
+            answered = answered.saturating_add(1);
         }
     }
-    (seat, good)
+    gate.end(hart);
+    (seat, answered)
 }
 
-fn two_work<L: Ledger + Send + Sync, R: Threads + Wait + Sync>(
+fn two_work<L: Ledger + Send + Sync, G: Turning + Drop + Sync, R: Threads + Wait + Sync>(
     rt: &R,
-    alloc: Global,
-    kernel: &Kernel<L, NoGate>,
-    seats: [Seat<L>; 2],
+    kernel: &Kernel<L, G>,
+    gate: &G,
+    tasks: [Task<L>; 2],
 ) -> Worked<[Seat<L>; 2]> {
-    let [a, b] = seats;
-    let ((a, good), (b, more)) = thread::join(
+    let [a, b] = tasks;
+    let ((a, answered), (b, more)) = thread::join(
         rt,
-        move || work(rt, alloc, kernel, a, &WORK),
-        move || work(rt, alloc, kernel, b, &WORK),
+        move || work(rt, kernel, gate, a),
+        move || work(rt, kernel, gate, b),
     );
-    ([a, b], good.saturating_add(more))
+    ([a, b], answered.saturating_add(more))
 }
 
-fn four_work<L: Ledger + Send + Sync, R: Threads + Wait + Sync>(
+fn four_work<L: Ledger + Send + Sync, G: Turning + Drop + Sync, R: Threads + Wait + Sync>(
     rt: &R,
-    alloc: Global,
-    kernel: &Kernel<L, NoGate>,
-    seats: [Seat<L>; 4],
+    kernel: &Kernel<L, G>,
+    gate: &G,
+    tasks: [Task<L>; 4],
 ) -> Worked<[Seat<L>; 4]> {
-    let [a, b, c, d] = seats;
-    let ((low, good), (high, more)) = thread::join(
+    let [a, b, c, d] = tasks;
+    let ((low, answered), (high, more)) = thread::join(
         rt,
-        move || two_work(rt, alloc, kernel, [a, b]),
-        move || two_work(rt, alloc, kernel, [c, d]),
+        move || two_work(rt, kernel, gate, [a, b]),
+        move || two_work(rt, kernel, gate, [c, d]),
     );
     let [a, b] = low;
     let [c, d] = high;
-    ([a, b, c, d], good.saturating_add(more))
+    ([a, b, c, d], answered.saturating_add(more))
 }
 
-fn eight_work<L: Ledger + Send + Sync, R: Threads + Wait + Sync>(
+/// Eight harts make their calls at once, each in a thread of its own.
+pub fn eight_work<L: Ledger + Send + Sync, G: Turning + Drop + Sync, R: Threads + Wait + Sync>(
     rt: &R,
-    alloc: Global,
-    kernel: &Kernel<L, NoGate>,
-    seats: [Seat<L>; 8],
+    kernel: &Kernel<L, G>,
+    gate: &G,
+    tasks: [Task<L>; 8],
 ) -> Worked<[Seat<L>; 8]> {
-    let [a, b, c, d, e, f, g, h] = seats;
-    let ((low, good), (high, more)) = thread::join(
+    let [a, b, c, d, e, f, g, h] = tasks;
+    let ((low, answered), (high, more)) = thread::join(
         rt,
-        move || four_work(rt, alloc, kernel, [a, b, c, d]),
-        move || four_work(rt, alloc, kernel, [e, f, g, h]),
+        move || four_work(rt, kernel, gate, [a, b, c, d]),
+        move || four_work(rt, kernel, gate, [e, f, g, h]),
     );
     let [a, b, c, d] = low;
     let [e, f, g, h] = high;
-    ([a, b, c, d, e, f, g, h], good.saturating_add(more))
+    ([a, b, c, d, e, f, g, h], answered.saturating_add(more))
+}
+
+/// Each hart's seat with its calls.
+pub fn tasks_of<L: Ledger>(seats: [Seat<L>; 8], calls: [Vec<Call>; 8]) -> [Task<L>; 8] {
+    let [a, b, c, d, e, f, g, h] = seats;
+    let [i, j, k, l, m, n, o, p] = calls;
+    [
+        Task { seat: a, calls: i },
+        Task { seat: b, calls: j },
+        Task { seat: c, calls: k },
+        Task { seat: d, calls: l },
+        Task { seat: e, calls: m },
+        Task { seat: f, calls: n },
+        Task { seat: g, calls: o },
+        Task { seat: h, calls: p },
+    ]
+}
+
+// What the harts call at once, and what hart 0 calls then.
+#[derive(Drop)]
+struct Calls {
+    work: [Vec<Call>; 8],
+    sweep: Vec<Call>,
 }
 
 // Hart 0 takes away the shared names that are left.
 fn sweep<L: Ledger, R: Wait>(
     rt: &R,
-    alloc: Global,
     kernel: &Kernel<L, NoGate>,
     seats: [Seat<L>; 8],
-) -> Worked<[Seat<L>; 8]> {
-    let (a, b, others) = first_two(seats);
-    let (a, good) = work(rt, alloc, kernel, a, &SWEEP);
-    (all_of(a, b, others), good)
+    calls: Vec<Call>,
+) -> [Seat<L>; 8] {
+    let (seat, b, others) = first_two(seats);
+    let (seat, _answered) = work(rt, kernel, &NoGate, Task { seat, calls });
+    all_of(seat, b, others)
 }
 
-// The disk that a round leaves. None where the close is strange.
+// What a round leaves.
 fn round_of<L: Ledger + Send + Sync, R: Threads + Wait + Sync>(
     rt: &R,
     alloc: Global,
     kernel: Kernel<L, NoGate>,
     seats: [Seat<L>; 8],
-) -> Option<Worked<MemoryDisk>>
+    calls: Calls,
+) -> Result<Left, Fail>
     requires { L.parts ≡ 8 }
 {
-    let (seats, good) = eight_work(rt, alloc, &kernel, seats);
-    let (seats, swept) = sweep(rt, alloc, &kernel, seats);
+    let Calls { work, sweep: last } = calls;
+    let (seats, _answered) = eight_work(rt, &kernel, &NoGate, tasks_of(seats, work));
+    let seats = sweep(rt, &kernel, seats, last);
     let Ok(closed) = kernel.close(seats) else {
-        return None;
+        return Err(Fail::new("no close"));
     };
-    Some((closed.into_disk(), good.saturating_add(swept)))
+    Ok(left_by(alloc, closed)?)
 }
 
 fn round<L: Ledger + Send + Sync, R: Threads + Wait + Sync>(
@@ -240,7 +205,8 @@ fn round<L: Ledger + Send + Sync, R: Threads + Wait + Sync>(
     alloc: Global,
     blank: Blank,
     image: Vec<u8>,
-) -> Result<Option<Worked<MemoryDisk>>, MountFault>
+    calls: Calls,
+) -> Result<Left, Fail>
     requires name { blank.name ≡ L.name }
     requires parts { blank.parts ≡ L.parts }
     requires eight { blank.parts ≡ 8 }
@@ -248,9 +214,9 @@ fn round<L: Ledger + Send + Sync, R: Threads + Wait + Sync>(
     match Kernel::<L, NoGate>::open(alloc, blank, image, u64::MAX, NoGate) {
         Ok(opened) => {
             let (kernel, seats) = opened;
-            Ok(round_of(rt, alloc, kernel, seats))
+            round_of(rt, alloc, kernel, seats, calls)
         }
-        Err(fault) => Err(fault),
+        Err(fault) => Err(no_kernel(fault)),
     }
 }
 
@@ -260,11 +226,17 @@ fn round<L: Ledger + Send + Sync, R: Threads + Wait + Sync>(
 fn eight_harts(rt: HostRuntime) -> Result<(), Fail> {
     let alloc = rt.alloc();
     let image = image(alloc)?;
+    let files = Rounds::new(alloc, &FILES)?;
+    let mut all = Rounds::new(alloc, &FILES)?;
+    all.add(0, &SWEEP)?;
     for _ in 0..ROUNDS {
-        let came = round::<Brand, HostRuntime>(&rt, alloc, Blank::new(8), image.clone()?);
-        let (mut disk, good) = came.map_err(no_kernel)?.ok_or("no close")?;
-        assert_eq!(rt; good, CALLS);
-        let shape = examine(alloc, &mut disk).map_err(no_kernel)?;
+        let calls = Calls {
+            work: files.calls(alloc)?,
+            sweep: calls_of(alloc, 0, &SWEEP)?,
+        };
+        let left = round::<Brand, HostRuntime>(&rt, alloc, Blank::new(8), image.clone()?, calls)?;
+        assert_eq!(rt; all.count_good(&left), CALLS);
+        let shape = examine(alloc, &mut MemoryDisk::new(left.bytes)).map_err(no_kernel)?;
         assert!(rt; (shape.live, shape.orphans, shape.blocks) == (1, 0, 1));
     }
     Ok(())

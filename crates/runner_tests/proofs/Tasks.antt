@@ -1,0 +1,12 @@
+-- A task may go to another thread.
+use denote.RattleType.{RattleType}
+use denote.Param.Send.{IsSend, sendable}
+use denote.Param.SendFields.{declared_send}
+use Rattle.std.proofs.Crossing.{crosses}
+use Rattle.std.specs.declared.sync.ledger.Ledger.{Ghosts}
+use Rattle.plain_tree.proofs.call.Call.TheSendSync as call
+use Rattle.hart_runner.proofs.Sent.{seat_send}
+use Rattle.runner_tests.specs.contracts.work.Task as task
+
+pub task_send : (L : RattleType) (g : Ghosts L.Denot) → IsSend L → IsSend (task.the_row L g)
+task_send L g s = declared_send (task.the_type L g) (search (seat_send, call.the_send, sendable, crosses) depth 60 fits 20000)

@@ -1,0 +1,312 @@
+//! Where memory is short: `bin/short-memory` refuses each request for memory in turn that a call makes, which is made between the first lines
+//! "call" and "done". Then it answers 33, and the run goes on as one that met no refusal.
+ghost use Rattle.std.specs.Prelude.{◌≡◌};
+
+use crate::kernels::{all_of, bytes, called, came_of, first_two, image, no_kernel};
+use crate::runs::{Left, are_same, left_by};
+use console::ConsoleFault;
+use console_parts::{Mode, Schedule};
+use console_threads::{ThreadsFault, run_threads, status};
+use hart_runner::{CallFault, Gate, Kernel, NoGate, Seat};
+use image_tree::MountFault;
+use locked_world::Halt;
+use plain_tree::Call;
+use std::alloc::{AllocError, Global};
+use std::marker::Brand;
+use std::sync::Wait;
+use std::sync::ledger::{Blank, Ledger};
+use std::test::Fail;
+use std::thread::Threads;
+
+// The answer of a call that was refused memory, and that of one that wasn't.
+const NO_MEMORY: u8 = 33;
+
+const ANSWERED: u8 = 0;
+
+// What is answered, and what the run leaves.
+type Ended = (u8, Left);
+
+fn closed<L: Ledger, G: Gate + Drop>(
+    alloc: Global,
+    kernel: Kernel<L, G>,
+    seats: [Seat<L>; 8],
+) -> Result<Left, Fail>
+    requires { L.parts ≡ 8 }
+{
+    match kernel.close(seats) {
+        Ok(closed) => Ok(left_by(alloc, closed)?),
+        Err(_) => Err(Fail::new("no close")),
+    }
+}
+
+// What a kernel leaves that is opened between the lines, and closed without a call.
+fn opened<L: Ledger, R: Print>(
+    rt: &R,
+    alloc: Global,
+    blank: Blank,
+    image: Vec<u8>,
+) -> Result<Result<Left, MountFault>, Fail>
+    requires name { blank.name ≡ L.name }
+    requires parts { blank.parts ≡ L.parts }
+    requires eight { blank.parts ≡ 8 }
+{
+    let _ = println!(rt; "call");
+    let came = Kernel::<L, NoGate>::open(alloc, blank, image, u64::MAX, NoGate);
+    let _ = println!(rt; "done");
+    match came {
+        Ok(opened) => {
+            let (kernel, seats) = opened;
+            Ok(Ok(closed(alloc, kernel, seats)?))
+        }
+        Err(fault) => Ok(Err(fault)),
+    }
+}
+
+fn open_once<R: Print>(
+    rt: &R,
+    alloc: Global,
+    image: Vec<u8>,
+) -> Result<Result<Left, MountFault>, Fail> {
+    opened::<Brand, R>(rt, alloc, Blank::new(8), image)
+}
+
+/// A kernel that isn't opened for want of memory is opened the next time.
+#[test]
+fn of_open(rt: HostRuntime) -> Result<(), Fail> {
+    let alloc = rt.alloc();
+    let image = image(alloc)?;
+    let (answer, left) = match open_once(&rt, alloc, image.clone()?)? {
+        Ok(left) => (ANSWERED, left),
+        Err(fault) => {
+            let again = open_once(&rt, alloc, image.clone()?)?;
+            (fault.number(), again.map_err(no_kernel)?)
+        }
+    };
+    println!(rt; "answer {answer}")?;
+    assert!(rt; answer == ANSWERED || answer == NO_MEMORY);
+    assert!(rt; left.events.is_empty() && left.outcomes.is_empty());
+    assert!(rt; left.bytes.as_slice() == image.as_slice());
+    Ok(())
+}
+
+fn mkdir(alloc: Global) -> Result<Call, AllocError> {
+    Ok(Call::Mkdir {
+        path: bytes(alloc, b"/d")?,
+    })
+}
+
+// A call, made between the lines. Where it finds no memory, what is handed back is made once more, or goes on.
+fn call_short<L: Ledger, R: Wait + Print>(
+    rt: &R,
+    kernel: &Kernel<L, NoGate>,
+    seat: Seat<L>,
+    call: Call,
+) -> (u8, Seat<L>) {
+    let _ = println!(rt; "call");
+    let came = kernel.call(rt, seat, call);
+    let _ = println!(rt; "done");
+    let (answer, made) = match came {
+        Err(CallFault::Memory(seat, call)) => (NO_MEMORY, kernel.call(rt, seat, call)),
+        Err(CallFault::Stopped(busy, Halt::NoMemory)) => (NO_MEMORY, kernel.resume(rt, busy)),
+        came => (ANSWERED, came),
+    };
+    let (seat, _) = came_of(made);
+    (answer, seat)
+}
+
+// A run of that call, and a further one of the same hart.
+fn run_call<L: Ledger, R: Wait + Print>(
+    rt: &R,
+    alloc: Global,
+    kernel: Kernel<L, NoGate>,
+    seats: [Seat<L>; 8],
+    calls: (Call, Call),
+) -> Result<Ended, Fail>
+    requires { L.parts ≡ 8 }
+{
+    let (seat, b, others) = first_two(seats);
+    let (answer, seat) = call_short(rt, &kernel, seat, calls.0);
+    let (seat, _) = called(rt, &kernel, seat, calls.1);
+    Ok((answer, closed(alloc, kernel, all_of(seat, b, others))?))
+}
+
+fn call_on<L: Ledger, R: Wait + Print>(
+    rt: &R,
+    alloc: Global,
+    blank: Blank,
+    image: Vec<u8>,
+    calls: (Call, Call),
+) -> Result<Ended, Fail>
+    requires name { blank.name ≡ L.name }
+    requires parts { blank.parts ≡ L.parts }
+    requires eight { blank.parts ≡ 8 }
+{
+    match Kernel::<L, NoGate>::open(alloc, blank, image, u64::MAX, NoGate) {
+        Ok(opened) => {
+            let (kernel, seats) = opened;
+            run_call(rt, alloc, kernel, seats, calls)
+        }
+        Err(fault) => Err(no_kernel(fault)),
+    }
+}
+
+fn call_once<R: Wait + Print>(rt: &R, alloc: Global) -> Result<Ended, Fail> {
+    let calls = (mkdir(alloc)?, mkdir(alloc)?);
+    call_on::<Brand, R>(rt, alloc, Blank::new(8), image(alloc)?, calls)
+}
+
+/// A call that finds no memory is handed back and not started, or goes on to the reply that it would have had.
+#[test]
+fn of_call(rt: HostRuntime) -> Result<(), Fail> {
+    let alloc = rt.alloc();
+    let (answer, left) = call_once(&rt, alloc)?;
+    println!(rt; "answer {answer}")?;
+    let (_, wanted) = call_once(&rt, alloc)?;
+    assert!(rt; are_same(&left, &wanted));
+    Ok(())
+}
+
+// Prints the first line when a call was started.
+#[derive(Drop)]
+struct Marks<'a, R: Print> {
+    rt: &'a R,
+}
+
+impl<R: Print> Gate for Marks<'_, R> {
+    fn at(&self, _rt: &impl Wait, _hart: u8, number: u64) {
+        let rt = self.rt;
+        if number == 0 {
+            let _ = println!(rt; "call");
+        }
+    }
+}
+
+// A call. Where it finds no memory it goes on, up to the second line; where it then finds none, it goes on once more.
+fn resume_short<L: Ledger, R: Wait + Print>(
+    rt: &R,
+    kernel: &Kernel<L, Marks<'_, R>>,
+    seat: Seat<L>,
+    call: Call,
+) -> (u8, Seat<L>) {
+    let came = match kernel.call(rt, seat, call) {
+        Err(CallFault::Stopped(busy, Halt::NoMemory)) => kernel.resume(rt, busy),
+        came => came,
+    };
+    let _ = println!(rt; "done");
+    let (answer, made) = match came {
+        Err(CallFault::Stopped(busy, Halt::NoMemory)) => (NO_MEMORY, kernel.resume(rt, busy)),
+        came => (ANSWERED, came),
+    };
+    let (seat, _) = came_of(made);
+    (answer, seat)
+}
+
+fn run_resume<L: Ledger, R: Wait + Print>(
+    rt: &R,
+    alloc: Global,
+    kernel: Kernel<L, Marks<'_, R>>,
+    seats: [Seat<L>; 8],
+    call: Call,
+) -> Result<Ended, Fail>
+    requires { L.parts ≡ 8 }
+{
+    let (seat, b, others) = first_two(seats);
+    let (answer, seat) = resume_short(rt, &kernel, seat, call);
+    Ok((answer, closed(alloc, kernel, all_of(seat, b, others))?))
+}
+
+fn resume_on<'a, L: Ledger, R: Wait + Print>(
+    rt: &'a R,
+    alloc: Global,
+    blank: Blank,
+    image: Vec<u8>,
+    call: Call,
+) -> Result<Ended, Fail>
+    requires name { blank.name ≡ L.name }
+    requires parts { blank.parts ≡ L.parts }
+    requires eight { blank.parts ≡ 8 }
+{
+    let gate = Marks { rt };
+    match Kernel::<L, Marks<'a, R>>::open(alloc, blank, image, u64::MAX, gate) {
+        Ok(opened) => {
+            let (kernel, seats) = opened;
+            run_resume(rt, alloc, kernel, seats, call)
+        }
+        Err(fault) => Err(no_kernel(fault)),
+    }
+}
+
+fn resume_once<R: Wait + Print>(rt: &R, alloc: Global) -> Result<Ended, Fail> {
+    resume_on::<Brand, R>(rt, alloc, Blank::new(8), image(alloc)?, mkdir(alloc)?)
+}
+
+/// A call that is stopped for want of memory, and stopped again as it goes on, has changed nothing: it comes to the reply that it would have
+/// had. Of its requests two in a row are refused.
+#[test]
+fn of_resume(rt: HostRuntime) -> Result<(), Fail> {
+    let alloc = rt.alloc();
+    let (answer, left) = resume_once(&rt, alloc)?;
+    println!(rt; "answer {answer}")?;
+    let (_, wanted) = resume_once(&rt, alloc)?;
+    assert!(rt; are_same(&left, &wanted));
+    Ok(())
+}
+
+const SCRIPT: &[u8] =
+    b"3 mkdir /d\n3 open /d/f 0x202\n3 write 0 hello\n3 close 0\n3 open hex:00 0\n3 unlink /d/f\n";
+
+const LINES: &[u8] =
+    b"3 mkdir ok\n3 open fd 0\n3 write 5\n3 close ok\n3 open refused 43 ZeroInPath\n3 unlink ok\n";
+
+// Room for what is printed, so that no line asks for more.
+const ROOM: usize = 65_536;
+
+const MODE: Mode = Mode {
+    schedule: Schedule::Round,
+    last: 3,
+    timeline: true,
+    explain: true,
+    check: false,
+};
+
+fn number_of(fault: &ThreadsFault) -> u8 {
+    match fault {
+        ThreadsFault::Console(ConsoleFault::Memory) => NO_MEMORY,
+        fault => status(fault),
+    }
+}
+
+fn answer_of<R: Threads + Wait + Sync>(
+    rt: &R,
+    alloc: Global,
+    image: Vec<u8>,
+    out: &mut Vec<u8>,
+) -> u8 {
+    match run_threads(rt, alloc, Some(image), MODE, SCRIPT, out).err() {
+        None => ANSWERED,
+        Some(fault) => number_of(&fault),
+    }
+}
+
+/// What is printed of a script whose threads find no memory is a beginning of what is printed else, and all of it the next time.
+#[test]
+fn of_run_threads(rt: HostRuntime) -> Result<(), Fail> {
+    let alloc = rt.alloc();
+    let image = image(alloc)?;
+    let mut wanted = Vec::new(alloc);
+    let copy = image.clone()?;
+    assert!(rt; answer_of(&rt, alloc, copy, &mut wanted) == ANSWERED);
+    assert!(rt; wanted.starts_with(LINES));
+    let mut out = Vec::with_capacity(alloc, ROOM)?;
+    let copy = image.clone()?;
+    let _ = println!(rt; "call");
+    let answer = answer_of(&rt, alloc, copy, &mut out);
+    let _ = println!(rt; "done");
+    println!(rt; "answer {answer}")?;
+    assert!(rt; answer == ANSWERED && out.len() == wanted.len() || answer == NO_MEMORY);
+    assert!(rt; wanted.starts_with(out.as_slice()));
+    out.clear();
+    assert!(rt; answer_of(&rt, alloc, image, &mut out) == ANSWERED);
+    assert!(rt; out.as_slice() == wanted.as_slice());
+    Ok(())
+}
