@@ -1,5 +1,5 @@
 -- Nodes that nothing keeps leave the tree one after another.
-use Rattle.std.proofs.Common.{◌≡◌, ◌≢◌, ℕ, ◌+◌, ◌<◌, ◌≤◌, Bool, true, false, ◌||◌, nat_lt, length, ◌⊎◌, inl, inr, refl, sym, ◌∙◌, ap, subst, arith, Option, None, cond}
+use Rattle.std.proofs.Common.{◌≡◌, ◌≢◌, ℕ, zero, suc, ◌+◌, ◌<◌, ◌≤◌, Bool, true, false, ◌||◌, ◌&&◌, not, ◌==◌, nat_lt, length, ◌⊎◌, inl, inr, refl, sym, ◌∙◌, ap, subst, arith, Option, Some, None, cond}
 use Rattle.std.proofs.Math.Path.{fun_ext}
 use Rattle.std.proofs.Math.ListN.{get_or-eq_default}
 use Rattle.std.proofs.lemmas.Bool.{cases_eq, cases_Bool}
@@ -8,7 +8,7 @@ use Rattle.plain_tree.specs.declared.node.Node.{Node}
 use Rattle.plain_tree.specs.TreeData.{TreeData}
 use Rattle.plain_tree.specs.Tree.{Tree, tree_of, is_live, is_named, put, settle}
 use Rattle.plain_tree.specs.Steps.{with_nodes}
-use Rattle.plain_tree.specs.Code.{settled_below}
+use Rattle.plain_tree.specs.Code.{is_lost, lost_of, settled_below}
 use Rattle.plain_tree.proofs.TreeLemmas.{put_same, put_other}
 
 pub named_with : (t : Tree) (ns : ℕ → Option Node) (n : ℕ) → is_named (with_nodes t ns) n ≡ is_named t n
@@ -24,13 +24,15 @@ lt_false k n h = grind (arith, nat_tests)
 cases_lt : (k n : ℕ) → (k < n) ⊎ (n ≤ k)
 cases_lt k n = elim (cases_Bool (nat_lt k n)) [ inl y ↦ inl (grind (arith, nat_tests)) | inr y ↦ inr (grind (arith, nat_tests)) ]
 
-kept_at : (t : Tree) (n : ℕ) → (is_live (t.nodes n) || is_named t n) ≡ true → (settle t).nodes n ≡ t.nodes n
-unfolding settle
-kept_at t n h = rw h refl
+live_or : (c : ℕ) (b : Bool) → ((c == 0) && not b) ≡ false → (nat_lt 0 c || b) ≡ true
+live_or zero true h = refl
+live_or zero false h = grind (arith, h)
+live_or (suc c) b h = rw (lt_true 0 (suc c) (omega arith)) refl
 
-gone_at : (t : Tree) (n : ℕ) → (is_live (t.nodes n) || is_named t n) ≡ false → (settle t).nodes n ≡ None
-unfolding settle
-gone_at t n h = rw h refl
+dead_or : (c : ℕ) (b : Bool) → ((c == 0) && not b) ≡ true → (nat_lt 0 c || b) ≡ false
+dead_or zero true h = grind (arith, h)
+dead_or zero false h = refl
+dead_or (suc c) b h = grind (arith, h)
 
 none_both : (b : Bool) → cond {A = Option Node} b None None ≡ None
 none_both true = refl
@@ -39,6 +41,23 @@ none_both false = refl
 none_at : (t : Tree) (n : ℕ) → t.nodes n ≡ None → (settle t).nodes n ≡ None
 unfolding settle
 none_at t n h = rw h (none_both (is_named t n))
+
+-- by whether the node is lost that stands there
+stays_of : (o : Option Node) (b : Bool) → lost_of o b ≡ false → cond (is_live o || b) o None ≡ o
+stays_of None b h = none_both b
+stays_of (Some v) b h = rw (live_or v.count b h) refl
+
+goes_of : (o : Option Node) (b : Bool) → lost_of o b ≡ true → cond (is_live o || b) o None ≡ None
+goes_of None b h = grind (arith, h)
+goes_of (Some v) b h = rw (dead_or v.count b h) refl
+
+kept_at : (t : Tree) (n : ℕ) → is_lost t n ≡ false → (settle t).nodes n ≡ t.nodes n
+unfolding settle
+kept_at t n h = stays_of (t.nodes n) (is_named t n) h
+
+gone_at : (t : Tree) (n : ℕ) → is_lost t n ≡ true → (settle t).nodes n ≡ None
+unfolding settle
+gone_at t n h = goes_of (t.nodes n) (is_named t n) h
 
 below_in : (n k : ℕ) (t : Tree) → k < n → (settled_below n t).nodes k ≡ (settle t).nodes k
 below_in n k t h = rw (lt_true k n h) refl
@@ -52,7 +71,7 @@ same_elsewhere n k t ne = elim (cases_lt k n) [
   | inr ge ↦ below_out n k t ge ∙ sym (below_out (n + 1) k t (omega arith))
 ]
 
-pub settle_kept : (n : ℕ) (t : Tree) → (is_live ((settled_below n t).nodes n) || is_named (settled_below n t) n) ≡ true → settled_below n t ≡ settled_below (n + 1) t
+pub settle_kept : (n : ℕ) (t : Tree) → is_lost (settled_below n t) n ≡ false → settled_below n t ≡ settled_below (n + 1) t
 settle_kept n t h =
     let kept : (settle t).nodes n ≡ t.nodes n = kept_at t n (rw (below_out n n t (omega arith), named_with t (settled_below n t).nodes n) at h) in
     ap (λ (f : ℕ → Option Node). with_nodes t f) (fun_ext (λ k. elim (cases_eq k n) [
@@ -60,7 +79,7 @@ settle_kept n t h =
       | inr ne ↦ same_elsewhere n k t ne
     ]))
 
-pub settle_gone : (n : ℕ) (t : Tree) → (is_live ((settled_below n t).nodes n) || is_named (settled_below n t) n) ≡ false → with_nodes (settled_below n t) (put (settled_below n t).nodes n None) ≡ settled_below (n + 1) t
+pub settle_gone : (n : ℕ) (t : Tree) → is_lost (settled_below n t) n ≡ true → with_nodes (settled_below n t) (put (settled_below n t).nodes n None) ≡ settled_below (n + 1) t
 settle_gone n t h =
     let gone : (settle t).nodes n ≡ None = gone_at t n (rw (below_out n n t (omega arith), named_with t (settled_below n t).nodes n) at h) in
     ap (λ (f : ℕ → Option Node). with_nodes t f) (fun_ext (λ k. elim (cases_eq k n) [
@@ -82,11 +101,11 @@ settle_all d = settled_as (tree_of d) (settled_below (length d.nodes) (tree_of d
 ]))
 
 -- T: the tree after the nodes below n
-pub step_kept : (T t : Tree) (n : ℕ) → T ≡ settled_below n t → (is_live (T.nodes n) || is_named T n) ≡ true → T ≡ settled_below (n + 1) t
-step_kept T t n is h = is ∙ settle_kept n t (let P : Tree → Type 0 = λ x. (is_live (x.nodes n) || is_named x n) ≡ true in subst P is h)
+pub step_kept : (T t : Tree) (n : ℕ) → T ≡ settled_below n t → is_lost T n ≡ false → T ≡ settled_below (n + 1) t
+step_kept T t n is h = is ∙ settle_kept n t (let P : Tree → Type 0 = λ x. is_lost x n ≡ false in subst P is h)
 
-pub step_gone : (T T' t : Tree) (n : ℕ) → T ≡ settled_below n t → T' ≡ with_nodes T (put T.nodes n None) → (is_live (T.nodes n) || is_named T n) ≡ false → T' ≡ settled_below (n + 1) t
-step_gone T T' t n is now h = now ∙ (ap (λ (x : Tree). with_nodes x (put x.nodes n None)) is ∙ settle_gone n t (let P : Tree → Type 0 = λ x. (is_live (x.nodes n) || is_named x n) ≡ false in subst P is h))
+pub step_gone : (T T' t : Tree) (n : ℕ) → T ≡ settled_below n t → T' ≡ with_nodes T (put T.nodes n None) → is_lost T n ≡ true → T' ≡ settled_below (n + 1) t
+step_gone T T' t n is now h = now ∙ (ap (λ (x : Tree). with_nodes x (put x.nodes n None)) is ∙ settle_gone n t (let P : Tree → Type 0 = λ x. is_lost x n ≡ true in subst P is h))
 
 pub settle_end : (T : Tree) (d : TreeData) (m n : ℕ) → T ≡ settled_below n (tree_of d) → m ≡ length d.nodes → m ≤ n → n ≤ m → T ≡ settle (tree_of d)
 settle_end T d m n is e le ge =

@@ -1,5 +1,6 @@
 -- Words in which the code's parts are promised.
-use Rattle.std.specs.Prelude.{ℕ, ◌≡◌, ◌+◌, ◌^◌, ◌==◌, true, false, ◌<◌, ◌++◌, length, slice_index_or, slice_set, Bool, List, [], ◌∷◌, take, nat_lt, if◌then◌else◌, Option, Some, None}
+use Rattle.std.specs.Prelude.{ℕ, ◌≡◌, ◌+◌, ◌^◌, ◌==◌, ◌&&◌, not, true, false, ◌<◌, ◌++◌, length, slice_index_or, slice_set, Bool, List, [], ◌∷◌, take, nat_lt, if◌then◌else◌, Option, Some, None}
+use Rattle.plain_tree.specs.declared.node.Node.{Node}
 use Rattle.plain_tree.specs.declared.node.Slot.{Slot}
 use Rattle.plain_tree.specs.declared.step.Action.{Action}
 use Rattle.plain_tree.specs.declared.step.Action.TheVariants.{Open}
@@ -7,7 +8,7 @@ use Rattle.plain_tree.specs.declared.step.StepAnswer.{StepAnswer}
 use Rattle.plain_tree.specs.declared.step.StepAnswer.TheVariants.{Bytes}
 use Rattle.plain_tree.specs.declared.tree.OpenFile.{OpenFile}
 use Rattle.plain_tree.specs.declared.tree.OpenFileEntry.{OpenFileEntry}
-use Rattle.plain_tree.specs.Tree.{Name, Tree, tree_of, file_in, is_empty, and_then, settle}
+use Rattle.plain_tree.specs.Tree.{Name, Tree, tree_of, file_in, is_empty, and_then, is_named, settle}
 use Rattle.plain_tree.specs.TreeData.{TreeData}
 use Rattle.plain_tree.specs.Steps.{cleared, first_free, has_fd}
 use Rattle.plain_tree.specs.Widths.{name_len}
@@ -20,6 +21,14 @@ with_element bytes es = if is_empty bytes then es else take name_len bytes ∷ e
 abbrev pub with_name : Option ℕ → Name → Option (ℕ × Name)
 with_name None e = None
 with_name (Some d) e = Some (d, e)
+
+-- there is a node, with a count of 0, and no hart names it
+abbrev pub lost_of : Option Node → Bool → Bool
+lost_of None named = false
+lost_of (Some node) named = (node.count == 0) && not named
+
+abbrev pub is_lost : Tree → ℕ → Bool
+is_lost t n = lost_of (t.nodes n) (is_named t n)
 
 -- the tree, settled below n
 abbrev pub settled_below : ℕ → Tree → Tree

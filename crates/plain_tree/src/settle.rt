@@ -1,8 +1,8 @@
 //! The nodes that nothing keeps.
 ghost use Rattle.std.specs.Prelude.{◌≡◌, ◌<◌, ◌||◌, ◌==◌, ℕ};
-ghost use Rattle.plain_tree.specs.Code.{is_id};
+ghost use Rattle.plain_tree.specs.Code.{is_id, is_lost};
 ghost use Rattle.plain_tree.specs.Steps.{has_fd};
-ghost use Rattle.plain_tree.specs.Tree.{any_below, fd_names, hold_names, is_live, is_named, settle, tree_of};
+ghost use Rattle.plain_tree.specs.Tree.{any_below, fd_names, hold_names, is_named, settle, tree_of};
 ghost use Rattle.plain_tree.specs.Widths.{descriptor_count};
 
 use crate::tree::Tree;
@@ -93,14 +93,14 @@ impl Tree {
         false
     }
 
-    fn is_kept(&self, number: usize) -> bool
-        ensures { result ≡ (is_live ((tree_of self.now).nodes number) || is_named (tree_of self.now) number) }
+    /// A node has this number that nothing keeps: its count is 0, and no hart names it.
+    fn is_lost(&self, number: usize) -> bool
+        ensures { result ≡ is_lost (tree_of self.now) number }
     {
-        let live = match self.node(number) {
-            Some(node) => node.count > 0,
+        match self.node(number) {
+            Some(node) => node.count == 0 && !self.is_named(number),
             None => false,
-        };
-        live || self.is_named(number)
+        }
     }
 
     /// The nodes that nothing keeps go.
@@ -108,7 +108,7 @@ impl Tree {
         ensures { tree_of self.new ≡ settle (tree_of self.old) }
     {
         for number in 0..self.ninodes() {
-            if !self.is_kept(number) {
+            if self.is_lost(number) {
                 self.drop_node(number);
             }
         }

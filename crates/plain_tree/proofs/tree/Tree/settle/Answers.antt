@@ -2,15 +2,15 @@ use Rattle.std.proofs.Common.{sym, ◌∙◌, ap}
 use Rattle.plain_tree.specs.Tree.{tree_of}
 use Rattle.plain_tree.proofs.SettleLemmas.{step_kept, step_gone, settle_none, settle_end}
 use Rattle.plain_tree.proofs.tree.Tree.settle.Goals as goal
-use Rattle.plain_tree.proofs.tree.Tree.settle.Goals.{then-not-is_kept, else-not-is_kept}
+use Rattle.plain_tree.proofs.tree.Tree.settle.Goals.{then-is_lost, else-is_lost}
 
 pub loop-number-init : goal.loop-number-init
 loop-number-init c = sym (settle_none _)
 
 pub loop-number-preserved : goal.loop-number-preserved
-loop-number-preserved c = elim c.if-not-is_kept.branch [
-  | then-not-is_kept w ↦ ap tree_of w.self-is ∙ step_gone (tree_of c.loop-number.self) (tree_of w.drop_node.new.self) (tree_of c.args.self.now) c.loop-number.number c.loop-number.invariant w.drop_node.ensures (sym c.is_kept.ensures ∙ w.if-not-is_kept.true)
-  | else-not-is_kept w ↦ ap tree_of w.self-is ∙ step_kept (tree_of c.loop-number.self) (tree_of c.args.self.now) c.loop-number.number c.loop-number.invariant (sym c.is_kept.ensures ∙ w.if-not-is_kept.false)
+loop-number-preserved c = elim c.if-is_lost.branch [
+  | then-is_lost w ↦ ap tree_of w.self-is ∙ step_gone (tree_of c.loop-number.self) (tree_of w.drop_node.new.self) (tree_of c.args.self.now) c.loop-number.number c.loop-number.invariant w.drop_node.ensures (sym c.is_lost.ensures ∙ w.if-is_lost.true)
+  | else-is_lost w ↦ ap tree_of w.self-is ∙ step_kept (tree_of c.loop-number.self) (tree_of c.args.self.now) c.loop-number.number c.loop-number.invariant (sym c.is_lost.ensures ∙ w.if-is_lost.false)
 ]
 
 pub returns : goal.returns
