@@ -20,3 +20,8 @@ pub mod Shown
 pub mod Worlds
 pub mod RoomRuns
 pub mod Traced
+pub mod Numbered
+pub mod Left
+pub mod Listed
+pub mod Growing
+pub mod OneList

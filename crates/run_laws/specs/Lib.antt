@@ -2,3 +2,4 @@ pub mod WholeInodes
 pub mod Laws
 pub mod Worlds
 pub mod Rooms
+pub mod OneList

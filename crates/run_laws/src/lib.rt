@@ -1,7 +1,9 @@
-//! Every run of the calls on blocks is a run of the machine of whole inodes. The functions do nothing: each carries a law.
+//! Every run of the calls on blocks is a run of the machine of whole inodes, and has one list of tree steps. The functions do nothing:
+//! each carries a law.
 #![tactic(auto)]
 
 ghost use Rattle.run_laws.specs.Laws.{RunsRefineWholeInodes};
+ghost use Rattle.run_laws.specs.OneList.{RunsHaveOneList};
 ghost use Rattle.run_laws.specs.Rooms.{RoomIsToldByAnswers};
 ghost use Rattle.run_laws.specs.Worlds.{WorldsRefineWholeInodes};
 
@@ -28,6 +30,16 @@ pub fn worlds_refine_whole_inodes<D: Device>(world: &World<D>)
 /// which acts there.
 pub fn room_is_told_by_answers<D: Device>(world: &World<D>)
     ensures { RoomIsToldByAnswers D.contents D.failures world.now }
+{
+    let _ = world;
+}
+
+/// A run has one list of tree steps, which is a function of its events with the device's answers, and only grows. Behind each event,
+/// wherever the world is stopped, the list so far is a beginning of that of the whole run; it explains the calls and the replies so far;
+/// and the disk's tree is what has names in the tree after a beginning of that same list: the entries of the events up to the cut, or
+/// up to the doubt. It is so as long as no step found no room, and no path climbs or one hart alone makes calls.
+pub fn runs_have_one_list<D: Device>(world: &World<D>)
+    ensures { RunsHaveOneList D.contents D.failures world.now }
 {
     let _ = world;
 }

@@ -1,0 +1,61 @@
+-- A run has one list of tree steps, and it only grows: each beginning of the run agrees with it.
+use Rattle.std.specs.Prelude.{◌≡◌, ◌⊎◌, ℕ, ◌≤◌, List, ◌++◌, length, take}
+use Rattle.image_tree.specs.Trees.{tree_in}
+use Rattle.plain_tree.specs.declared.call.Call.{Call}
+use Rattle.plain_tree.specs.declared.trace.Placed.{Placed}
+use Rattle.plain_tree.specs.Explains.{Chain, Explains, IsNamedPart}
+use Rattle.plain_tree.specs.Tree.{Tree, tree_of}
+use Rattle.plain_tree.specs.TreeData.{TreeData}
+use Rattle.group_log.specs.Stories.{IsMarked}
+use Rattle.tree_moves.specs.Laws.{before}
+use Rattle.atomic_programs.specs.Calls.{Event as EventOf}
+use Rattle.fs_machine.specs.LogPart.{Outside}
+use Rattle.kept_history.specs.Kept.{history_of}
+use Rattle.calls_on_blocks.specs.History.{block_moves, first}
+use Rattle.hart_core.specs.declared.events.Came.{Came}
+use Rattle.hart_core.specs.declared.events.Event.{Event}
+use Rattle.hart_core.specs.Harts.{HartsOf}
+use Rattle.hart_core.specs.Runs.{FoundRoom, IsHistory, IsMounted, NoneClimbs, OneHart, trace_in}
+use Rattle.hart_core.specs.Stops.{after_first, marks_of}
+use Rattle.hart_core.specs.Worlds.{WorldOf}
+
+-- the list has these entries first
+abbrev pub IsBeginningOf : List Placed → List Placed → Type 0
+IsBeginningOf entries list = (rest : List Placed) × (entries ++ rest ≡ list)
+
+module _ {D : Type 0} (contents : D → List (List ℕ)) (failures : D → ℕ) where
+  -- The list of tree steps of this history of a run of this world: it is kept beside the events, each of which appends what it did.
+  abbrev pub list_of : WorldOf D → List (EventOf Call Outside) → List Placed
+  list_of w history =
+      let device = w.harts.core.log.cache.device in
+      history_of (block_moves w.sizes) (first (contents device) (failures device)) history
+
+  -- the disk as it is after the first k events
+  abbrev pub disk_after : WorldOf D → ℕ → List (EventOf Call Outside) → List (List ℕ)
+  disk_after w k history = (after_first contents failures w k history).shared.state.log.contents
+
+  -- The first k events of a run agree with the list of the whole run.
+  pub record AgreesWithTheList (base : TreeData) (w : WorldOf D) (events : List Event) (came : List Came)
+      (history : List (EventOf Call Outside)) (k : ℕ) : Type 0 where
+    -- The list so far is a beginning of it: the entries of those events.
+    pub so_far : list_of w (take k history) ≡ before k (list_of w history)
+    pub begins : IsBeginningOf (list_of w (take k history)) (list_of w history)
+    -- It explains the calls that were started so far, and their replies.
+    pub explains : Explains base (trace_in (take k events) (take k came)) (list_of w (take k history))
+    -- Where the world is stopped now, so many events are stored: those up to the cut, or up to the doubt.
+    pub stored : ℕ
+    pub marked : IsMarked (marks_of contents failures w (take k history)) stored
+    pub past : stored ≤ k
+    -- The disk's tree is what has names in the tree to which their entries lead.
+    pub tree : Tree
+    pub leads : Chain (tree_of base) (before stored (list_of w history)) tree
+    pub named : IsNamedPart tree (tree_of (tree_in (disk_after w k history)))
+
+  -- In each history of a run of this world, where it is as a mount left it, all beginnings agree with one list, from the image's tree: as
+  -- long as no step found no room, and no path climbs or one hart has made all calls.
+  abbrev pub RunsHaveOneList : WorldOf D → Type 0
+  RunsHaveOneList w =
+      (device : D) (events : List Event) (came : List Came) (new : HartsOf D) (history : List (EventOf Call Outside))
+      → IsMounted contents failures device w → IsHistory contents failures w.sizes w.harts events came new history
+      → FoundRoom contents failures w history → NoneClimbs (trace_in events came) ⊎ OneHart (trace_in events came)
+      → (k : ℕ) → k ≤ length events → AgreesWithTheList (tree_in (contents device)) w events came history k
