@@ -1,3 +1,6 @@
+pub mod IdleCounts
+pub mod IdleRuns
+pub mod Idle
 pub mod Telling
 pub mod Fits
 pub mod PathFits

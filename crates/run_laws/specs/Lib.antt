@@ -1,3 +1,4 @@
+pub mod Idle
 pub mod WholeInodes
 pub mod Laws
 pub mod Worlds

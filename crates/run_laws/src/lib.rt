@@ -1,7 +1,8 @@
-//! Every run of the calls on blocks is a run of the machine of whole inodes, and has one list of tree steps. The functions do nothing:
-//! each carries a law.
+//! Every run of the calls on blocks is a run of the machine of whole inodes, has one list of tree steps, and leaves nothing behind in an idle
+//! hart. The functions do nothing: each carries a law.
 #![tactic(auto)]
 
+ghost use Rattle.run_laws.specs.Idle.{IdleHartsHaveBegunNothing};
 ghost use Rattle.run_laws.specs.Laws.{RunsRefineWholeInodes};
 ghost use Rattle.run_laws.specs.OneList.{RunsHaveOneList};
 ghost use Rattle.run_laws.specs.Rooms.{RoomIsToldByAnswers};
@@ -40,6 +41,15 @@ pub fn room_is_told_by_answers<D: Device>(world: &World<D>)
 /// up to the doubt. It is so as long as no step found no room, and no path climbs or one hart alone makes calls.
 pub fn runs_have_one_list<D: Device>(world: &World<D>)
     ensures { RunsHaveOneList D.contents D.failures world.now }
+{
+    let _ = world;
+}
+
+/// Wherever the events of a run of a mounted world lead, a hart without a call has raised no link count for a name to come, and refers to
+/// no inode but its current directory, beside its open files. Where no hart has a call the references to each inode are as many as open
+/// files and current directories have, no place is left taken for a file, and the blocks are a well-formed image.
+pub fn idle_harts_have_begun_nothing<D: Device>(world: &World<D>)
+    ensures { IdleHartsHaveBegunNothing D.contents D.failures world.now }
 {
     let _ = world;
 }
