@@ -2,7 +2,7 @@
 use Rattle.std.specs.Prelude.{◌≡◌, ℕ, ◌-◌, ◌^◌, List, Option, Result, Ok, Err}
 use Rattle.std.specs.Io.KnownBytes.{Appends}
 use Rattle.plain_tree.specs.declared.call.Call.{Call}
-use Rattle.locked_world.specs.Kept.{StoredRun, HasOneHistory, LeavesDisk}
+use Rattle.locked_world.specs.Kept.{StoredRun, ClosedRun, HasOneHistory}
 use Rattle.console_parts.specs.declared.mode.Mode.{Mode}
 use Rattle.console.specs.declared.fault.ConsoleFault.{ConsoleFault}
 use Rattle.console.specs.declared.fault.ConsoleFault.TheVariants as faults
@@ -24,14 +24,14 @@ pub record IsPrinted (mode : Mode) (image : List ℕ) (run : StoredRun) (out out
 -- A run on this image leaves this disk, one that doesn't fail, and is printed. Each hart was to start its calls, and all that were started are answered. One
 -- list of tree steps explains them, if no step found no room and no path climbs.
 pub record IsToldRun (mode : Mode) (image : List ℕ) (calls : List (List Call)) (disk : List ℕ) (out out' : Option (List ℕ)) : Type 0 where
-  pub run : StoredRun
-  pub image_is : run.image ≡ image
-  pub lasts : run.fuse ≡ 2 ^ 64 - 1
-  pub leaves : LeavesDisk run disk
-  pub started : EachStarted run.events eight_harts calls
-  pub answered : AllAnswered calls run
+  pub run : ClosedRun
+  pub image_is : run.stored.image ≡ image
+  pub lasts : run.stored.fuse ≡ 2 ^ 64 - 1
+  pub leaves : disk ≡ run.disk
+  pub started : EachStarted run.stored.events eight_harts calls
+  pub answered : AllAnswered calls run.stored
   pub explained : HasOneHistory run
-  pub printed : IsPrinted mode image run out out'
+  pub printed : IsPrinted mode image run.stored out out'
 
 -- memory was refused, or what is to be printed can't be written
 abbrev pub IsUnprinted : ConsoleFault → Type 0

@@ -109,7 +109,7 @@ fn tell<L: Ledger, W: Write>(
     closed: Closed<L>,
     out: &mut W,
 ) -> Result<MemoryDisk, ThreadsFault>
-    requires { AllAnswered (map (λ v. v.items) asked) closed }
+    requires { AllAnswered (map (λ v. v.items) asked) closed.stored }
     ensures { TellsRun mode image.now (map (λ v. v.items) asked) result (W.contents out.old) (W.contents out.new) }
 {
     if !is_run_on(&closed, image) {
@@ -134,8 +134,8 @@ fn print<L: Ledger, W: Write>(
     events: &[Event],
     out: &mut W,
 ) -> Result<(), ConsoleFault>
-    requires { events.now ≡ closed.now.events }
-    ensures printed { OnOk result (IsPrinted mode image.now closed.now (W.contents out.old) (W.contents out.new)) }
+    requires { events.now ≡ closed.now.stored.events }
+    ensures printed { OnOk result (IsPrinted mode image.now closed.now.stored (W.contents out.old) (W.contents out.new)) }
     ensures unprinted { IfErr result IsUnprinted }
 {
     let outcomes = closed.outcomes(alloc)?;
@@ -147,7 +147,7 @@ fn print<L: Ledger, W: Write>(
 
 // Whether it is a run on this image, over a disk that doesn't fail.
 fn is_run_on<L: Ledger>(closed: &Closed<L>, image: &[u8]) -> bool
-    ensures { IsTrue result ↔ ((closed.now.image ≡ image.now) × (closed.now.fuse ≡ 2 ^ 64 - 1)) }
+    ensures { IsTrue result ↔ ((closed.now.stored.image ≡ image.now) × (closed.now.stored.fuse ≡ 2 ^ 64 - 1)) }
 {
     closed.image() == image && closed.fuse() == u64::MAX
 }

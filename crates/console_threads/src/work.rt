@@ -218,7 +218,7 @@ pub fn run_calls<L: Ledger + Send + Sync, R: Threads + Wait + Sync>(
     requires parts { L.parts ≡ 8 }
     requires harts { map (λ s. s.hart) seats ≡ eight_harts }
     requires fresh { All (λ s. (s.replies ≡ []) × (s.count ≡ 0)) seats }
-    ensures ok { IfOk result (λ c. AllAnswered (map (λ v. v.items) calls) c) }
+    ensures ok { IfOk result (λ c. AllAnswered (map (λ v. v.items) calls) c.stored) }
     ensures err { IfErr result IsBroken }
 {
     let worked = eight_work(rt, &kernel, tasks_of(seats, calls));

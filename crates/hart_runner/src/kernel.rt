@@ -157,8 +157,8 @@ fn split<L: Ledger>(seat: Seat<L>) -> (Share<L>, Kept)
 // The first hart and place of these that is not in the list.
 #[tactic(auto, using(crate::proofs::Listed::grown, crate::proofs::Listed::found, crate::proofs::Listed::whole))]
 fn first_strange<L: Ledger>(closed: &Closed<L>, kept: &[Kept; 8]) -> Option<(u8, u64)>
-    ensures none { IfNone result (All (IsListed closed.now) (map kept_view kept.now)) }
-    ensures some { IfSome result (λ r. OneDiffers r.0 r.1 closed.now (map kept_view kept.now)) }
+    ensures none { IfNone result (All (IsListed closed.now.stored) (map kept_view kept.now)) }
+    ensures some { IfSome result (λ r. OneDiffers r.0 r.1 closed.now.stored (map kept_view kept.now)) }
 {
     for i in 0..8 {
         let one = &kept[i];
@@ -255,9 +255,9 @@ impl<L: Ledger, G: Gate + Drop> Kernel<L, G> {
     #[tactic(auto, using(crate::proofs::Listed::all_seats))]
     pub fn close(self, seats: [Seat<L>; 8]) -> Result<Closed<L>, Strange<L>>
         requires { L.parts ≡ 8 }
-        ensures same { IfOk result (λ c. All (λ s. s.replies ≡ replies_of s.hart c) seats) }
-        ensures counted { IfOk result (λ c. count_of c ≡ sum_by (λ s. s.count) seats) }
-        ensures strange { IfErr result (λ e. Differs e.hart e.place e.closed seats) }
+        ensures same { IfOk result (λ c. All (λ s. s.replies ≡ replies_of s.hart c.stored) seats) }
+        ensures counted { IfOk result (λ c. count_of c.stored ≡ sum_by (λ s. s.count) seats) }
+        ensures strange { IfErr result (λ e. Differs e.hart e.place e.closed.stored seats) }
     {
         let Kernel {
             inside,

@@ -53,8 +53,8 @@ pub fn two_calls<L: Ledger + Send + Sync, G: Gate + Drop + Sync, R: Threads + Wa
     y: Call,
 ) -> Option<(Closed<L>, Receipt<L>, Receipt<L>)>
     requires { L.parts ≡ 8 }
-    ensures first { IfSome result (λ r. StandsIn r.0 r.1) }
-    ensures second { IfSome result (λ r. StandsIn r.0 r.2) }
+    ensures first { IfSome result (λ r. StandsIn r.0.stored r.1) }
+    ensures second { IfSome result (λ r. StandsIn r.0.stored r.2) }
 {
     let (a, b, others) = two_of(seats);
     let shared = &kernel;

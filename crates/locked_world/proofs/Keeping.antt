@@ -29,6 +29,7 @@ use Rattle.hart_core.specs.Worlds.{WorldOf, calls_of, Makes, Answers}
 use Rattle.hart_core.proofs.Histories.{history_more, one_each}
 use Rattle.locked_world.specs.HandedBack.{HandsBack, SpareFits}
 use Rattle.locked_world.specs.Kept.{StoredRun, with_event, contents, failures, IsRunOf, IsKept, replied_by, replies_in, replies_of, counts, count_in, shown_in}
+use Rattle.locked_world.specs.Told.{IsUnmoved}
 use Rattle.locked_world.proofs.Blocks.{answers_fit, may_here, started}
 use Rattle.locked_world.proofs.Spares.{Ends, step_keeps, step_ends, step_waits, start_refused}
 
@@ -144,13 +145,16 @@ ended s w v spares h x r run makes fit =
     subst (λ (m : PlainMade (block_calls w.sizes) (block_code w.sizes)). (reply : Reply) → m.came ≡ DidEnd reply → Ends w.sizes h x (λ k. get_or spares k None) p fit reply m.after) makes
     (step_ends w.sizes h x (λ k. get_or spares k None) p fit (answers_fit s w run h x) (p.running h) refl (may_here s w run h)) r refl
 
--- a try that waits
+-- a try that waits changes nothing
+pub waits_unmoved : (w v : WorldOf Fuse) (h : ℕ) (x : Outside) → Makes contents failures w.sizes (Step h x) w.harts DidWait v.harts → IsUnmoved w v
+waits_unmoved w v h x makes =
+    let p : Plain (block_calls w.sizes) (block_code w.sizes) = calls_of contents failures w.sizes w.harts in
+    subst (λ (m : PlainMade (block_calls w.sizes) (block_code w.sizes)). m.came ≡ DidWait → m.after ≡ p) makes (step_waits w.sizes h x p (p.running h)) refl
+
 pub kept_waits : (s : StoredRun) (total : ℕ) (w : WorldOf Fuse) (given : List ℕ) (spares : List (Option Call)) → IsKept s total w given spares
     → (h : ℕ) (x : Outside) (v : WorldOf Fuse) → v.sizes ≡ w.sizes → Makes contents failures w.sizes (Step h x) w.harts DidWait v.harts → IsKept s total v given spares
 kept_waits s total w given spares k h x v sizes makes =
-    let p : Plain (block_calls w.sizes) (block_code w.sizes) = calls_of contents failures w.sizes w.harts in
-    let same : calls_of contents failures w.sizes v.harts ≡ p =
-    subst (λ (m : PlainMade (block_calls w.sizes) (block_code w.sizes)). m.came ≡ DidWait → m.after ≡ p) makes (step_waits w.sizes h x p (p.running h)) refl in
+    let same : calls_of contents failures w.sizes v.harts ≡ calls_of contents failures w.sizes w.harts = waits_unmoved w v h x makes in
     record {
       run = record {
         first = k.run.first;

@@ -9,3 +9,4 @@ pub mod Listed
 pub mod Noted
 pub mod Explained
 pub mod Opening
+pub mod Halting

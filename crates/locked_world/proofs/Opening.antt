@@ -7,6 +7,7 @@ use Rattle.syscalls.specs.Machines.{Running, running_of}
 use Rattle.hart_core.specs.declared.events.Event.{Event}
 use Rattle.hart_core.specs.declared.events.Came.{Came}
 use Rattle.hart_core.specs.Mounting.{Rests}
+use Rattle.hart_core.specs.Runs.{IsMounted}
 use Rattle.hart_core.specs.Worlds.{WorldOf, calls_of}
 use Rattle.hart_core.proofs.Histories.{no_history}
 use Rattle.hart_core.proofs.Stepping.{nones}
@@ -19,6 +20,13 @@ zeros zero (suc h) = refl
 zeros (suc n) zero = refl
 zeros (suc n) (suc h) = zeros n h
 
+-- the world is mounted on the disk of what is stored
+pub mounted_on : (s : StoredRun) (disk : Fuse) (w : WorldOf Fuse) → disk ≡ disk_of s → Rests contents failures disk w.harts → w.sizes ≡ sizes_of (contents disk) → IsMounted contents failures (disk_of s) w
+mounted_on s disk w same rests sizes = record {
+  rests = subst (λ (d : Fuse). Rests contents failures d w.harts) same rests;
+  sizes = sizes ∙ ap (λ (d : Fuse). sizes_of (contents d)) same;
+}
+
 -- nothing was started, and nothing is laid by
 pub kept_opened : (image : List ℕ) (fuse : ℕ) (es : List Event) (cs : List Came) (total : ℕ) (disk : Fuse) (w : WorldOf Fuse) → es ≡ [] → cs ≡ [] → total ≡ 0 → disk ≡ disk_of (opened image fuse)
     → Rests contents failures disk w.harts → w.sizes ≡ sizes_of (contents disk) → IsKept (record { image = image; fuse = fuse; events = es; outcomes = cs }) total w (replicate 8 0) (replicate 8 None)
@@ -29,7 +37,7 @@ kept_opened image fuse es cs total disk w p q t same rests sizes =
     record {
       run = record {
         first = w;
-        mounted = record { rests = subst (λ (d : Fuse). Rests contents failures d w.harts) same rests; sizes = sizes ∙ ap (λ (d : Fuse). sizes_of (contents d)) same };
+        mounted = mounted_on (opened image fuse) disk w same rests sizes;
         history = ([], no_history contents failures w.sizes w.harts);
         sizes = refl;
       };

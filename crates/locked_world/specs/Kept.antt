@@ -1,4 +1,4 @@
--- What is kept under a lock: an image, a fuse, and the events with what they came to; and what that determines.
+-- What is kept under a lock: an image, a fuse, and the events with what they came to, beside the world that they made; and what is left of it.
 use Rattle.std.specs.Prelude.{◌≡◌, ◌⊎◌, ℕ, ◌+◌, ◌<◌, ◌==◌, if◌then◌else◌, List, [], ◌∷◌, ◌++◌, length, Option, None, slice_index_or, get_or}
 use Rattle.block_device.specs.Blocks.{blocks_of}
 use Rattle.block_device.specs.Fuse.{Fuse}
@@ -7,13 +7,10 @@ use Rattle.plain_tree.specs.declared.answer.Reply.{Reply}
 use Rattle.plain_tree.specs.declared.call.Call.{Call}
 use Rattle.plain_tree.specs.Explains.{Shown}
 use Rattle.plain_tree.specs.Explains.Shown.{Started, Replied, Other}
-use Rattle.atomic_programs.specs.Calls.{Step, DidWait}
-use Rattle.fs_machine.specs.LogPart.{Passes}
 use Rattle.hart_core.specs.declared.events.Event.{Event}
 use Rattle.hart_core.specs.declared.events.Came.{Came}
-use Rattle.hart_core.specs.Harts.{HartsOf}
 use Rattle.hart_core.specs.Runs.{all_shown, trace_in, IsMounted, HasHistory, FoundRoom, NoneClimbs, OneHart, IsExplained}
-use Rattle.hart_core.specs.Worlds.{WorldOf, Makes, calls_of}
+use Rattle.hart_core.specs.Worlds.{WorldOf, calls_of}
 use Rattle.locked_world.specs.HandedBack.{SpareFits}
 
 pub record StoredRun : Type 0 where
@@ -22,6 +19,16 @@ pub record StoredRun : Type 0 where
   pub events : List Event
   -- what each of them came to, in their order
   pub outcomes : List Came
+
+-- what is stored, and the world that it has made
+pub record LockedRun : Type 0 where
+  pub stored : StoredRun
+  pub world : WorldOf Fuse
+
+-- what was stored, and the disk that its world left
+pub record ClosedRun : Type 0 where
+  pub stored : StoredRun
+  pub disk : List ℕ
 
 -- nothing happened yet
 abbrev pub opened : List ℕ → ℕ → StoredRun
@@ -44,6 +51,14 @@ failures d = d.faults
 abbrev pub disk_of : StoredRun → Fuse
 disk_of s = record { bytes = s.image; left = s.fuse; faults = 0 }
 
+-- the device of a world
+abbrev pub device_of : WorldOf Fuse → Fuse
+device_of w = w.harts.core.log.cache.device
+
+-- what a world leaves that ends: what is stored, and its own disk
+abbrev pub closed_of : LockedRun → ClosedRun
+closed_of s = record { stored = s.stored; disk = (device_of s.world).bytes }
+
 -- A run of what is stored: a world was mounted on the disk, the events came to their outcomes, one after the other, and made this world of it.
 pub record IsRunOf (s : StoredRun) (w : WorldOf Fuse) : Type 0 where
   pub first : WorldOf Fuse
@@ -51,16 +66,13 @@ pub record IsRunOf (s : StoredRun) (w : WorldOf Fuse) : Type 0 where
   pub history : HasHistory contents failures first.sizes first.harts s.events s.outcomes w.harts
   pub sizes : w.sizes ≡ first.sizes
 
-abbrev pub IsRun : StoredRun → Type 0
-IsRun s = (w : WorldOf Fuse) × IsRunOf s w
+-- the world is that of a run of what is stored
+abbrev pub IsRun : LockedRun → Type 0
+IsRun s = IsRunOf s.stored s.world
 
 -- the world of a run has this disk
 abbrev pub LeavesDisk : StoredRun → List ℕ → Type 0
-LeavesDisk s bytes = (w : WorldOf Fuse) × IsRunOf s w × (bytes ≡ w.harts.core.log.cache.device.bytes)
-
--- a step of the hart waits in the world of a run
-abbrev pub WaitsThere : StoredRun → ℕ → Type 0
-WaitsThere s h = (w : WorldOf Fuse) × IsRunOf s w × ((still : HartsOf Fuse) × Makes contents failures w.sizes (Step h Passes) w.harts DidWait still)
+LeavesDisk s bytes = (w : WorldOf Fuse) × IsRunOf s w × (bytes ≡ (device_of w).bytes)
 
 -- In this run of what is stored, if no step of it found no room, one list of tree steps explains all calls that were started, from the image's tree: as long as
 -- no path climbs, or where one hart has made all calls.
@@ -68,9 +80,9 @@ abbrev pub OneListExplains : (s : StoredRun) (w : WorldOf Fuse) → IsRunOf s w 
 OneListExplains s w run =
     FoundRoom contents failures run.first run.history.0 → NoneClimbs (trace_in s.events s.outcomes) ⊎ OneHart (trace_in s.events s.outcomes) → IsExplained (tree_in (blocks_of s.image)) (trace_in s.events s.outcomes)
 
--- It is a run, and so is explained whichever run it is.
-abbrev pub HasOneHistory : StoredRun → Type 0
-HasOneHistory s = IsRun s × ((w : WorldOf Fuse) (run : IsRunOf s w) → OneListExplains s w run)
+-- A run left this disk; and whichever run it is, it is explained.
+abbrev pub HasOneHistory : ClosedRun → Type 0
+HasOneHistory c = LeavesDisk c.stored c.disk × ((w : WorldOf Fuse) (run : IsRunOf c.stored w) → OneListExplains c.stored w run)
 
 -- ---- calls and replies
 

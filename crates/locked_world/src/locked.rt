@@ -2,8 +2,8 @@
 ghost use Rattle.std.specs.Prelude.{◌≡◌, ◌≢◌, ◌<◌, ◌≤◌, ◌+◌, ◌∷◌, [], Some, None, IfOk, IfErr, IfNone, IfSome, MatchOption, All, map, sum_by, length, slice_get, slice_set, get_or};
 ghost use Rattle.block_device.specs.Blocks.{blocks_of};
 ghost use Rattle.image_tree.specs.Damage.{IsWellFormed, JudgesFault};
-ghost use Rattle.hart_core.specs.Runs.{all_shown, shown};
-ghost use Rattle.locked_world.specs.Kept.{opened, count_of, replies_of, replies_in, replied_by, IsRun, HasOneHistory, LeavesDisk};
+ghost use Rattle.hart_core.specs.Runs.{IsMounted, all_shown, shown};
+ghost use Rattle.locked_world.specs.Kept.{opened, closed_of, contents, failures, disk_of, count_of, replies_of, replies_in, replied_by, IsRun, HasOneHistory, LeavesDisk};
 ghost use Rattle.locked_world.specs.Told.{Answers, StartAnswers, halt_for};
 
 use crate::closed::Closed;
@@ -80,7 +80,7 @@ pub enum NotStarted {
 }
 
 /// A world with the list of the events that made it, and what they came to. A contract sees the image, the fuse, the events and their
-/// outcomes.
+/// outcomes, and the world itself.
 ///
 /// It must be ended.
 pub struct Locked<L: Ledger> {
@@ -94,11 +94,14 @@ pub struct Locked<L: Ledger> {
 }
 
 impl<L: Ledger> Model for Locked<L> {
-    ghost use Rattle.locked_world.specs.Kept.{StoredRun, IsKept};
+    ghost use Rattle.locked_world.specs.Kept.{LockedRun, IsKept};
 
-    ghost Value = { StoredRun };
+    ghost Value = { LockedRun };
 
-    ghost view = { λ s. record { image = s.image.items; fuse = s.fuse; events = s.story.events; outcomes = s.story.outcomes } };
+    ghost view = { λ s. record {
+      stored = record { image = s.image.items; fuse = s.fuse; events = s.story.events; outcomes = s.story.outcomes };
+      world = s.world;
+    } };
 
     ghost invariant = { λ s. IsKept (record { image = s.image.items; fuse = s.fuse; events = s.story.events; outcomes = s.story.outcomes }) s.book.total s.world s.given s.spare };
 }
@@ -177,7 +180,8 @@ impl<L: Ledger> Locked<L> {
         requires name { blank.name ≡ L.name }
         requires parts { blank.parts ≡ L.parts }
         requires eight { blank.parts ≡ 8 }
-        ensures locked { IfOk result (λ r. r.0 ≡ opened image.items fuse) }
+        ensures opened { IfOk result (λ r. r.0.stored ≡ opened image.items fuse) }
+        ensures mounted { IfOk result (λ r. IsMounted contents failures (disk_of r.0.stored) r.0.world) }
         ensures well { IfOk result (λ _. IsWellFormed (blocks_of image.items)) }
         ensures harts { IfOk result (λ r. map (λ s. s.hart) r.1 ≡ 0 ∷ 1 ∷ 2 ∷ 3 ∷ 4 ∷ 5 ∷ 6 ∷ 7 ∷ []) }
         ensures nothing { IfOk result (λ r. All (λ s. s.tally.amount ≡ 0) r.1) }
@@ -213,8 +217,8 @@ impl<L: Ledger> Locked<L> {
         Ok((locked, shares))
     }
 
-    /// One event: the start of a hart's call. Where it was not started the call comes back, and the share stays; for want of memory
-    /// nothing changes. It makes the copies of the call that its reply will want.
+    /// One event: the start of a hart's call. Where it was not started the call comes back, and the share and the world stay; for want of
+    /// memory nothing changes. It calls no device. It makes the copies of the call that its reply will want.
     pub fn start(
         &mut self,
         share: &mut Share<L>,
@@ -250,7 +254,8 @@ impl<L: Ledger> Locked<L> {
         }
     }
 
-    /// One event: a step of a hart. A try that waits is not stored; for want of memory, which is asked for first, nothing changes.
+    /// One event: a step of a hart, with at most one call of the device. A try that waits is not stored, and changes nothing; for want of
+    /// memory, which is asked for first, nothing changes either.
     pub fn step(&mut self, share: &mut Share<L>, hart: u8) -> Told<L>
         ensures answer { Answers self.old hart result self.new share.old.tally.amount share.new.tally.amount }
         ensures hart { share.new.hart ≡ share.old.hart }
@@ -295,20 +300,20 @@ impl<L: Ledger> Locked<L> {
         }
     }
 
-    /// A law, for a reader; nothing is done. What is stored is a run: a world was mounted on the image, on a disk that passes so many
-    /// calls, and the events came to their outcomes, one after the other.
+    /// A law, for a reader; nothing is done. What is stored is a run of this very world: one was mounted on the image, on a disk that
+    /// passes so many calls, and the events came to their outcomes, one after the other, and made this one of it.
     pub fn is_run(&self)
         ensures { IsRun self.now }
     {
         let _ = &self.world;
     }
 
-    /// Ends the world at any moment, without a call of the device. As many calls were started and answered, together, as the shares
-    /// count.
+    /// Ends the world at any moment, without a call of the device, and leaves its disk. As many calls were started and answered, together,
+    /// as the shares count.
     pub fn end(self, shares: [Share<L>; 8]) -> Closed<L>
         requires { L.parts ≡ 8 }
-        ensures same { result ≡ self }
-        ensures counted { count_of result ≡ sum_by (λ s. s.tally.amount) shares }
+        ensures same { result ≡ closed_of self }
+        ensures counted { count_of result.stored ≡ sum_by (λ s. s.tally.amount) shares }
     {
         let Locked {
             image,

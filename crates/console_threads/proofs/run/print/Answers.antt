@@ -4,7 +4,7 @@ use Rattle.console_threads.proofs.run.print.Goals as goal
 
 pub returns-clause-printed : goal.returns-clause-printed
 returns-clause-printed g c =
-    end_prints c.args.mode c.args.image.now c.args.closed.now c.args.events.now c.as_slice-outcomes.result.now c.in_ok-notes.notes c.finish.result (g.W.Write.contents c.args.out.now) (g.W.Write.contents c.write_harts.new.out) (g.W.Write.contents c.finish.new.out)
+    end_prints c.args.mode c.args.image.now c.args.closed.now.stored c.args.events.now c.as_slice-outcomes.result.now c.in_ok-notes.notes c.finish.result (g.W.Write.contents c.args.out.now) (g.W.Write.contents c.write_harts.new.out) (g.W.Write.contents c.finish.new.out)
     (search rules) (search rules) (search rules) c.in_ok-notes.ensures c.finish.ensures
 
 pub returns-clause-unprinted : goal.returns-clause-unprinted

@@ -12,12 +12,12 @@ returns-in_err-print g c =
 pub returns : goal.returns
 returns g c =
     let on = c.is_run_on.ensures.0 (search rules) in
-    let same : c.as_slice-events.result.now ≡ c.args.closed.events = search rules in
+    let same : c.as_slice-events.result.now ≡ c.args.closed.stored.events = search rules in
     record {
       run = c.args.closed;
       image_is = on.0;
       lasts = on.1;
-      leaves = c.into_disk.ensures;
+      leaves = c.into_disk.ensures.disk;
       started = subst (λ es. EachStarted es eight_harts (map (λ v. v.items) c.args.asked)) same (c.are_started.ensures (search rules));
       answered = c.requires;
       explained = c.one_list_explains_it.ensures;

@@ -3,4 +3,4 @@ use Rattle.locked_world.specs.Kept.{IsRun}
 use Rattle.locked_world.proofs.locked.Locked.is_run.Goals as goal
 
 pub returns : goal.returns
-returns g c = subst IsRun c.self.view_is (c.self.inside.world, c.self.invariant.run)
+returns g c = subst IsRun c.self.view_is c.self.invariant.run

@@ -1,9 +1,10 @@
-use Rattle.std.proofs.Common.{◌∙◌, ◌++◌, ◌∷◌, [], List, refl, ap}
+use Rattle.std.proofs.Common.{◌∙◌, ◌++◌, ◌∷◌, [], List, refl, ap, subst}
 use Rattle.fs_machine.specs.LogPart.{Passes}
 use Rattle.hart_core.specs.declared.events.Event.TheVariants.{Start}
 use Rattle.hart_core.specs.declared.events.Came.{Came}
 use Rattle.hart_core.specs.declared.events.Came.TheVariants.{Started, Refused}
-use Rattle.locked_world.specs.Kept.{StoredRun, with_event}
+use Rattle.locked_world.specs.Kept.{LockedRun, with_event}
+use Rattle.locked_world.specs.Told.{MakesStart}
 use Rattle.locked_world.proofs.Keeping.{kept_started, kept_refused, begun_below}
 use Rattle.locked_world.proofs.locked.Locked.start.Goals as goal
 
@@ -32,11 +33,29 @@ returns-in-Ok-start-clause-answer g c =
     let i = c.self.inside in
     let p = c.started.ensures.events ∙ (λ j. c.make_room.ensures.same.0 j ++ Start c.args.hart (c.in-Ok.ensures.0 j) ∷ []) in
     let q = c.started.ensures.outcomes ∙ ap (λ (z : List Came). z ++ Started ∷ []) c.make_room.ensures.same.1 in
-    (refl, c.in-Ok.ensures.2, (λ j. record { image = i.image.items; fuse = i.fuse; events = p j; outcomes = q j }) ∙ ap (λ (z : StoredRun). with_event z (Start c.args.hart c.args.call) Started) c.self.view_is, c.add.ensures.amount)
+    let made : MakesStart i.world c.args.hart c.args.call Started c.start.new.self = record { makes = c.in-Ok-start.ensures.makes; sizes = c.in-Ok-start.ensures.sizes; core = c.in-Ok-start.ensures.core } in (
+      refl,
+      c.in-Ok.ensures.2,
+      (
+        (λ j. record { image = i.image.items; fuse = i.fuse; events = p j; outcomes = q j }) ∙ ap (λ (z : LockedRun). with_event z.stored (Start c.args.hart c.args.call) Started) c.self.view_is,
+        subst (λ (z : LockedRun). MakesStart z.world c.args.hart c.args.call Started c.start.new.self) c.self.view_is made,
+      ),
+      c.add.ensures.amount,
+    )
 
 pub returns-in-Err-clause-answer : goal.returns-in-Err-clause-answer
 returns-in-Err-clause-answer g c =
     let i = c.self.inside in
     let p = c.refused.ensures.events ∙ (λ j. c.make_room.ensures.same.0 j ++ Start c.args.hart ((c.one_of-event.ensures ∙ c.in-Ok.ensures.0) j) ∷ []) in
     let q = c.refused.ensures.outcomes ∙ ap (λ (z : List Came). z ++ Refused c.in-Err.why ∷ []) c.make_room.ensures.same.1 in
-    (c.in-Err.ensures.back.0, (λ j. record { image = i.image.items; fuse = i.fuse; events = p j; outcomes = q j }) ∙ ap (λ (z : StoredRun). with_event z (Start c.args.hart c.args.call) (Refused c.in-Err.why)) c.self.view_is, refl)
+    let made : MakesStart i.world c.args.hart c.args.call (Refused c.in-Err.why) c.start.new.self = record { makes = c.in-Err.ensures.makes; sizes = c.in-Err.ensures.sizes; core = c.in-Err.ensures.core } in (
+      c.in-Err.ensures.back.0,
+      (
+        (
+          (λ j. record { image = i.image.items; fuse = i.fuse; events = p j; outcomes = q j }) ∙ ap (λ (z : LockedRun). with_event z.stored (Start c.args.hart c.args.call) (Refused c.in-Err.why)) c.self.view_is,
+          subst (λ (z : LockedRun). MakesStart z.world c.args.hart c.args.call (Refused c.in-Err.why) c.start.new.self) c.self.view_is made,
+        ),
+        c.in-Err.ensures.back.1 ∙ ap (λ (z : LockedRun). z.world) c.self.view_is,
+      ),
+      refl,
+    )

@@ -1,0 +1,15 @@
+-- A world's stop, as it is told.
+use Rattle.std.proofs.Common.{◌≡◌, ℕ, sym, subst}
+use Rattle.hart_core.specs.declared.outcome.Outcome.TheVariants.{Stopped}
+use Rattle.hart_core.specs.declared.outcome.Stop.{Stop}
+use Rattle.hart_core.specs.declared.outcome.Stop.TheVariants.{DeviceFault, Halted}
+use Rattle.locked_world.specs.Kept.{LockedRun}
+use Rattle.locked_world.specs.Told.{Steps, HaltAnswers, halt_for}
+use Rattle.locked_world.specs.declared.locked.Halt.{Halt}
+
+own_halt : (s : LockedRun) (h : ℕ) (stop : Stop) (t : LockedRun) → Steps s h (Stopped stop) t → HaltAnswers s h (halt_for stop) t
+own_halt s h DeviceFault t steps = steps
+own_halt s h Halted t steps = steps
+
+pub halt_told : (s : LockedRun) (h : ℕ) (stop : Stop) (halt : Halt) (t : LockedRun) → halt ≡ halt_for stop → Steps s h (Stopped stop) t → HaltAnswers s h halt t
+halt_told s h stop halt t is steps = subst (λ (z : Halt). HaltAnswers s h z t) (sym is) (own_halt s h stop t steps)
