@@ -41,7 +41,7 @@ impl<'a> Keeper<'a> {
         if self.is_short {
             return Err(NoMemory);
         }
-        self.kept.into_hints(self.alloc)
+        Ok(self.kept.into_hints())
     }
 
     fn start(&mut self, hart: u8, call: &Call) -> Result<(), NoMemory> {

@@ -5,19 +5,21 @@ use crate::sees::{is_live_directory, look, sight};
 use crate::standing::{Standing, Walk};
 use history_search::Hint;
 use path_walk::{Ask, Heard, Locked, Mark};
-use plain_tree::{Action, ApplyRefused, Call, Cause, NoMemory, Placed, StepAnswer, Tree, TreeStep};
+use plain_tree::{ApplyRefused, Call, NoMemory, Tree, TreeStep};
 use std::alloc::Global;
 
 const HARTS: u8 = 8;
 
-// A tree step that acts, with its answer.
-#[derive(Drop)]
+// A tree step that acts, by the number that a new node gets by it; 0 where it makes none.
+#[derive(Clone, Copy)]
 struct Deed {
-    step: TreeStep,
-    answer: StepAnswer,
+    new: u16,
 }
 
-/// The tree, the calls under way with their walks in it, and the list of steps.
+// The step of a walk that fails.
+const FAILED_WALK: Deed = Deed { new: 0 };
+
+/// The tree, the calls under way with their walks in it, and the list of steps, of each its call, its place there and its event.
 ///
 /// It is told of each event of a run: a start, what a call heard in a step that ran, a reply, or that the event shows nothing. A step
 /// of the tree is appended at the event at which the operation acts that makes it, and behind it, in order of hart, the failing steps
@@ -25,10 +27,12 @@ struct Deed {
 #[derive(Drop)]
 pub struct Kept {
     tree: Tree,
-    list: Vec<Placed>,
+    list: Vec<Hint>,
     events: u64,
     calls: usize,
     harts: [Option<Standing>; HARTS as usize],
+    // How many steps each hart's call has made.
+    made: [usize; HARTS as usize],
 }
 
 // What the operation that was asked for answers where its lock is taken, as far as the tree shows it. What it finds there is read from
@@ -60,6 +64,7 @@ impl Kept {
             events: 0,
             calls: 0,
             harts: [None, None, None, None, None, None, None, None],
+            made: [0; HARTS as usize],
         }
     }
 
@@ -75,6 +80,9 @@ impl Kept {
         let standing = Standing::new(alloc, self.calls, call)?;
         if let Some(place) = self.harts.get_mut(usize::from(hart)) {
             *place = Some(standing);
+        }
+        if let Some(made) = self.made.get_mut(usize::from(hart)) {
+            *made = 0;
         }
         self.calls = self.calls.saturating_add(1);
         self.passes();
@@ -99,21 +107,8 @@ impl Kept {
     }
 
     /// The list so far, as what a search for a list is to try.
-    pub fn into_hints(self, alloc: Global) -> Result<Vec<Hint>, NoMemory> {
-        let mut counts = vec![in alloc; 0usize; self.calls]?;
-        let mut hints = Vec::new(alloc);
-        for placed in &self.list {
-            if let Some(count) = counts.get_mut(placed.call) {
-                hints.push(Hint {
-                    call: placed.call,
-                    step: *count,
-                    new: placed.step.new,
-                    event: placed.event,
-                })?;
-                *count = count.saturating_add(1);
-            }
-        }
-        Ok(hints)
+    pub fn into_hints(self) -> Vec<Hint> {
+        self.list
     }
 
     fn standing(&self, hart: u8) -> Option<&Standing> {
@@ -188,7 +183,7 @@ impl Kept {
         }
         for other in 0..HARTS {
             if !before[usize::from(other)] && self.is_lost(other) {
-                self.fail(other)?;
+                self.write(other, FAILED_WALK)?;
             }
         }
         Ok(())
@@ -199,7 +194,7 @@ impl Kept {
         match mark {
             Mark::Begin => self.begins(alloc, hart),
             Mark::Look(new) => self.looks(alloc, hart, u16::try_from(new).unwrap_or(0)),
-            Mark::Quit => self.quits(hart),
+            Mark::Quit => Ok(Some(self.quits(hart))),
             Mark::Frees(_) | Mark::Orphans(_) | Mark::Mends | Mark::Fills => Ok(None),
             Mark::PartOfPiece(_, _) => Ok(None),
             own => self.acts(alloc, hart, own, 0),
@@ -221,7 +216,7 @@ impl Kept {
         self.set_walk(hart, None);
         let step = TreeStep { hart, new, action };
         match self.tree.apply(alloc, &step) {
-            Ok(answer) => Ok(Some(Deed { step, answer })),
+            Ok(_) => Ok(Some(Deed { new })),
             Err(ApplyRefused::BadChoice) => Ok(None),
             Err(ApplyRefused::NoMemory) => Err(NoMemory),
         }
@@ -259,34 +254,9 @@ impl Kept {
     }
 
     // The walk is given up: its step fails.
-    fn quits(&mut self, hart: u8) -> Result<Option<Deed>, NoMemory> {
-        let deed = self.failing(hart)?;
+    fn quits(&mut self, hart: u8) -> Deed {
         self.set_walk(hart, None);
-        Ok(deed)
-    }
-
-    fn failing(&self, hart: u8) -> Result<Option<Deed>, NoMemory> {
-        match self.standing(hart) {
-            Some(standing) => Ok(Some(Deed {
-                step: TreeStep {
-                    hart,
-                    new: 0,
-                    action: standing.walking()?,
-                },
-                answer: StepAnswer::Failed {
-                    cause: Cause::NoEntry,
-                },
-            })),
-            None => Ok(None),
-        }
-    }
-
-    // The step of a walk that is lost fails.
-    fn fail(&mut self, hart: u8) -> Result<(), NoMemory> {
-        match self.failing(hart)? {
-            Some(deed) => self.write(hart, deed),
-            None => Ok(()),
-        }
+        FAILED_WALK
     }
 
     fn set_walk(&mut self, hart: u8, walk: Option<Walk>) {
@@ -301,13 +271,16 @@ impl Kept {
             return Ok(());
         };
         let call = standing.id();
-        let Deed { step, answer } = deed;
-        self.list.push(Placed {
-            event: self.events,
+        let Some(made) = self.made.get_mut(usize::from(hart)) else {
+            return Ok(());
+        };
+        self.list.push(Hint {
             call,
-            step,
-            answer,
+            step: *made,
+            new: deed.new,
+            event: self.events,
         })?;
+        *made = made.saturating_add(1);
         Ok(())
     }
 }

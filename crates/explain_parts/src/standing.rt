@@ -182,7 +182,7 @@ impl Standing {
     }
 
     /// The tree step that its walk is for.
-    pub(crate) fn walking(&self) -> Result<Action, NoMemory> {
+    fn walking(&self) -> Result<Action, NoMemory> {
         Ok(match &self.whole {
             Whole::Open { path, flags, .. } => Action::Open {
                 path: path.clone()?,

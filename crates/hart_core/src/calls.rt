@@ -164,7 +164,6 @@ impl Calls {
     /// What a hart's call heard in its last step, where an operation over whole inodes ended there.
     pub fn heard(&self, hart: u8) -> Option<Heard>
         requires { hart < HARTS }
-        ensures { IfSome (get_or self.now hart None) (λ call. result ≡ call.control.heard) }
     {
         self.places[hart as usize].heard()
     }

@@ -151,9 +151,7 @@ impl<D: Device> Harts<D> {
     }
 
     /// What a hart's call heard in its last step, where an operation over whole inodes ended there.
-    pub fn heard(&self, hart: u8) -> Option<Heard>
-        ensures { IfSome (get_or self.now.calls hart None) (λ call. result ≡ call.control.heard) }
-    {
+    pub fn heard(&self, hart: u8) -> Option<Heard> {
         // What holds of the harts is needed in both cases.
         let _ = &self.calls;
         if hart >= HARTS {

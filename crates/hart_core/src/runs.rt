@@ -6,6 +6,7 @@ ghost use Rattle.hart_core.specs.Stops.{HasMarks, RunLeavesABeginning};
 
 use crate::events::{Came, Event, Run};
 use crate::marks::{doubt_of, last_of, no_marks, note};
+use crate::outcome::Outcome;
 use crate::world::World;
 use block_device::Device;
 use group_log::Marks;
@@ -15,7 +16,8 @@ use std::alloc::{AllocError, Global};
 
 /// Who is told of a run's events, in their order, as they are made. Nothing of the run depends on it.
 pub trait Observer {
-    /// What the next event came to; and what its hart's call heard, where one of its operations over whole inodes ended in it.
+    /// What the next event came to; and, of a step that ran, what its hart's call heard, where one of its operations over whole inodes
+    /// ended in it.
     fn noted(&mut self, came: &Came, heard: Option<Heard>);
 }
 
@@ -47,6 +49,14 @@ fn hart_of(event: &Event) -> u8 {
     }
 }
 
+// What the hart's call heard in an event that came to this.
+fn heard_in<D: Device>(world: &World<D>, hart: u8, came: &Came) -> Option<Heard> {
+    match came {
+        Came::Stepped(Outcome::Ran(_) | Outcome::Done(_)) => world.heard(hart),
+        _ => None,
+    }
+}
+
 // These events, one after the other. It takes no memory.
 fn run_all<D: Device, O: Observer>(
     world: World<D>,
@@ -68,7 +78,7 @@ fn run_all<D: Device, O: Observer>(
         let at_point = world.is_at_point();
         let hart = hart_of(&event);
         let came = world.event(event);
-        observer.noted(&came, world.heard(hart));
+        observer.noted(&came, heard_in(&world, hart, &came));
         match outcomes.push(came) {
             Ok(()) => {}
             Err(_) => unreachable!(),

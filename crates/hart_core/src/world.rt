@@ -1,5 +1,5 @@
 // The world: eight harts with their calls on a mounted disk.
-ghost use Rattle.std.specs.Prelude.{◌≡◌, IfOk, IfErr, IfSome, None, get_or, length};
+ghost use Rattle.std.specs.Prelude.{◌≡◌, IfOk, IfErr, None, length};
 ghost use Rattle.atomic_programs.specs.Calls.{Start as StartOf, Step as StepOf};
 ghost use Rattle.group_log.specs.Phases.{is_point};
 ghost use Rattle.fs_machine.specs.Machines.{CallsOnce};
@@ -148,10 +148,9 @@ impl<D: Device> World<D> {
     }
 
     /// What a hart's call heard in its last step that ran, where one of its operations over whole inodes ended in that step; of a call that
-    /// has replied, until the hart begins the next one. A reader who keeps the tree beside a world (the crate explain) goes on by it.
-    pub fn heard(&self, hart: u8) -> Option<Heard>
-        ensures { IfSome (get_or self.now.harts.calls hart None) (λ call. result ≡ call.control.heard) }
-    {
+    /// has replied, until the hart begins the next one. A reader who keeps the tree beside a world (the crate explain) goes on by it. No
+    /// clause says what it is; rows show it.
+    pub fn heard(&self, hart: u8) -> Option<Heard> {
         self.harts.heard(hart)
     }
 

@@ -1,5 +1,5 @@
 //! The place of a hart's call.
-ghost use Rattle.std.specs.Prelude.{◌≡◌, ◌<◌, None, IfOk, IfSome, IsSome, is_some};
+ghost use Rattle.std.specs.Prelude.{◌≡◌, ◌<◌, None, IfOk, IsSome, is_some};
 ghost use Rattle.std.specs.Option.{MatchOption};
 ghost use Rattle.fs_machine.specs.Steps.{state_of};
 ghost use Rattle.fs_machine.specs.Machines.{MayNext};
@@ -151,9 +151,7 @@ impl CallPlace {
 
     /// What the call under way heard in its last step, where an operation over whole inodes ended there; also what the last one heard
     /// last, once it has replied.
-    pub fn heard(&self) -> Option<Heard>
-        ensures { IfSome self.now (λ call. result ≡ call.control.heard) }
-    {
+    pub fn heard(&self) -> Option<Heard> {
         self.machine.control.heard()
     }
 

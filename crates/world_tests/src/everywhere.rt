@@ -8,7 +8,7 @@ use crate::worked::{
 };
 use explain::{ExplainRefused, explain};
 use hart_core::Event;
-use plain_tree::Placed;
+use plain_tree::{Action, Placed};
 use std::alloc::{AllocError, Global};
 use std::process::Abort;
 use std::test::Fail;
@@ -44,9 +44,37 @@ fn up_to(list: &[Placed], cut: Option<u64>) -> &[Placed] {
     }
 }
 
+// An action as its place among the actions, its path or bytes, and its numbers.
+fn words(action: &Action) -> (u8, &[u8], u64, u64) {
+    match action {
+        Action::Open { path, flags } => (0, path.as_slice(), u64::from(*flags), 0),
+        Action::Truncate { fd } => (1, &[], u64::from(*fd), 0),
+        Action::Read { fd, count } => (2, &[], u64::from(*fd), *count as u64),
+        Action::WritePart { fd, bytes } => (3, bytes.as_slice(), u64::from(*fd), 0),
+        Action::Find { old } => (4, old.as_slice(), 0, 0),
+        Action::Bump => (5, &[], 0, 0),
+        Action::Enter { new } => (6, new.as_slice(), 0, 0),
+        Action::Unbump => (7, &[], 0, 0),
+        Action::Unlink { path } => (8, path.as_slice(), 0, 0),
+        Action::Mkdir { path } => (9, path.as_slice(), 0, 0),
+        Action::Chdir { path } => (10, path.as_slice(), 0, 0),
+        Action::Dup { fd } => (11, &[], u64::from(*fd), 0),
+        Action::Fstat { fd } => (12, &[], u64::from(*fd), 0),
+        Action::Close { fd } => (13, &[], u64::from(*fd), 0),
+        Action::Inherit { child } => (14, &[], u64::from(*child), 0),
+    }
+}
+
+fn is_same_action(action: &Action, wanted: &Action) -> bool {
+    let (kind, bytes, number, count) = words(action);
+    let (other, others, wanted, most) = words(wanted);
+    (kind, number, count) == (other, wanted, most) && bytes == others
+}
+
 fn is_same_entry(entry: &Placed, wanted: &Placed) -> bool {
     (entry.event, entry.call) == (wanted.event, wanted.call)
         && (entry.step.hart, entry.step.new) == (wanted.step.hart, wanted.step.new)
+        && is_same_action(&entry.step.action, &wanted.step.action)
         && entry.answer == wanted.answer
 }
 
