@@ -28,3 +28,4 @@ pub mod Left
 pub mod Listed
 pub mod Growing
 pub mod OneList
+pub mod Wants

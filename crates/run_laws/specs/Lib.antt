@@ -4,3 +4,4 @@ pub mod Laws
 pub mod Worlds
 pub mod Rooms
 pub mod OneList
+pub mod Wants

@@ -6,6 +6,7 @@ ghost use Rattle.run_laws.specs.Idle.{IdleHartsHaveBegunNothing};
 ghost use Rattle.run_laws.specs.Laws.{RunsRefineWholeInodes};
 ghost use Rattle.run_laws.specs.OneList.{RunsHaveOneList};
 ghost use Rattle.run_laws.specs.Rooms.{RoomIsToldByAnswers};
+ghost use Rattle.run_laws.specs.Wants.{NoRoomOnlyWhereThereIsNone};
 ghost use Rattle.run_laws.specs.Worlds.{WorldsRefineWholeInodes};
 
 use block_device::Device;
@@ -31,6 +32,15 @@ pub fn worlds_refine_whole_inodes<D: Device>(world: &World<D>)
 /// which acts there.
 pub fn room_is_told_by_answers<D: Device>(world: &World<D>)
     ensures { RoomIsToldByAnswers D.contents D.failures world.now }
+{
+    let _ = world;
+}
+
+/// In such a run an operation on whole inodes is answered that there is no room only where there is none, in the world to which the
+/// operations before it lead: no place in memory only where fifty inodes are referred to; no place for an open file only where all hundred
+/// are taken; no descriptor only where the hart's sixteen have open files; no slot only where the directory has 17,152 and each is used.
+pub fn no_room_only_where_there_is_none<D: Device>(world: &World<D>)
+    ensures { NoRoomOnlyWhereThereIsNone D.contents D.failures world.now }
 {
     let _ = world;
 }

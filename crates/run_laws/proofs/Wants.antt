@@ -1,0 +1,274 @@
+-- What an operation on whole inodes wants and doesn't find, the world doesn't have in which it is made.
+use Rattle.std.proofs.Common.{◌≡◌, ◌≢◌, inl, inr, ◌<◌, ◌≤◌, ◌+◌, ℕ, zero, suc, ◌==◌, Bool, true, false, ◌&&◌, ◌||◌, not, nat_lt}
+use Rattle.std.proofs.Common.{if◌then◌else◌, List, [], ◌∷◌, length, Option, Some, None, IsSome, refl, sym, ◌∙◌, ap, subst, arith}
+use Rattle.std.specs.List.{All}
+use Rattle.std.proofs.lemmas.Bool.Decides.{nat_tests}
+use Rattle.std.proofs.lemmas.List.Elements.{All-cons, All-nil}
+use Rattle.plain_tree.specs.declared.answer.Cause.{Cause}
+use Rattle.plain_tree.specs.declared.answer.Full.{Full}
+use Rattle.plain_tree.specs.declared.node.Slot.{Slot as DirectorySlot}
+use Rattle.plain_tree.specs.declared.tree.OpenFile.{OpenFile}
+use Rattle.plain_tree.specs.Steps.{has_room, lowest, lowest_from, node_or, write_kind}
+use Rattle.plain_tree.specs.Tree.{Name, all_slots, any_below}
+use Rattle.plain_tree.specs.Widths.{descriptor_count, hart_count}
+use Rattle.tree_laws.proofs.Maps.{and_true, eq_is, or_none, same_or}
+use Rattle.atomic_programs.specs.Calls.{PlacedStep}
+use Rattle.atomic_programs.specs.Explained.{Chain}
+use Rattle.atomic_programs.specs.Prog.{Did, Ran, Stops, Waits}
+use Rattle.fs_layout.specs.declared.superblock.Super.{Super}
+use Rattle.plain_tree.specs.declared.answer.Full.TheVariants.{Blocks, Descriptors, Directory, DiskInodes, MemInodes, OpenFiles}
+use Rattle.fs_layout.specs.Recovered.{sizes_of}
+use Rattle.hart_core.specs.Worlds.{WorldOf}
+use Rattle.inode_machine.specs.Exec.{all_used, claim_if, claimed, double_at, double_if, enter_if, enter_in, entry_of, exec, file_count}
+use Rattle.inode_machine.specs.Exec.{fill_if, first_from, has_place, install_if, is_at, is_empty_slot, is_full_directory, is_nothing}
+use Rattle.inode_machine.specs.Exec.{place_count, referenced, slot_at, slot_if, slot_limit, start_if, start_number, up_if, write_at}
+use Rattle.inode_machine.specs.Exec.{write_if, write_in}
+use Rattle.inode_machine.specs.Inodes.{Sort}
+use Rattle.inode_machine.specs.Marks.{with_mark}
+use Rattle.inode_machine.specs.Rules.{Honest, HonestClaim, May}
+use Rattle.inode_machine.specs.World.{Answer, Entry, Mark, New, NoPlace, Op, Outside, Picks, Room, RoomFor, World}
+use Rattle.inode_machine.specs.World.Op.{Take, Give, UpStart, Up, WalkDown, Down, Free, Forget, Claim, Store, Fill, Enter, Clear, Empty}
+use Rattle.inode_machine.specs.World.Op.{Slot, Install, StatFile, LockFile, ReadFile, CheckFile, JoinFile, LockOpen, WriteFile, Double}
+use Rattle.inode_machine.specs.World.Op.{Shut, Settle, Lend, LendDirectory, Release, Join, Leave, Say}
+use Rattle.inode_machine.proofs.Openings.{first_some}
+use Rattle.run_laws.specs.Wants.{AllDescriptorsAreTaken, AllOpenFilesAreTaken, AllPlacesAreTaken, HasNone, IsFullDirectory, IsTaken}
+use Rattle.run_laws.specs.Wants.{LeadsThroughWants, NoRoomOnlyWhereThereIsNone, WantsWhatIsnt, wanted}
+use Rattle.run_laws.specs.WholeInodes.{IsStep, Operation, lowered_inode_calls, unreserved}
+use Rattle.run_laws.proofs.Worlds.{worlds_refine}
+
+-- ---- where there is none
+
+not_less : (n k : ℕ) → nat_lt n k ≡ false → k ≤ n
+not_less n k e = grind (arith, nat_tests)
+
+places_taken : (w : World) (n : ℕ) → has_place w n ≡ false → AllPlacesAreTaken w
+places_taken w n e = not_less (referenced w) place_count (or_none (nat_lt 0 (w.refs n)) (nat_lt (referenced w) place_count) e).1
+
+is_some_hart : (n : ℕ) (p : ℕ → Bool) → any_below n p ≡ true → (g : ℕ) × (g < n) × (p g ≡ true)
+unfolding any_below
+is_some_hart zero p e = absurd (let q : false ≡ true = e in cc)
+is_some_hart (suc n) p e = at (p n) refl (λ later. is_some_hart n p later) e
+  where
+    more : (g : ℕ) × (g < n) × (p g ≡ true) → (g : ℕ) × (g < suc n) × (p g ≡ true)
+    more r = let lt = r.1 in (r.0, omega (arith, lt), r.2)
+
+    at : (b : Bool) → p n ≡ b → (any_below n p ≡ true → (g : ℕ) × (g < n) × (p g ≡ true)) → (p n || any_below n p) ≡ true
+        → (g : ℕ) × (g < suc n) × (p g ≡ true)
+    at true here later all = (n, omega arith, here)
+    at false here later all = more (later (sym (ap (λ (b : Bool). b || any_below n p) here) ∙ all))
+
+held_at : (o : Option ℕ) (k : ℕ) → is_at o k ≡ true → o ≡ Some k
+held_at None k e = absurd (let q : false ≡ true = e in cc)
+held_at (Some j) k e = ap (λ (z : ℕ). Some z) (eq_is j k e)
+
+place_taken : (w : World) (k : ℕ) → is_empty_slot w k ≡ false → IsTaken w k
+place_taken w k e = at (w.files k) refl (any_below hart_count (λ g. is_at (w.desks g).hand k)) refl e
+  where
+    at : (o : Option Entry) → w.files k ≡ o → (b : Bool) → any_below hart_count (λ g. is_at (w.desks g).hand k) ≡ b
+        → (is_nothing o && not b) ≡ false → IsTaken w k
+    at (Some x) is b held none = inl (let q : w.files k ≡ Some x = is in rw q refl)
+    at None is true held none =
+        let r = is_some_hart hart_count (λ g. is_at (w.desks g).hand k) held in
+        inr (r.0, r.1, held_at (w.desks r.0).hand k r.2)
+    at None is false held none = absurd (let q : true ≡ false = none in cc)
+
+files_taken : (w : World) → first_from file_count 0 (is_empty_slot w) ≡ None → AllOpenFilesAreTaken w
+files_taken w none k lt = at (is_empty_slot w k) refl
+  where
+    at : (b : Bool) → is_empty_slot w k ≡ b → IsTaken w k
+    at false e = place_taken w k e
+    at true e = absurd (
+        let r = first_some file_count 0 (is_empty_slot w) k (omega arith) (omega (arith, lt)) e in
+        let q = sym none ∙ r.1 in cc)
+
+lowest_past : (n i : ℕ) (f : ℕ → Option ℕ) → i + n ≤ lowest_from n i f → (j : ℕ) → i ≤ j → j < i + n → IsSome (f j)
+unfolding lowest_from
+lowest_past zero i f past j above below = absurd (omega (arith, above, below))
+lowest_past (suc n) i f past j above below = at (f i) refl past (λ further. lowest_past n (i + 1) f further j)
+  where
+    at : (o : Option ℕ) → f i ≡ o → i + suc n ≤ elim o [ None ↦ i | Some id ↦ lowest_from n (i + 1) f ]
+        → ((i + 1) + n ≤ lowest_from n (i + 1) f → i + 1 ≤ j → j < (i + 1) + n → IsSome (f j)) → IsSome (f j)
+    at None is q later = absurd (omega (arith, q))
+    at (Some x) is q later = elim (same_or j i) [
+      | inl same ↦ let e : f j ≡ Some x = ap f same ∙ is in rw e refl
+      | inr other ↦ later (omega (arith, q)) (omega (arith, above, other)) (omega (arith, below))
+    ]
+
+all_taken : (w : World) (h : ℕ) → has_room (w.desks h).fds ≡ false → AllDescriptorsAreTaken w h
+all_taken w h e fd lt =
+    let past = not_less (lowest (w.desks h).fds) descriptor_count e in
+    lowest_past descriptor_count 0 (w.desks h).fds (omega (arith, past)) fd (omega arith) (omega (arith, lt))
+
+each_used : (slots : List (Option DirectorySlot)) → all_used slots ≡ true → All IsSome slots
+unfolding all_used
+each_used [] e = All-nil IsSome
+each_used (None ∷ ss) e = absurd (let q : false ≡ true = e in cc)
+each_used (Some s ∷ ss) e = All-cons IsSome (Some s) ss refl (each_used ss e)
+
+directory_full : (w : World) (d : ℕ) → is_full_directory (w.disk d) ≡ true → IsFullDirectory (w.disk d)
+directory_full w d e =
+    let two = and_true (length (all_slots (w.disk d)) == slot_limit) (all_used (all_slots (w.disk d))) e in
+    (eq_is (length (all_slots (w.disk d))) slot_limit two.0, each_used (all_slots (w.disk d)) two.1)
+
+-- ---- one operation
+
+-- so it is with the answer of an operation that ran
+abbrev pub Tells : {A : Type 0} → (A → Type 0) → Did A World → Type 0
+Tells P Waits = Unit {0}
+Tells P (Ran a u) = P a
+Tells P (Stops u) = Unit {0}
+
+quiet : {A : Type 0} (P : Full → Type 0) (d : Did A World)
+    → Tells {A = A} (λ a. (room : Full) → ◌≡◌ {A = Option Full} None (Some room) → P room) d
+quiet P Waits = tt
+quiet P (Ran a u) = λ room e. absurd cc
+quiet P (Stops u) = tt
+
+module _ (h : ℕ) (w : World) where
+  abbrev Says : (op : Op) → Did (Answer op) World → Type 0
+  Says op d = Tells {A = Answer op} (λ a. (room : Full) → wanted op a ≡ Some room → HasNone w h op room) d
+
+  one_room : (op : Op) (room : Full) → HasNone w h op room → (other : Full) → Some room ≡ Some other → HasNone w h op other
+  one_room op room there other e = subst (HasNone w h op) (let q : room ≡ other = cc in q) there
+
+  start_says : (absolute : Bool) (n : ℕ) (b : Bool) → has_place w n ≡ b → Says (UpStart absolute) (start_if h n w b)
+  start_says absolute n true e = λ room q. absurd cc
+  start_says absolute n false e = one_room (UpStart absolute) MemInodes (places_taken w n e)
+
+  up_says : (n : ℕ) (b : Bool) → has_place w n ≡ b → Says (Up n) (up_if h n w b)
+  up_says n true e = λ room q. absurd cc
+  up_says n false e = one_room (Up n) MemInodes (places_taken w n e)
+
+  picks_says : (sort : Sort) (n : ℕ) (b : Bool) → nat_lt (referenced w) place_count ≡ b
+      → Says (Claim sort) (if b then Ran (New n) (claimed h sort w n) else Ran NoPlace w)
+  picks_says sort n true e = λ room q. absurd cc
+  picks_says sort n false e = one_room (Claim sort) MemInodes (not_less (referenced w) place_count e)
+
+  claim_says : (sort : Sort) (x : Outside) → HonestClaim w x → Says (Claim sort) (claim_if h sort w x)
+  claim_says sort (Picks n) honest = picks_says sort n (nat_lt (referenced w) place_count) refl
+  claim_says sort Room honest = one_room (Claim sort) DiskInodes tt
+  claim_says sort (RoomFor k) honest = one_room (Claim sort) MemInodes (not_less (referenced w) place_count honest)
+
+  fill_says : (n d : ℕ) (x : Outside) → Says (Fill n d) (fill_if n d w x)
+  fill_says n d Room = λ room q. absurd cc
+  fill_says n d (RoomFor k) = one_room (Fill n d) Blocks tt
+  fill_says n d (Picks k) = one_room (Fill n d) Blocks tt
+
+  enter_in_says : (d : ℕ) (e : Name) (n : ℕ) (x : Outside) → Says (Enter d e n) (enter_in d e n w x)
+  enter_in_says d e n Room = λ room q. absurd cc
+  enter_in_says d e n (RoomFor k) = one_room (Enter d e n) Blocks tt
+  enter_in_says d e n (Picks k) = one_room (Enter d e n) Blocks tt
+
+  enter_says : (d : ℕ) (e : Name) (n : ℕ) (x : Outside) (b : Bool) → is_full_directory (w.disk d) ≡ b
+      → Says (Enter d e n) (enter_if d e n w x b)
+  enter_says d e n x true full = one_room (Enter d e n) Directory (directory_full w d full)
+  enter_says d e n x false full = enter_in_says d e n x
+
+  slot_says : (o : Option ℕ) → first_from file_count 0 (is_empty_slot w) ≡ o → Says Slot (slot_if h w o)
+  slot_says None e = one_room Slot OpenFiles (files_taken w e)
+  slot_says (Some k) e = λ room q. absurd cc
+
+  install_says : (f : OpenFile) (sort : Sort) (o : Option ℕ) → o ≢ None → (b : Bool) → has_room (w.desks h).fds ≡ b
+      → Says (Install f sort) (install_if h w f sort o b)
+  install_says f sort None some b e = absurd (some refl)
+  install_says f sort (Some k) some false e = one_room (Install f sort) Descriptors (all_taken w h e)
+  install_says f sort (Some k) some true e = λ room q. absurd cc
+
+  double_if_says : (fd k : ℕ) (e : Entry) (b : Bool) → has_room (w.desks h).fds ≡ b → Says (Double fd) (double_if h w k e b)
+  double_if_says fd k e true is = λ room q. absurd cc
+  double_if_says fd k e false is = one_room (Double fd) Descriptors (all_taken w h is)
+
+  double_says : (fd : ℕ) (k : Option ℕ) (e : Option Entry) → Says (Double fd) (double_at h w k e)
+  double_says fd None e = λ room q. absurd cc
+  double_says fd (Some k) None = λ room q. absurd cc
+  double_says fd (Some k) (Some e) = double_if_says fd k e (has_room (w.desks h).fds) refl
+
+  module _ (fd n offset : ℕ) (bytes : List ℕ) where
+    write_in_says : (k : Option ℕ) (e : Entry) (x : Outside) → Says (WriteFile fd n offset bytes) (write_in w k e n bytes x)
+    write_in_says k e Room = λ room q. absurd cc
+    write_in_says k e (RoomFor j) = one_room (WriteFile fd n offset bytes) Blocks tt
+    write_in_says k e (Picks j) = one_room (WriteFile fd n offset bytes) Blocks tt
+
+    write_if_says : (k : Option ℕ) (e : Entry) (x : Outside) (c : Option Cause)
+        → Says (WriteFile fd n offset bytes) (write_if w k e n bytes x c)
+    write_if_says k e x (Some c) = λ room q. absurd cc
+    write_if_says k e x None = write_in_says k e x
+
+    write_says : (k : Option ℕ) (x : Outside) (e : Option Entry) → Says (WriteFile fd n offset bytes) (write_at w k n bytes x e)
+    write_says k x None = λ room q. absurd cc
+    write_says k x (Some e) = write_if_says k e x (write_kind (node_or (w.disk n)).kind e.file.offset bytes)
+
+  quiet_one : (op : Op) (d : Did (Answer op) World)
+      → Tells (λ a. (room : Full) → ◌≡◌ {A = Option Full} None (Some room) → HasNone w h op room) d
+  quiet_one op d = quiet (HasNone w h op) d
+
+  says : (x : Outside) (op : Op) → May h op w → Honest h op w x → Says op (exec h x op w)
+  says x (UpStart absolute) may honest =
+      start_says absolute (start_number (w.desks h) absolute) (has_place w (start_number (w.desks h) absolute)) refl
+  says x (Up n) may honest = up_says n (has_place w n) refl
+  says x (Claim sort) may honest = claim_says sort x honest
+  says x (Fill n d) may honest = fill_says n d x
+  says x (Enter d e n) may honest = enter_says d e n x (is_full_directory (w.disk d)) refl
+  says x Slot may honest = slot_says (first_from file_count 0 (is_empty_slot w)) refl
+  says x (Install f sort) may honest = install_says f sort (w.desks h).hand may.1.0 (has_room (w.desks h).fds) refl
+  says x (WriteFile fd n offset bytes) may honest = write_says fd n offset bytes (slot_at w h fd) x (entry_of w h fd)
+  says x (Double fd) may honest = double_says fd (slot_at w h fd) (entry_of w h fd)
+  says x (Take n looking) may honest = quiet_one (Take n looking) (exec h x (Take n looking) w)
+  says x (Give n) may honest = quiet_one (Give n) (exec h x (Give n) w)
+  says x (WalkDown n) may honest = quiet_one (WalkDown n) (exec h x (WalkDown n) w)
+  says x (Down n) may honest = quiet_one (Down n) (exec h x (Down n) w)
+  says x (Free n) may honest = quiet_one (Free n) (exec h x (Free n) w)
+  says x (Forget n) may honest = quiet_one (Forget n) (exec h x (Forget n) w)
+  says x (Store n count) may honest = quiet_one (Store n count) (exec h x (Store n count) w)
+  says x (Clear d e) may honest = quiet_one (Clear d e) (exec h x (Clear d e) w)
+  says x (Empty n) may honest = quiet_one (Empty n) (exec h x (Empty n) w)
+  says x (StatFile fd) may honest = quiet_one (StatFile fd) (exec h x (StatFile fd) w)
+  says x (LockFile fd) may honest = quiet_one (LockFile fd) (exec h x (LockFile fd) w)
+  says x (ReadFile fd n offset count) may honest = quiet_one (ReadFile fd n offset count) (exec h x (ReadFile fd n offset count) w)
+  says x (CheckFile fd) may honest = quiet_one (CheckFile fd) (exec h x (CheckFile fd) w)
+  says x (JoinFile fd) may honest = quiet_one (JoinFile fd) (exec h x (JoinFile fd) w)
+  says x (LockOpen fd n) may honest = quiet_one (LockOpen fd n) (exec h x (LockOpen fd n) w)
+  says x (Shut fd) may honest = quiet_one (Shut fd) (exec h x (Shut fd) w)
+  says x (Settle n) may honest = quiet_one (Settle n) (exec h x (Settle n) w)
+  says x (Lend child from) may honest = quiet_one (Lend child from) (exec h x (Lend child from) w)
+  says x (LendDirectory child) may honest = quiet_one (LendDirectory child) (exec h x (LendDirectory child) w)
+  says x (Release child) may honest = quiet_one (Release child) (exec h x (Release child) w)
+  says x Join may honest = quiet_one Join (exec h x Join w)
+  says x Leave may honest = quiet_one Leave (exec h x Leave w)
+  says x Say may honest = quiet_one Say (exec h x Say w)
+
+ran_says : (h : ℕ) (w after : World) (op : Op) (a : Answer op) (k : Option Mark) (d : Did (Answer op) World) → Says h w op d
+    → with_mark h (λ _. k) d ≡ Ran a after → (room : Full) → wanted op a ≡ Some room → HasNone w h op room
+ran_says h w after op a k Waits says e = absurd cc
+ran_says h w after op a k (Stops u) says e = absurd cc
+ran_says h w after op a k (Ran b u) says e =
+    subst (λ (z : Answer op). (room : Full) → wanted op z ≡ Some room → HasNone w h op room) (let q : b ≡ a = cc in q) says
+
+-- ---- in a run
+
+-- what starts reserve is no room
+same_none : (h : ℕ) (w : World) (op : Op) (room : Full) → HasNone w h op room → HasNone (unreserved w) h op room
+same_none h w op MemInodes none = none
+same_none h w op OpenFiles none = none
+same_none h w op Descriptors none = none
+same_none h w op Blocks none = none
+same_none h w op DiskInodes none = none
+same_none h w op Directory none = none
+
+pub step_wants : (t u : World) (h : ℕ) (e : Operation) → IsStep t h e u → WantsWhatIsnt t h e
+step_wants t u h e s room q =
+    let all = says h s.before s.outside e.op s.may s.honest in
+    let there = ran_says h s.before s.after e.op e.answer e.mark (exec h s.outside e.op s.before) all s.goes room q in
+    subst (λ (z : World). HasNone z h e.op room) s.from (same_none h s.before e.op room there)
+
+module _ (sizes : Super) where
+  chain_wants : (es : List (PlacedStep (lowered_inode_calls sizes))) (t u : World)
+      → Chain (lowered_inode_calls sizes) t es u → LeadsThroughWants sizes t es u
+  chain_wants [] t u c = c
+  chain_wants (e ∷ es) t u c = (c.0, c.1, step_wants t c.0 e.hart e.step c.1, chain_wants es c.0 u c.2)
+
+pub none_there : {D : Type 0} (contents : D → List (List ℕ)) (failures : D → ℕ) (w : WorldOf D)
+    → NoRoomOnlyWhereThereIsNone contents failures w
+none_there contents failures w device events came new history mounted is =
+    chain_wants (sizes_of (contents w.harts.core.log.cache.device)) _ _ _
+    (worlds_refine contents failures w device events came new history mounted is).0.runs.leads

@@ -1,0 +1,133 @@
+-- No room is found only where there is none.
+use Rattle.std.specs.Prelude.{◌≡◌, ◌⊎◌, ℕ, ◌<◌, ◌≤◌, Bool, true, false, List, [], ◌∷◌, length, Option, Some, None, IsSome}
+use Rattle.std.specs.List.{All}
+use Rattle.fs_layout.specs.declared.superblock.Super.{Super}
+use Rattle.fs_layout.specs.Recovered.{sizes_of}
+use Rattle.plain_tree.specs.declared.answer.Full.{Full}
+use Rattle.plain_tree.specs.declared.answer.Full.TheVariants.{Blocks, Descriptors, Directory, DiskInodes, MemInodes, OpenFiles}
+use Rattle.plain_tree.specs.declared.call.Call.{Call}
+use Rattle.plain_tree.specs.declared.node.Node.{Node}
+use Rattle.plain_tree.specs.Tree.{all_slots}
+use Rattle.plain_tree.specs.Widths.{descriptor_count, hart_count}
+use Rattle.atomic_programs.specs.Calls.{Event as EventOf, PlacedStep, fresh, run}
+use Rattle.fs_machine.specs.LogPart.{Outside}
+use Rattle.inode_machine.specs.Exec.{file_count, place_count, referenced, slot_limit}
+use Rattle.inode_machine.specs.World.{Answer, ClaimResult, EntryResult, InPlace, New, NoBlock, NoInode, NoPlace, NoSlot, Op}
+use Rattle.inode_machine.specs.World.{Refused, Short, Whole, World, Wrote}
+use Rattle.inode_machine.specs.World.Op.{Claim, Double, Enter, Fill, Install, Slot, Up, UpStart, WriteFile}
+use Rattle.inodes_on_blocks.specs.Mounted.{first_world}
+use Rattle.calls_on_blocks.specs.History.{first}
+use Rattle.hart_core.specs.declared.events.Came.{Came}
+use Rattle.hart_core.specs.declared.events.Event.{Event}
+use Rattle.hart_core.specs.Harts.{HartsOf}
+use Rattle.hart_core.specs.Runs.{IsHistory, IsMounted}
+use Rattle.hart_core.specs.Worlds.{WorldOf}
+use Rattle.run_laws.specs.Laws.{operations_made}
+use Rattle.run_laws.specs.WholeInodes.{IsStep, Operation, lowered_inode_calls, unreserved}
+
+-- ---- what an answer says is wanting
+
+abbrev pub wanted_unless : Full → Bool → Option Full
+wanted_unless room true = None
+wanted_unless room false = Some room
+
+abbrev pub wanted_without : {A : Type 0} → Full → Option A → Option Full
+wanted_without room None = Some room
+wanted_without room (Some a) = None
+
+abbrev pub wanted_to_claim : ClaimResult → Option Full
+wanted_to_claim (New n) = None
+wanted_to_claim NoInode = Some DiskInodes
+wanted_to_claim NoPlace = Some MemInodes
+
+abbrev pub wanted_to_enter : EntryResult → Option Full
+wanted_to_enter InPlace = None
+wanted_to_enter NoBlock = Some Blocks
+wanted_to_enter NoSlot = Some Directory
+
+abbrev pub wanted_to_write : Wrote → Option Full
+wanted_to_write Whole = None
+wanted_to_write (Refused why) = None
+wanted_to_write (Short k) = Some Blocks
+
+abbrev pub wanted_to_double : Option (Option ℕ) → Option Full
+wanted_to_double None = None
+wanted_to_double (Some None) = Some Descriptors
+wanted_to_double (Some (Some fd)) = None
+
+-- The room that an operation wanted and didn't find, as its answer says.
+abbrev pub wanted : (op : Op) → Answer op → Option Full
+wanted (UpStart absolute) start = wanted_without MemInodes start
+wanted (Up n) there = wanted_unless MemInodes there
+wanted (Claim sort) made = wanted_to_claim made
+wanted (Fill n d) there = wanted_unless Blocks there
+wanted (Enter d e n) made = wanted_to_enter made
+wanted Slot there = wanted_unless OpenFiles there
+wanted (Install f sort) fd = wanted_without Descriptors fd
+wanted (WriteFile fd n offset bytes) wrote = wanted_to_write wrote
+wanted (Double fd) made = wanted_to_double made
+wanted op answer = None
+
+-- ---- where there is none
+
+-- as many inodes are referred to as have a place in memory: all fifty, or more
+abbrev pub AllPlacesAreTaken : World → Type 0
+AllPlacesAreTaken w = place_count ≤ referenced w
+
+-- an open file has this place of the table, or a hart has taken it for one
+abbrev pub IsTaken : World → ℕ → Type 0
+IsTaken w k = IsSome (w.files k) ⊎ ((g : ℕ) × (g < hart_count) × ((w.desks g).hand ≡ Some k))
+
+-- so it is with each of the hundred places
+abbrev pub AllOpenFilesAreTaken : World → Type 0
+AllOpenFilesAreTaken w = (k : ℕ) → k < file_count → IsTaken w k
+
+-- each of the hart's sixteen descriptors has an open file
+abbrev pub AllDescriptorsAreTaken : World → ℕ → Type 0
+AllDescriptorsAreTaken w h = (fd : ℕ) → fd < descriptor_count → IsSome ((w.desks h).fds fd)
+
+-- a directory has 17,152 slots, and each is used
+abbrev pub IsFullDirectory : Option Node → Type 0
+IsFullDirectory v = (length (all_slots v) ≡ slot_limit) × All IsSome (all_slots v)
+
+-- so is the directory in which the operation was to enter a name
+abbrev pub EntersInFull : World → Op → Type 0
+EntersInFull w (Enter d e n) = IsFullDirectory (w.disk d)
+EntersInFull w op = ⊥
+
+-- In this world hart h, which makes this operation, has no room of this kind. Of blocks and of inodes on disk nothing is said here: they
+-- are looked for in steps of their own, one after the other.
+abbrev pub HasNone : World → ℕ → Op → Full → Type 0
+HasNone w h op MemInodes = AllPlacesAreTaken w
+HasNone w h op OpenFiles = AllOpenFilesAreTaken w
+HasNone w h op Descriptors = AllDescriptorsAreTaken w h
+HasNone w h op Blocks = Unit {0}
+HasNone w h op DiskInodes = Unit {0}
+HasNone w h op Directory = EntersInFull w op
+
+-- what the operation wanted and didn't find, this world doesn't have
+abbrev pub WantsWhatIsnt : World → ℕ → Operation → Type 0
+WantsWhatIsnt w h e = (room : Full) → wanted e.op e.answer ≡ Some room → HasNone w h e.op room
+
+-- The operations lead from t to u, one after the other; and each is made in a world that doesn't have what it wanted and didn't find.
+abbrev pub LeadsThroughWants : (sizes : Super) → World → List (PlacedStep (lowered_inode_calls sizes)) → World → Type 0
+LeadsThroughWants sizes t [] u = u ≡ t
+LeadsThroughWants sizes t (e ∷ es) u =
+    (next : World) × IsStep t e.hart e.step next × WantsWhatIsnt t e.hart e.step × LeadsThroughWants sizes next es u
+
+module _ (disk : List (List ℕ)) (failures : ℕ) (events : List (EventOf Call Outside)) where
+  -- so do the operations on whole inodes that the events make on this mounted disk, from its tree to what is seen at the end
+  abbrev pub WantsOnlyWhatIsnt : Type 0
+  WantsOnlyWhatIsnt =
+      let s = run (lowered_inode_calls (sizes_of disk)) events (fresh (lowered_inode_calls (sizes_of disk)) (first disk failures)) in
+      LeadsThroughWants (sizes_of disk) (first_world disk) (operations_made (sizes_of disk) s) (unreserved s.world.seen)
+
+module _ {D : Type 0} (contents : D → List (List ℕ)) (failures : D → ℕ) where
+  -- In each history of a run of this world, where it is as a mount left it, an operation is answered that there is no room only in a world
+  -- that has none: in that to which the operations before it lead.
+  abbrev pub NoRoomOnlyWhereThereIsNone : WorldOf D → Type 0
+  NoRoomOnlyWhereThereIsNone w =
+      (device : D) (events : List Event) (came : List Came) (new : HartsOf D) (history : List (EventOf Call Outside))
+      → IsMounted contents failures device w → IsHistory contents failures w.sizes w.harts events came new history
+      → let now = w.harts.core.log.cache.device in
+      WantsOnlyWhatIsnt (contents now) (failures now) history
