@@ -29,3 +29,5 @@ pub mod Listed
 pub mod Growing
 pub mod OneList
 pub mod Wants
+pub mod Searches
+pub mod SearchEnds

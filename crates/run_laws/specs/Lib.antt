@@ -5,3 +5,4 @@ pub mod Worlds
 pub mod Rooms
 pub mod OneList
 pub mod Wants
+pub mod Searches

@@ -6,6 +6,7 @@ ghost use Rattle.run_laws.specs.Idle.{IdleHartsHaveBegunNothing};
 ghost use Rattle.run_laws.specs.Laws.{RunsRefineWholeInodes};
 ghost use Rattle.run_laws.specs.OneList.{RunsHaveOneList};
 ghost use Rattle.run_laws.specs.Rooms.{RoomIsToldByAnswers};
+ghost use Rattle.run_laws.specs.Searches.{ClaimsFindReferences, SearchesSeeAll};
 ghost use Rattle.run_laws.specs.Wants.{NoRoomOnlyWhereThereIsNone};
 ghost use Rattle.run_laws.specs.Worlds.{WorldsRefineWholeInodes};
 
@@ -44,6 +45,15 @@ pub fn no_room_only_where_there_is_none<D: Device>(world: &World<D>)
 {
     let _ = world;
 }
+
+/// Whatever the steps on the blocks are answered of which an operation on whole inodes is made: where it ends for want of a block, it has
+/// read the bitmap, and no bit below the size was clear there; where it ends for want of an inode, it has read the block of each inode of
+/// the disk, which had a type there, or was among those of which none could be claimed. And that is answered only where to each of those
+/// a reference stands.
+pub fn searches_see_all()
+    ensures sees_all { SearchesSeeAll }
+    ensures finds_references { ClaimsFindReferences }
+{}
 
 /// A run has one list of tree steps, which is a function of its events with the device's answers, and only grows. Behind each event,
 /// wherever the world is stopped, the list so far is a beginning of that of the whole run; it explains the calls and the replies so far;
