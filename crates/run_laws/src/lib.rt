@@ -1,5 +1,5 @@
-//! Every run of the calls on blocks is a run of the machine of whole inodes, has one list of tree steps, and leaves nothing behind in an idle
-//! hart. The functions do nothing: each carries a law.
+//! Every run of the calls on blocks is a run of the machine of whole inodes, has one list of tree steps, finds no room only where there is
+//! none, and leaves nothing behind in an idle hart. The functions do nothing: each carries a law.
 #![tactic(auto)]
 
 ghost use Rattle.run_laws.specs.Idle.{IdleHartsHaveBegunNothing};
