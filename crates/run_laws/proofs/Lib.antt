@@ -31,3 +31,6 @@ pub mod OneList
 pub mod Wants
 pub mod Searches
 pub mod SearchEnds
+pub mod WantsCalls
+pub mod Seen
+pub mod Answered

@@ -99,6 +99,26 @@ module _ (sizes : Super) where
   seen_behind es xs ys is DiskInodes saw = λ n some below. in_use_behind es xs ys is n (saw n some below)
   seen_behind es xs ys is Directory saw = tt
 
+  in_use_front : (es xs ys : List AnsweredStep) → es ≡ xs ++ ys → (n : ℕ) → SawInUse sizes xs n → SawInUse sizes es n
+  in_use_front es xs ys is n s =
+      let b : ℕ = inode_block sizes.inodestart n in
+      let e : AnsweredStep = (steps.Claim b s.candidates, steps.NoInode) in
+      record {
+        block = s.block;
+        read = read_front es xs ys b s.block is s.read;
+        candidates = s.candidates;
+        claims = subst (λ (z : List AnsweredStep). In e z) (sym is) (in_front e xs ys s.claims);
+        used = s.used;
+      }
+
+  pub seen_front : (es xs ys : List AnsweredStep) → es ≡ xs ++ ys → (room : Full) → SawNone sizes xs room → SawNone sizes es room
+  seen_front es xs ys is MemInodes saw = tt
+  seen_front es xs ys is OpenFiles saw = tt
+  seen_front es xs ys is Descriptors saw = tt
+  seen_front es xs ys is Blocks saw = saw_front sizes es xs ys is saw
+  seen_front es xs ys is DiskInodes saw = λ n some below. in_use_front es xs ys is n (saw n some below)
+  seen_front es xs ys is Directory saw = tt
+
   -- so many bytes were written, or no block was seen
   none_or : (es xs ys : List AnsweredStep) → es ≡ xs ++ ys → (w : WriteResult) (k : ℕ) → SawNoBlock sizes xs ⊎ (w.upto ≡ k)
       → SawNoBlock sizes es ⊎ (w.upto ≡ k)

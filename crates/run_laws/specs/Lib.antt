@@ -6,3 +6,5 @@ pub mod Rooms
 pub mod OneList
 pub mod Wants
 pub mod Searches
+pub mod Seen
+pub mod Answered

@@ -2,11 +2,13 @@
 //! none, and leaves nothing behind in an idle hart. The functions do nothing: each carries a law.
 #![tactic(auto)]
 
+ghost use Rattle.run_laws.specs.Answered.{CallsFindNoneWhereThereIsNone};
 ghost use Rattle.run_laws.specs.Idle.{IdleHartsHaveBegunNothing};
 ghost use Rattle.run_laws.specs.Laws.{RunsRefineWholeInodes};
 ghost use Rattle.run_laws.specs.OneList.{RunsHaveOneList};
 ghost use Rattle.run_laws.specs.Rooms.{RoomIsToldByAnswers};
 ghost use Rattle.run_laws.specs.Searches.{ClaimsFindReferences, SearchesSeeAll};
+ghost use Rattle.run_laws.specs.Seen.{CallsLookEverywhere};
 ghost use Rattle.run_laws.specs.Wants.{NoRoomOnlyWhereThereIsNone};
 ghost use Rattle.run_laws.specs.Worlds.{WorldsRefineWholeInodes};
 
@@ -46,6 +48,14 @@ pub fn no_room_only_where_there_is_none<D: Device>(world: &World<D>)
     let _ = world;
 }
 
+/// So a call is answered that there is no open file, no descriptor or no slot of a directory only where one of its operations wanted that,
+/// in a world that has none.
+pub fn calls_find_none_where_there_is_none<D: Device>(world: &World<D>)
+    ensures { CallsFindNoneWhereThereIsNone D.contents D.failures world.now }
+{
+    let _ = world;
+}
+
 /// Whatever the steps on the blocks are answered of which an operation on whole inodes is made: where it ends for want of a block, it has
 /// read the bitmap, and no bit below the size was clear there; where it ends for want of an inode, it has read the block of each inode of
 /// the disk, which had a type there, or was among those of which none could be claimed. And that is answered only where to each of those
@@ -54,6 +64,15 @@ pub fn searches_see_all()
     ensures sees_all { SearchesSeeAll }
     ensures finds_references { ClaimsFindReferences }
 {}
+
+/// So in each run of a mounted world a call is answered that there is no block only where one of its steps, between its start and its
+/// return, had the bitmap with no clear bit below the size; and that there is no inode only where its steps had the block of each inode of
+/// the disk, and the inode had a type there, or a reference to it stood as the block's free ones were to be claimed.
+pub fn calls_look_everywhere<D: Device>(world: &World<D>)
+    ensures { CallsLookEverywhere D.contents D.failures world.now }
+{
+    let _ = world;
+}
 
 /// A run has one list of tree steps, which is a function of its events with the device's answers, and only grows. Behind each event,
 /// wherever the world is stopped, the list so far is a beginning of that of the whole run; it explains the calls and the replies so far;

@@ -1,0 +1,102 @@
+-- A call that is answered that there is no room has made an operation that wanted it.
+use Rattle.std.proofs.Common.{◌≡◌, ◌≢◌, inl, inr, ℕ, Bool, true, false, nat_eq, if◌then◌else◌, List, [], ◌∷◌, ◌++◌, Some, refl, sym, ◌∙◌}
+use Rattle.std.proofs.Common.{ap, subst}
+use Rattle.std.proofs.lemmas.Bool.{eqb-true}
+use Rattle.fs_layout.specs.declared.superblock.Super.{Super}
+use Rattle.fs_layout.specs.Recovered.{sizes_of}
+use Rattle.plain_tree.specs.declared.answer.Answer.TheVariants as answers
+use Rattle.plain_tree.specs.declared.answer.Full.{Full}
+use Rattle.plain_tree.specs.declared.answer.Full.TheVariants.{MemInodes}
+use Rattle.plain_tree.specs.declared.answer.Reply.{Reply}
+use Rattle.atomic_programs.specs.Calls.{PlacedStep}
+use Rattle.atomic_programs.specs.Explained.{Chain, In, steps_of}
+use Rattle.atomic_programs.specs.Prog.{Ret, Do}
+use Rattle.inode_machine.specs.Parts.{P}
+use Rattle.inode_machine.specs.Programs.{program}
+use Rattle.inode_machine.specs.World as above
+use Rattle.hart_core.specs.Worlds.{WorldOf}
+use Rattle.run_laws.specs.Answered.{CallsFindNoneWhereThereIsNone}
+use Rattle.run_laws.specs.Wants.{wanted}
+use Rattle.run_laws.specs.WholeInodes.{IsRunOf, IsStep, Operation, lowered_inode_calls}
+use Rattle.run_laws.proofs.Wants.{step_wants}
+use Rattle.run_laws.proofs.WantsCalls.{Blames, call_b}
+use Rattle.run_laws.proofs.Worlds.{worlds_refine}
+
+-- one of a program's operations wanted the room for want of which it ends
+run_blames : (room : Full) (apart : MemInodes ≢ room) (p : P Reply) (es : List Operation) (r : Reply) → Blames room apart p
+    → IsRunOf p es r
+    → r.answer ≡ answers.Full room → (e : Operation) × In e es × (wanted e.op e.answer ≡ Some room)
+run_blames room apart (Ret a) [] r b g full = absurd (b (ap (λ (z : Reply). z.answer) g ∙ full))
+run_blames room apart (Ret a) (e ∷ es) r b g full = absurd g
+run_blames room apart (Do op m k) [] r b g full = absurd g
+run_blames room apart (Do op m k) (e ∷ es) r b g full = elim (b.1 g.0) [
+  | inl want ↦ (e, inl refl, subst (λ (z : Operation). wanted z.op z.answer ≡ Some room) (sym g.2) want)
+  | inr later ↦ let x = run_blames room apart (k g.0) es r later g.3 full in (x.0, inr x.1, x.2)
+]
+
+module _ (sizes : Super) where
+  -- where an operation of a call stands among all
+  record Stands (call : ℕ) (x : Operation) (es : List (PlacedStep (lowered_inode_calls sizes))) : Type 0 where
+    operation : PlacedStep (lowered_inode_calls sizes)
+    before : List (PlacedStep (lowered_inode_calls sizes))
+    after : List (PlacedStep (lowered_inode_calls sizes))
+    is : es ≡ before ++ operation ∷ after
+    own : operation.call ≡ call
+    step : operation.step ≡ x
+
+  stands : (call : ℕ) (x : Operation) (es : List (PlacedStep (lowered_inode_calls sizes)))
+      → In x (steps_of (lowered_inode_calls sizes) call es) → Stands call x es
+  stands call x [] i = absurd i
+  stands call x (e ∷ es) i = at (nat_eq e.call call) refl i (λ j. stands call x es j)
+    where
+      later : Stands call x es → Stands call x (e ∷ es)
+      later s = record {
+        operation = s.operation;
+        before = e ∷ s.before;
+        after = s.after;
+        is = ap (λ (z : List (PlacedStep (lowered_inode_calls sizes))). e ∷ z) s.is;
+        own = s.own;
+        step = s.step;
+      }
+
+      at : (b : Bool) → nat_eq e.call call ≡ b
+          → In x (if b then e.step ∷ steps_of (lowered_inode_calls sizes) call es else steps_of (lowered_inode_calls sizes) call es)
+          → (In x (steps_of (lowered_inode_calls sizes) call es) → Stands call x es) → Stands call x (e ∷ es)
+      at true own (inl q) rest = record { operation = e; before = []; after = es; is = refl; own = eqb-true e.call call own; step = sym q }
+      at true own (inr j) rest = later (rest j)
+      at false own j rest = later (rest j)
+
+  -- the world in which it is made
+  reached : (t u : above.World) (es before after : List (PlacedStep (lowered_inode_calls sizes)))
+      (e : PlacedStep (lowered_inode_calls sizes))
+      → es ≡ before ++ e ∷ after → Chain (lowered_inode_calls sizes) t es u
+      → (w : above.World) × Chain (lowered_inode_calls sizes) t before w × (v : above.World) × IsStep w e.hart e.step v
+  reached t u es before after e is c =
+      at t before (subst (λ (z : List (PlacedStep (lowered_inode_calls sizes))). Chain (lowered_inode_calls sizes) t z u) is c)
+    where
+      at : (t : above.World) (before : List (PlacedStep (lowered_inode_calls sizes)))
+          → Chain (lowered_inode_calls sizes) t (before ++ e ∷ after) u
+          → (w : above.World) × Chain (lowered_inode_calls sizes) t before w × (v : above.World) × IsStep w e.hart e.step v
+      at t [] c = (t, refl, c.0, c.1)
+      at t (x ∷ xs) c = let r = at c.0 xs c.2 in (r.0, (c.0, c.1, r.1), r.2, r.3)
+
+pub found_none : {D : Type 0} (contents : D → List (List ℕ)) (failures : D → ℕ) (w : WorldOf D)
+    → CallsFindNoneWhereThereIsNone contents failures w
+found_none contents failures w device events came new history mounted is f i room apart full =
+    let sizes : Super = sizes_of (contents w.harts.core.log.cache.device) in
+    let runs = (worlds_refine contents failures w device events came new history mounted is).0.runs in
+    let x = run_blames room apart (program f.call) _ f.reply (call_b room apart f.call) (runs.whole f i) full in
+    let s = stands sizes f.start x.0 _ x.1 in
+    let r = reached sizes _ _ _ s.before s.after s.operation s.is runs.leads in
+    let want = subst (λ (z : Operation). wanted z.op z.answer ≡ Some room) (sym s.step) x.2 in
+    record {
+      operation = s.operation;
+      before = s.before;
+      after = s.after;
+      made = s.is;
+      own = s.own;
+      wants = want;
+      world = r.0;
+      leads = r.1;
+      none = step_wants r.0 r.2 s.operation.hart s.operation.step r.3 room want;
+    }
