@@ -1,6 +1,6 @@
 -- A call that is answered that there is no room has made an operation that wanted it.
 use Rattle.std.proofs.Common.{◌≡◌, ◌≢◌, inl, inr, ℕ, Bool, true, false, nat_eq, if◌then◌else◌, List, [], ◌∷◌, ◌++◌, Some, refl, sym, ◌∙◌}
-use Rattle.std.proofs.Common.{ap, subst}
+use Rattle.std.proofs.Common.{Option, ap, subst}
 use Rattle.std.proofs.lemmas.Bool.{eqb-true}
 use Rattle.fs_layout.specs.declared.superblock.Super.{Super}
 use Rattle.fs_layout.specs.Recovered.{sizes_of}
@@ -8,16 +8,24 @@ use Rattle.plain_tree.specs.declared.answer.Answer.TheVariants as answers
 use Rattle.plain_tree.specs.declared.answer.Full.{Full}
 use Rattle.plain_tree.specs.declared.answer.Full.TheVariants.{MemInodes}
 use Rattle.plain_tree.specs.declared.answer.Reply.{Reply}
-use Rattle.atomic_programs.specs.Calls.{PlacedStep}
+use Rattle.atomic_programs.specs.Calls.{PlacedStep, fresh, run}
 use Rattle.atomic_programs.specs.Explained.{Chain, In, steps_of}
 use Rattle.atomic_programs.specs.Prog.{Ret, Do}
 use Rattle.inode_machine.specs.Parts.{P}
 use Rattle.inode_machine.specs.Programs.{program}
 use Rattle.inode_machine.specs.World as above
+use Rattle.inodes_on_blocks.specs.Mounted.{first_world}
+use Rattle.calls_on_blocks.specs.History.{first}
+use Rattle.hart_core.specs.Runs.{trace_in}
 use Rattle.hart_core.specs.Worlds.{WorldOf}
-use Rattle.run_laws.specs.Answered.{CallsFindNoneWhereThereIsNone}
+use Rattle.plain_tree.specs.declared.trace.TracedCall.{TracedCall}
+use Rattle.std.specs.List.{All}
+use Rattle.std.proofs.lemmas.List.Elements.{All-cons, All-head, All-nil, All-tail}
+use Rattle.run_laws.specs.Answered.{CallsFindNoneWhereThereIsNone, IsAnsweredRightly}
+use Rattle.run_laws.specs.Laws.{RefinesWholeInodes, operations_made, operations_of}
+use Rattle.run_laws.specs.Worlds.{IsRun, RunsTo}
 use Rattle.run_laws.specs.Wants.{wanted}
-use Rattle.run_laws.specs.WholeInodes.{IsRunOf, IsStep, Operation, lowered_inode_calls}
+use Rattle.run_laws.specs.WholeInodes.{IsRunOf, IsStep, Operation, lowered_inode_calls, unreserved}
 use Rattle.run_laws.proofs.Wants.{step_wants}
 use Rattle.run_laws.proofs.WantsCalls.{Blames, call_b}
 use Rattle.run_laws.proofs.Worlds.{worlds_refine}
@@ -80,23 +88,43 @@ module _ (sizes : Super) where
       at t [] c = (t, refl, c.0, c.1)
       at t (x ∷ xs) c = let r = at c.0 xs c.2 in (r.0, (c.0, c.1, r.1), r.2, r.3)
 
+both_of : {A : Type 0} (Is Has : A → Type 0) (xs : List A) → ((x : A) → Is x → Has x) → All Is xs → All Has xs
+both_of Is Has [] f a = All-nil Has
+both_of Is Has (x ∷ xs) f a = All-cons Has x xs (f x (All-head Is x xs a)) (both_of Is Has xs f (All-tail Is x xs a))
+
 pub found_none : {D : Type 0} (contents : D → List (List ℕ)) (failures : D → ℕ) (w : WorldOf D)
     → CallsFindNoneWhereThereIsNone contents failures w
-found_none contents failures w device events came new history mounted is f i room apart full =
-    let sizes : Super = sizes_of (contents w.harts.core.log.cache.device) in
-    let runs = (worlds_refine contents failures w device events came new history mounted is).0.runs in
-    let x = run_blames room apart (program f.call) _ f.reply (call_b room apart f.call) (runs.whole f i) full in
-    let s = stands sizes f.start x.0 _ x.1 in
-    let r = reached sizes _ _ _ s.before s.after s.operation s.is runs.leads in
-    let want = subst (λ (z : Operation). wanted z.op z.answer ≡ Some room) (sym s.step) x.2 in
-    record {
-      operation = s.operation;
-      before = s.before;
-      after = s.after;
-      made = s.is;
-      own = s.own;
-      wants = want;
-      world = r.0;
-      leads = r.1;
-      none = step_wants r.0 r.2 s.operation.hart s.operation.step r.3 room want;
-    }
+found_none contents failures w device events came new history mounted is =
+    both_of (IsRun disk count history) (IsAnsweredRightly disk count history) (trace_in events came).calls each refines.1
+  where
+    disk : List (List ℕ)
+    disk = contents w.harts.core.log.cache.device
+
+    count : ℕ
+    count = failures w.harts.core.log.cache.device
+
+    refines : RefinesWholeInodes disk count history × All (IsRun disk count history) (trace_in events came).calls
+    refines = worlds_refine contents failures w device events came new history mounted is
+
+    each : (c : TracedCall) → IsRun disk count history c → IsAnsweredRightly disk count history c
+    each c runs number reply room ends full apart =
+        let sizes : Super = sizes_of disk in
+        let s = run (lowered_inode_calls (sizes_of disk)) history (fresh (lowered_inode_calls (sizes_of disk)) (first disk count)) in
+        let g = subst (λ (o : Option (ℕ × Reply)). RunsTo c.call (operations_of sizes s c.start) o) ends runs in
+        let ne : MemInodes ≢ room = (λ e. apart (sym e)) in
+        let x = run_blames room ne (program c.call) (operations_of sizes s c.start) reply (call_b room ne c.call) g full in
+        let t = stands sizes c.start x.0 (operations_made sizes s) x.1 in
+        let r = reached sizes (first_world disk) (unreserved s.world.seen) (operations_made sizes s) t.before t.after t.operation
+        t.is refines.0.runs.leads in
+        let want = subst (λ (z : Operation). wanted z.op z.answer ≡ Some room) (sym t.step) x.2 in
+        record {
+          operation = t.operation;
+          before = t.before;
+          after = t.after;
+          made = t.is;
+          own = t.own;
+          wants = want;
+          world = r.0;
+          leads = r.1;
+          none = step_wants r.0 r.2 t.operation.hart t.operation.step r.3 room want;
+        }
