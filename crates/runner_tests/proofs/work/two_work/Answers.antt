@@ -1,9 +1,18 @@
+use denote.RattleType.{RattleType}
+use denote.Param.SendFields.{declared_send}
+use Rattle.std.proofs.Crossing.{crosses}
+use Rattle.std.specs.declared.sync.ledger.Ledger.{Ghosts}
+use Rattle.plain_tree.proofs.call.Call.TheSendSync as call
 use denote.Exit.{no}
-use denote.Param.Send.{param_send, arg_send, shr_send}
-use Rattle.hart_runner.proofs.Sent.{four_send, kernel_sync}
+use denote.Param.Send.{IsSend, sendable, param_send, arg_send, shr_send}
+use Rattle.hart_runner.proofs.Sent.{four_send, kernel_sync, seat_send}
 use Rattle.runner_tests.specs.contracts.work.two_work.{L-row, G-row}
-use Rattle.runner_tests.proofs.Tasks.{task_send}
+use Rattle.runner_tests.specs.contracts.work.Task as task
 use Rattle.runner_tests.proofs.work.two_work.Goals as goal
+
+-- a task may go to another thread
+task_send : (L : RattleType) (g : Ghosts L.Denot) → IsSend L → IsSend (task.the_row L g)
+task_send L g s = declared_send (task.the_type L g) (search (seat_send, call.the_send, sendable, crosses) depth 60 fits 20000)
 
 pub join-a-requires-send-F : goal.join-a-requires-send-F
 join-a-requires-send-F g c κs within =
