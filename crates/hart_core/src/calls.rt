@@ -1,5 +1,5 @@
 // The calls that eight harts have under way.
-ghost use Rattle.std.specs.Prelude.{◌≡◌, ◌<◌, [], ◌∷◌, false, None, IfOk, IfSome, get_or, is_some, replicate, slice_set};
+ghost use Rattle.std.specs.Prelude.{◌≡◌, ◌<◌, [], ◌∷◌, false, None, IfOk, get_or, is_some, replicate, slice_set};
 ghost use Rattle.atomic_programs.specs.Plain.{PlainHonestStep, MayOf, hart_step};
 ghost use Rattle.atomic_programs.specs.Machines.{program_at};
 ghost use Rattle.fs_machine.specs.Steps.{state_of};

@@ -1,5 +1,5 @@
 // Eight harts' machines over all that they share.
-ghost use Rattle.std.specs.Prelude.{◌≡◌, ◌<◌, ◌&&◌, false, Some, None, IfSome, get_or, is_some, length, replicate, slice_get, slice_set};
+ghost use Rattle.std.specs.Prelude.{◌≡◌, ◌<◌, ◌&&◌, false, Some, None, get_or, is_some, length, replicate, slice_get, slice_set};
 ghost use Rattle.atomic_programs.specs.Calls.{Start as StartOf, Step as StepOf, Started};
 ghost use Rattle.atomic_programs.specs.Plain.{plain_makes, PlainHonest};
 ghost use Rattle.group_log.specs.Phases.{is_point};
