@@ -1,18 +1,12 @@
 -- A call that is answered that there is no room has made an operation that wanted it.
-use Rattle.std.proofs.Common.{◌≡◌, ◌≢◌, inl, inr, ℕ, Bool, true, false, nat_eq, if◌then◌else◌, List, [], ◌∷◌, ◌++◌, Some, refl, sym, ◌∙◌}
+use Rattle.std.proofs.Common.{◌≡◌, inl, inr, ℕ, Bool, true, false, nat_eq, if◌then◌else◌, List, [], ◌∷◌, ◌++◌, Some, refl, sym}
 use Rattle.std.proofs.Common.{Option, ap, subst}
 use Rattle.std.proofs.lemmas.Bool.{eqb-true}
 use Rattle.fs_layout.specs.declared.superblock.Super.{Super}
 use Rattle.fs_layout.specs.Recovered.{sizes_of}
-use Rattle.plain_tree.specs.declared.answer.Answer.TheVariants as answers
-use Rattle.plain_tree.specs.declared.answer.Full.{Full}
-use Rattle.plain_tree.specs.declared.answer.Full.TheVariants.{MemInodes}
 use Rattle.plain_tree.specs.declared.answer.Reply.{Reply}
 use Rattle.atomic_programs.specs.Calls.{PlacedStep, fresh, run}
 use Rattle.atomic_programs.specs.Explained.{Chain, In, steps_of}
-use Rattle.atomic_programs.specs.Prog.{Ret, Do}
-use Rattle.inode_machine.specs.Parts.{P}
-use Rattle.inode_machine.specs.Programs.{program}
 use Rattle.inode_machine.specs.World as above
 use Rattle.inodes_on_blocks.specs.Mounted.{first_world}
 use Rattle.calls_on_blocks.specs.History.{first}
@@ -24,23 +18,10 @@ use Rattle.std.proofs.lemmas.List.Elements.{All-cons, All-head, All-nil, All-tai
 use Rattle.run_laws.specs.Answered.{CallsFindNoneWhereThereIsNone, IsAnsweredRightly}
 use Rattle.run_laws.specs.Laws.{RefinesWholeInodes, operations_made, operations_of}
 use Rattle.run_laws.specs.Worlds.{IsRun, RunsTo}
-use Rattle.run_laws.specs.Wants.{wanted}
-use Rattle.run_laws.specs.WholeInodes.{IsRunOf, IsStep, Operation, lowered_inode_calls, unreserved}
+use Rattle.run_laws.specs.Wanted.{wanted}
+use Rattle.run_laws.specs.WholeInodes.{IsStep, Operation, lowered_inode_calls, unreserved}
 use Rattle.run_laws.proofs.Wants.{step_wants}
-use Rattle.run_laws.proofs.WantsCalls.{Blames, call_b}
 use Rattle.run_laws.proofs.Worlds.{worlds_refine}
-
--- one of a program's operations wanted the room for want of which it ends
-run_blames : (room : Full) (apart : MemInodes ≢ room) (p : P Reply) (es : List Operation) (r : Reply) → Blames room apart p
-    → IsRunOf p es r
-    → r.answer ≡ answers.Full room → (e : Operation) × In e es × (wanted e.op e.answer ≡ Some room)
-run_blames room apart (Ret a) [] r b g full = absurd (b (ap (λ (z : Reply). z.answer) g ∙ full))
-run_blames room apart (Ret a) (e ∷ es) r b g full = absurd g
-run_blames room apart (Do op m k) [] r b g full = absurd g
-run_blames room apart (Do op m k) (e ∷ es) r b g full = elim (b.1 g.0) [
-  | inl want ↦ (e, inl refl, subst (λ (z : Operation). wanted z.op z.answer ≡ Some room) (sym g.2) want)
-  | inr later ↦ let x = run_blames room apart (k g.0) es r later g.3 full in (x.0, inr x.1, x.2)
-]
 
 module _ (sizes : Super) where
   -- where an operation of a call stands among all
@@ -107,12 +88,11 @@ found_none contents failures w device events came new history mounted is =
     refines = worlds_refine contents failures w device events came new history mounted is
 
     each : (c : TracedCall) → IsRun disk count history c → IsAnsweredRightly disk count history c
-    each c runs number reply room ends full apart =
+    each c runs number reply room ends full =
         let sizes : Super = sizes_of disk in
         let s = run (lowered_inode_calls (sizes_of disk)) history (fresh (lowered_inode_calls (sizes_of disk)) (first disk count)) in
         let g = subst (λ (o : Option (ℕ × Reply)). RunsTo c.call (operations_of sizes s c.start) o) ends runs in
-        let ne : MemInodes ≢ room = (λ e. apart (sym e)) in
-        let x = run_blames room ne (program c.call) (operations_of sizes s c.start) reply (call_b room ne c.call) g full in
+        let x = g.wants room full in
         let t = stands sizes c.start x.0 (operations_made sizes s) x.1 in
         let r = reached sizes (first_world disk) (unreserved s.world.seen) (operations_made sizes s) t.before t.after t.operation
         t.is refines.0.runs.leads in

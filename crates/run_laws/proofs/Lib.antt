@@ -12,6 +12,8 @@ pub mod InheritFits
 pub mod CallFits
 pub mod Running
 pub mod Reserved
+pub mod WantsCalls
+pub mod Blamed
 pub mod Whole
 pub mod Beside
 pub mod Operations
@@ -31,6 +33,5 @@ pub mod OneList
 pub mod Wants
 pub mod Searches
 pub mod SearchEnds
-pub mod WantsCalls
 pub mod Seen
 pub mod Answered

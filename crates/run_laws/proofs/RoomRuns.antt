@@ -180,10 +180,10 @@ module _ (sizes : Super) where
     tells e i = at (runs.owned e i)
       where
         at : IsOfCall L s e → spoils e.step.mark ≡ says_no_room e.step.op e.step.answer
-        at (inl x) = in_run (program (x.0).call) (operations_of sizes s (x.0).start) (x.0).reply e.step (finished_fits x.0 x.1) (runs.whole x.0 x.1) (in_steps (x.0).start (operations_made sizes s) e i (sym x.3))
+        at (inl x) = in_run (program (x.0).call) (operations_of sizes s (x.0).start) (x.0).reply e.step (finished_fits x.0 x.1) (runs.whole x.0 x.1).runs (in_steps (x.0).start (operations_made sizes s) e i (sym x.3))
         at (inr x) =
             let b = runs.begun e.hart x.0 x.1 in
-            in_run (program (x.0).call) (operations_of sizes s (x.0).start ++ b.0) b.1 e.step (running_fits e.hart x.0 x.1) b.2
+            in_run (program (x.0).call) (operations_of sizes s (x.0).start ++ b.0) b.1 e.step (running_fits e.hart x.0 x.1) b.2.runs
             (in_more e.step (operations_of sizes s (x.0).start) b.0 (in_steps (x.0).start (operations_made sizes s) e i (sym x.2)))
 
     run_clean : s.world.seen.clean ≡ (none_finds (operations_made sizes s) && base.clean)

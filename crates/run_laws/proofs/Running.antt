@@ -47,6 +47,11 @@ some_answer Join = tt
 some_answer Leave = tt
 some_answer Say = tt
 
+-- no inode is claimed by it
+pub none_claimed : (sort : Sort) (n : ℕ) → New n ≢ some_answer (Claim sort)
+unfolding some_answer
+none_claimed sort n e = let z : New n ≡ NoInode = e in cc
+
 -- ---- what stays
 
 -- what an operation leaves to its mark

@@ -46,7 +46,7 @@ use Rattle.directory.specs.Entering.{slot_for}
 use Rattle.directory.specs.Programs.{most_slots}
 use Rattle.run_laws.specs.Searches.{AnsweredStep, ClaimsFindReferences, ComesTo, HasRead, SawInUse, SawNoBlock, SawNoInode, SawNone}
 use Rattle.run_laws.specs.Searches.{SearchesSeeAll}
-use Rattle.run_laws.specs.Wants.{wanted_to_claim, wanted_to_double, wanted_to_enter, wanted_to_write, wanted_unless, wanted_without}
+use Rattle.run_laws.specs.Wanted.{wanted_to_claim, wanted_to_double, wanted_to_enter, wanted_to_write, wanted_unless, wanted_without}
 use Rattle.run_laws.proofs.Searches.{fetched, in_back, in_front, read_back, read_front, saw_back, saw_front, split, written}
 
 -- ---- names

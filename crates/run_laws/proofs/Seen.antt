@@ -42,7 +42,7 @@ use Rattle.run_laws.specs.Seen.{AreItsOwn, CallsLookEverywhere, IsInUse, IsRefer
 use Rattle.run_laws.specs.Seen.{if_ran, step_of_call, step_of_event, step_of_program, step_unless, steps_made}
 use Rattle.run_laws.proofs.Searches.{in_back, in_front, split}
 use Rattle.run_laws.proofs.SearchEnds.{all_see, claims_find, seen_behind, seen_front}
-use Rattle.run_laws.proofs.WantsCalls.{Blames, call_b}
+use Rattle.run_laws.proofs.WantsCalls.{Blames, call_b, goes_or}
 
 -- ---- from program to program
 
@@ -351,7 +351,7 @@ module _ (sizes : Super) where
 
   -- ---- what a call's steps have seen
 
-  program_sees : (room : Full) (apart : MemInodes ≢ room) (p : Above Reply) (c : Carry) → Blames room apart p
+  program_sees : (room : Full) (apart : MemInodes ≢ room) (p : Above Reply) (c : Carry) → Blames room p
       → (es : List AnsweredStep) (reply : Reply)
       → ComesTo (lowered machine (layer sizes) (handlers sizes) c p) es reply → reply.answer ≡ answers.Full room → SawNone sizes es room
   program_sees room apart (Ret r) c b [] reply q full = absurd (b (ap (λ (z : Reply). z.answer) q ∙ full))
@@ -361,14 +361,17 @@ module _ (sizes : Super) where
       let s = split (handlers sizes c op m) next_ es reply q in
       elim (b.1 s.value.answer) [
         | inl want ↦ seen_front sizes es s.front s.back s.is room (all_see sizes c op m s.front s.value room b.0 s.first want)
-        | inr later ↦ seen_behind sizes es s.front s.back s.is room
-            (program_sees room apart (k s.value.answer) s.value.carry later s.back reply s.then_ full)
+        | inr later ↦ elim (goes_or room op s.value.answer (k s.value.answer) (Blames room (k s.value.answer)) later) [
+          | inl never ↦ absurd (apart (sym never.0))
+          | inr then_ ↦ seen_behind sizes es s.front s.back s.is room
+              (program_sees room apart (k s.value.answer) s.value.carry then_ s.back reply s.then_ full)
+        ]
       ]
 
   call_sees : (room : Full) (apart : MemInodes ≢ room) (call : Call) (es : List AnsweredStep) (reply : Reply)
       → ComesTo (L.program call) es reply
       → reply.answer ≡ answers.Full room → SawNone sizes es room
-  call_sees room apart call es reply q full = program_sees room apart (program call) nothing (call_b room apart call) es reply q full
+  call_sees room apart call es reply q full = program_sees room apart (program call) nothing (call_b room call) es reply q full
 
   -- the step that was so answered
   step_there : (x : AnsweredStep) (es : List MadeStep) → In x (answered es) → (e : MadeStep) × In e es × (e.step ≡ x)

@@ -32,7 +32,8 @@ use Rattle.inode_machine.specs.World.Op.{Slot, Install, StatFile, LockFile, Read
 use Rattle.inode_machine.specs.World.Op.{Shut, Settle, Lend, LendDirectory, Release, Join, Leave, Say}
 use Rattle.inode_machine.proofs.Openings.{first_some}
 use Rattle.run_laws.specs.Wants.{AllDescriptorsAreTaken, AllOpenFilesAreTaken, AllPlacesAreTaken, HasNone, IsFullDirectory, IsTaken}
-use Rattle.run_laws.specs.Wants.{LeadsThroughWants, NoRoomOnlyWhereThereIsNone, WantsWhatIsnt, wanted}
+use Rattle.run_laws.specs.Wants.{LeadsThroughWants, NoRoomOnlyWhereThereIsNone, WantsWhatIsnt}
+use Rattle.run_laws.specs.Wanted.{wanted}
 use Rattle.run_laws.specs.WholeInodes.{IsStep, Operation, lowered_inode_calls, unreserved}
 use Rattle.run_laws.proofs.Worlds.{worlds_refine}
 

@@ -1,7 +1,8 @@
--- A call's program ends for want of a room only where one of its operations wanted it; and each name that it enters fits.
+-- A call's program ends for want of a room only where one of its operations wanted it, or where a claim gave it an inode that it had
+-- locked; and each name that it enters fits.
 use Rattle.std.proofs.Common.{◌≡◌, ◌≢◌, ◌⊎◌, inl, inr, ◌≤◌, ◌+◌, ◌-◌, ◌==◌, ◌||◌, ℕ, zero, suc, Bool, true, false, not, if◌then◌else◌}
 use Rattle.std.proofs.Common.{List, [], ◌∷◌}
-use Rattle.std.proofs.Common.{Option, Some, None, length, take, map, filter, refl, arith}
+use Rattle.std.proofs.Common.{Option, Some, None, length, take, map, filter, refl, sym, ap, arith}
 use Rattle.std.proofs.lemmas.List.{length-take}
 use Rattle.plain_tree.specs.declared.answer.Answer.TheVariants as answers
 use Rattle.plain_tree.specs.declared.answer.Cause.{Cause}
@@ -16,8 +17,9 @@ use Rattle.plain_tree.specs.declared.step.Action.{Action}
 use Rattle.plain_tree.specs.declared.step.Action.TheVariants as actions
 use Rattle.plain_tree.specs.Calls.{piece, piece_count}
 use Rattle.plain_tree.specs.Steps.{creates}
-use Rattle.plain_tree.specs.Tree.{Name, dot, dotdot, elements, is_empty, pieces, same_name}
+use Rattle.plain_tree.specs.Tree.{Name, dot, dotdot, elements, is_absolute, is_empty, pieces, same_name}
 use Rattle.plain_tree.specs.Widths.{descriptor_count}
+use Rattle.tree_laws.proofs.Maps.{eq_is}
 use Rattle.atomic_programs.specs.Prog.{Ret, Do, unmarked}
 use Rattle.inode_machine.specs.Descriptors.{checked_reply, close_on, dup_on, joined_on, read_on, read_reply, stat_on, stat_reply}
 use Rattle.inode_machine.specs.Descriptors.{write_from, write_piece, write_program, write_reply, wrote_on}
@@ -35,13 +37,14 @@ use Rattle.inode_machine.specs.Parts.{NoMemory, NotThere, P, Stop, done, drop, f
 use Rattle.inode_machine.specs.Parts.{say, see_parent, start, start_on, stopped, tail, walk, walk_parent, walk_step, with_last}
 use Rattle.inode_machine.specs.Programs.{program}
 use Rattle.inode_machine.specs.World as above
-use Rattle.inode_machine.specs.World.{Answer, JoinResult, Joined, Lent, LoanResult, LockResult, LocksIt, Moved, NotJoined, NotLocked}
-use Rattle.inode_machine.specs.World.{Refused, Short, Whole, Wrote}
+use Rattle.inode_machine.specs.World.{Answer, JoinResult, Joined, Lent, LoanResult, LockResult, LocksIt, Moved, New, NotJoined, NotLocked}
+use Rattle.inode_machine.specs.World.{Op, Refused, Short, Whole, Wrote}
 use Rattle.inode_machine.specs.World.Op.{Claim, Double, Empty, Enter, Fill, Forget, Free, Give, Install, Join, Leave, Release, Settle}
-use Rattle.inode_machine.specs.World.Op.{Store, WriteFile}
+use Rattle.inode_machine.specs.World.Op.{Store, Up, UpStart, WriteFile}
 use Rattle.inode_machine.specs.World.Mark.{Frees}
 use Rattle.run_laws.specs.Searches.{NameFits}
-use Rattle.run_laws.specs.Wants.{wanted}
+use Rattle.run_laws.specs.Wanted.{wanted}
+use Rattle.run_laws.proofs.Running.{none_claimed, some_answer}
 
 -- ---- names
 
@@ -99,14 +102,32 @@ same_kind Directory Blocks = inr (λ e. (let z : Directory ≡ Blocks = e in cc)
 same_kind Directory DiskInodes = inr (λ e. (let z : Directory ≡ DiskInodes = e in cc))
 same_kind Directory Directory = inl refl
 
-module _ (room : Full) (apart : MemInodes ≢ room) where
+-- the program forgets the inode, and then gives up the inode's lock: that doesn't come about
+pub record GivesBack (n : ℕ) (p : P Reply) : Type 0 where
+  pub rest : Unit {0} → P Reply
+  pub forgets : p ≡ Do (Forget n) unmarked rest
+  pub last : P Reply
+  pub gives : rest tt ≡ give_up n last
+
+module _ (room : Full) where
   abbrev Not : Reply → Type 0
   Not r = r.answer ≢ answers.Full room
 
-  -- whatever its operations answer, it ends for want of this room only where one of them wanted it
+  -- After this answer the program does so; or a claim gave it an inode that it had locked, and it ends for want of a place in memory.
+  abbrev pub Goes : (op : Op) → Answer op → P Reply → Type 0 → Type 0
+  Goes (Claim sort) (New n) p does = ((room ≡ MemInodes) × GivesBack n p) ⊎ does
+  Goes op a p does = does
+
+  -- whatever else its operations answer, it ends for want of this room only where one of them wanted it
   abbrev pub Blames : P Reply → Type 0
   Blames (Ret r) = Not r
-  Blames (Do op m k) = NameFits op × ((a : Answer op) → (wanted op a ≡ Some room) ⊎ Blames (k a))
+  Blames (Do op m k) = NameFits op × ((a : Answer op) → (wanted op a ≡ Some room) ⊎ Goes op a (k a) (Blames (k a)))
+
+  pub goes_or : (op : Op) (a : Answer op) (p : P Reply) (does : Type 0) → Goes op a p does
+      → ((room ≡ MemInodes) × (n : ℕ) × GivesBack n p × (a ≢ some_answer op)) ⊎ does
+  goes_or (Claim sort) (New n) p does (inl x) = inl (x.0, n, x.1, none_claimed sort n)
+  goes_or (Claim sort) (New n) p does (inr then_) = inr then_
+  goes_or op a p does then_ = inr then_
 
   not_failed : (c : Call) (why : Cause) → Not (failed c why)
   not_failed c why e = cc
@@ -117,9 +138,14 @@ module _ (room : Full) (apart : MemInodes ≢ room) where
   not_full : (c : Call) (kind : Full) → kind ≢ room → Not (full c kind)
   not_full c kind ne e = ne cc
 
-  not_stopped : (c : Call) (why : Stop) → Not (stopped c why)
-  not_stopped c NotThere = not_failed c NoEntry
-  not_stopped c NoMemory = not_full c MemInodes apart
+  -- a walk isn't stopped for want of this room
+  abbrev Spares : Stop → Type 0
+  Spares NotThere = Unit {0}
+  Spares NoMemory = MemInodes ≢ room
+
+  not_stopped : (c : Call) (why : Stop) → Spares why → Not (stopped c why)
+  not_stopped c NotThere spares = not_failed c NoEntry
+  not_stopped c NoMemory spares = not_full c MemInodes spares
 
   lacks : (kind : Full) (p : P Reply) → (kind ≢ room → Blames p) → (Some kind ≡ Some room) ⊎ Blames p
   lacks kind p f = at (same_kind kind room)
@@ -156,27 +182,51 @@ module _ (room : Full) (apart : MemInodes ≢ room) where
   refused_b : (n : ℕ) (ns : List ℕ) (r : Reply) → Not r → Blames (give_up n (tail ns r))
   refused_b n ns r isnt = give_up_b n (tail ns r) (tail_b ns r isnt)
 
+  -- no place is left in memory
+  no_place_b : (c : Call) (d : ℕ) (ns : List ℕ) → (Some MemInodes ≡ Some room) ⊎ Blames (give_up d (tail ns (full c MemInodes)))
+  no_place_b c d ns =
+      lacks MemInodes (give_up d (tail ns (full c MemInodes))) (λ ne. refused_b d ns (full c MemInodes) (not_full c MemInodes ne))
+
+  -- inode n was claimed, which is the directory itself
+  abbrev claims_own : Call → ℕ → List ℕ → ℕ → P Reply
+  claims_own c d ns n = Do (Forget n) unmarked (λ _. give_up d (tail ns (full c MemInodes)))
+
+  own_b : (c : Call) (sort : Sort) (d : ℕ) (ns : List ℕ) (n : ℕ) → n ≡ d
+      → Goes (Claim sort) (New n) (claims_own c d ns n) (Blames (claims_own c d ns n))
+  own_b c sort d ns n same = by (same_kind MemInodes room)
+    where
+      last : P Reply
+      last = tail ns (full c MemInodes)
+
+      back : GivesBack n (claims_own c d ns n)
+      back = record { rest = λ _. give_up d last; forgets = refl; last = last; gives = ap (λ (z : ℕ). give_up z last) (sym same) }
+
+      by : (MemInodes ≡ room) ⊎ (MemInodes ≢ room) → Goes (Claim sort) (New n) (claims_own c d ns n) (Blames (claims_own c d ns n))
+      by (inl is) = inl (sym is, back)
+      by (inr ne) = inr (tt, λ _. inr (refused_b d ns (full c MemInodes) (not_full c MemInodes ne)))
+
   -- ---- walks
 
   leave_b : (d : ℕ) (ns : List ℕ) (k : List ℕ → P Reply) → ((ms : List ℕ) → Blames (k ms)) → Blames (leave_directory d ns k)
   leave_b d ns k uses = (tt, λ _. inr (tt, λ last. inr (uses (with_last ns d last))))
 
-  module _ (lost : Stop → List ℕ → P Reply) (lost_b : (why : Stop) (ns : List ℕ) → Blames (lost why ns)) where
+  module _ (lost : Stop → List ℕ → P Reply) (lost_b : (why : Stop) → Spares why → (ns : List ℕ) → Blames (lost why ns)) where
     step_b : (d : ℕ) (ns : List ℕ) (go : ℕ → List ℕ → P Reply) → ((n : ℕ) (ms : List ℕ) → Blames (go n ms)) → (o : Option ℕ)
         → Blames (walk_step d ns go lost o)
-    step_b d ns go uses None = leave_b d ns (lost NotThere) (lost_b NotThere)
-    step_b d ns go uses (Some j) = (tt, λ there. inr (by there))
+    step_b d ns go uses None = leave_b d ns (lost NotThere) (lost_b NotThere tt)
+    step_b d ns go uses (Some j) = (tt, λ there. by there)
       where
-        by : (there : Bool) → Blames (leave_directory d ns (if there then go j else lost NoMemory))
-        by true = leave_b d ns (go j) (uses j)
-        by false = leave_b d ns (lost NoMemory) (lost_b NoMemory)
+        by : (there : Bool)
+            → (wanted (Up j) there ≡ Some room) ⊎ Blames (leave_directory d ns (if there then go j else lost NoMemory))
+        by true = inr (leave_b d ns (go j) (uses j))
+        by false = lacks MemInodes (leave_directory d ns (lost NoMemory)) (λ ne. leave_b d ns (lost NoMemory) (lost_b NoMemory ne))
 
     start_b : (s : Action) (path ns : List ℕ) (next : ℕ → P Reply) → ((d : ℕ) → Blames (next d)) → Blames (start s path ns next lost)
-    start_b s path ns next uses = (tt, λ o. inr (by o))
+    start_b s path ns next uses = (tt, λ o. by o)
       where
-        by : (o : Option ℕ) → Blames (start_on next lost ns o)
-        by None = lost_b NoMemory ns
-        by (Some d) = uses d
+        by : (o : Option ℕ) → (wanted (UpStart (is_absolute path)) o ≡ Some room) ⊎ Blames (start_on next lost ns o)
+        by None = lacks MemInodes (lost NoMemory ns) (λ ne. lost_b NoMemory ne ns)
+        by (Some d) = inr (uses d)
 
     module _ (s : Action) (found : ℕ → List ℕ → P Reply) (found_b : (n : ℕ) (ns : List ℕ) → Blames (found n ns)) where
       walk_b : (es : List Name) (d : ℕ) (ns : List ℕ) → Blames (walk s d es ns found lost)
@@ -193,7 +243,7 @@ module _ (room : Full) (apart : MemInodes ≢ room) where
         where
           by : (b : Bool) → Blames (if b then Do (Give d) unmarked (λ _. found d e ns) else leave_directory d ns (lost NotThere))
           by true = (tt, λ _. inr (found_b d e ns fits))
-          by false = leave_b d ns (lost NotThere) (lost_b NotThere)
+          by false = leave_b d ns (lost NotThere) (lost_b NotThere tt)
 
       parent_walk_b : (e : Name) (es : List Name) → AllShort (e ∷ es) → (d : ℕ) (ns : List ℕ) → Blames (walk_parent s d e es ns found lost)
       parent_walk_b e [] fits d ns = see_b e fits.0 d ns
@@ -220,8 +270,8 @@ module _ (room : Full) (apart : MemInodes ≢ room) where
       by false = refused_b n ns (failed (calls.Chdir path) NotDirectory) (not_failed (calls.Chdir path) NotDirectory)
 
   -- a walk is lost
-  lost_tail : (c : Call) (why : Stop) (ns : List ℕ) → Blames (tail ns (stopped c why))
-  lost_tail c why ns = tail_b ns (stopped c why) (not_stopped c why)
+  lost_tail : (c : Call) (why : Stop) → Spares why → (ns : List ℕ) → Blames (tail ns (stopped c why))
+  lost_tail c why spares ns = tail_b ns (stopped c why) (not_stopped c why spares)
 
   chdir_b : (path : List ℕ) → Blames (chdir_program path)
   chdir_b path =
@@ -301,24 +351,28 @@ module _ (room : Full) (apart : MemInodes ≢ room) where
     file_b d e ns fits n = (tt, λ a. inr (tt, λ _. inr (fits, λ r. named_b n (face_or a.face).sort d ns e r)))
 
     file_with_b : (sort : Sort) (d : ℕ) (e : Name) (ns : List ℕ) → Short14 e → (a : above.ClaimResult)
-        → (wanted (Claim sort) a ≡ Some room) ⊎ Blames (make_with path flags d e ns a)
+        → (wanted (Claim sort) a ≡ Some room) ⊎ Goes (Claim sort) a (make_with path flags d e ns a) (Blames (make_with path flags d e ns a))
     file_with_b sort d e ns fits above.NoInode =
         lacks DiskInodes (give_up d (tail ns (full c DiskInodes))) (λ ne. refused_b d ns (full c DiskInodes) (not_full c DiskInodes ne))
-    file_with_b sort d e ns fits above.NoPlace = inr (refused_b d ns (full c MemInodes) (not_full c MemInodes apart))
-    file_with_b sort d e ns fits (above.New n) = inr (by (n == d))
+    file_with_b sort d e ns fits above.NoPlace = no_place_b c d ns
+    file_with_b sort d e ns fits (New n) = inr (by (n == d) refl)
       where
-        by : (b : Bool)
-            → Blames (if b then Do (Forget n) unmarked (λ _. give_up d (tail ns (full c MemInodes))) else make_other path flags d e ns n)
-        by true = (tt, λ _. inr (refused_b d ns (full c MemInodes) (not_full c MemInodes apart)))
-        by false = file_b d e ns fits n
+        next : Bool → P Reply
+        next b = if b then claims_own c d ns n else make_other path flags d e ns n
+
+        by : (b : Bool) → (n == d) ≡ b → Goes (Claim sort) (New n) (next b) (Blames (next b))
+        by true same = own_b c sort d ns n (eq_is n d same)
+        by false other = inr (file_b d e ns fits n)
 
     create_found_b : (d : ℕ) (e : Name) (ns : List ℕ) → Short14 e → (o : Option ℕ) → Blames (create_found path flags d e ns o)
     create_found_b d e ns fits None = (tt, λ a. file_with_b OfFile d e ns fits a)
-    create_found_b d e ns fits (Some n) = (tt, λ there. inr (by there))
+    create_found_b d e ns fits (Some n) = (tt, λ there. by there)
       where
-        by : (there : Bool) → Blames (if there then give_up d (open_at path flags n ns) else give_up d (tail ns (full c MemInodes)))
-        by true = give_up_b d (open_at path flags n ns) (open_at_b n ns)
-        by false = refused_b d ns (full c MemInodes) (not_full c MemInodes apart)
+        by : (there : Bool)
+            → (wanted (Up n) there ≡ Some room) ⊎ Blames (if there then give_up d (open_at path flags n ns) else give_up d
+            (tail ns (full c MemInodes)))
+        by true = inr (give_up_b d (open_at path flags n ns) (open_at_b n ns))
+        by false = no_place_b c d ns
 
     create_in_b : (d : ℕ) (e : Name) (ns : List ℕ) → Short14 e → Blames (create_in path flags d e ns)
     create_in_b d e ns fits = (tt, λ a. inr (by a.found (is_live_face a.face)))
@@ -362,17 +416,19 @@ module _ (room : Full) (apart : MemInodes ≢ room) where
         by false = lacks Blocks (unmake n d ns (full made Blocks)) (no_name_b n d ns Blocks)
 
     directory_with_b : (sort : Sort) (d : ℕ) (e : Name) (ns : List ℕ) (f : Face) → Short14 e → (a : above.ClaimResult)
-        → (wanted (Claim sort) a ≡ Some room) ⊎ Blames (mkdir_with path d e ns f a)
+        → (wanted (Claim sort) a ≡ Some room) ⊎ Goes (Claim sort) a (mkdir_with path d e ns f a) (Blames (mkdir_with path d e ns f a))
     directory_with_b sort d e ns f fits above.NoInode =
         lacks DiskInodes (give_up d (tail ns (full made DiskInodes)))
         (λ ne. refused_b d ns (full made DiskInodes) (not_full made DiskInodes ne))
-    directory_with_b sort d e ns f fits above.NoPlace = inr (refused_b d ns (full made MemInodes) (not_full made MemInodes apart))
-    directory_with_b sort d e ns f fits (above.New n) = inr (by (n == d))
+    directory_with_b sort d e ns f fits above.NoPlace = no_place_b made d ns
+    directory_with_b sort d e ns f fits (New n) = inr (by (n == d) refl)
       where
-        by : (b : Bool)
-            → Blames (if b then Do (Forget n) unmarked (λ _. give_up d (tail ns (full made MemInodes))) else mkdir_other path d e ns f n)
-        by true = (tt, λ _. inr (refused_b d ns (full made MemInodes) (not_full made MemInodes apart)))
-        by false = directory_b d e ns f fits n
+        next : Bool → P Reply
+        next b = if b then claims_own made d ns n else mkdir_other path d e ns f n
+
+        by : (b : Bool) → (n == d) ≡ b → Goes (Claim sort) (New n) (next b) (Blames (next b))
+        by true same = own_b made sort d ns n (eq_is n d same)
+        by false other = inr (directory_b d e ns f fits n)
 
     on_b : (d : ℕ) (e : Name) (ns : List ℕ) (f : Face) → Short14 e → (o : Option Cause) → Blames (mkdir_on path d e ns f o)
     on_b d e ns f fits (Some why) = refused_b d ns (failed made why) (not_failed made why)
@@ -433,8 +489,8 @@ module _ (room : Full) (apart : MemInodes ≢ room) where
     name_b n ns (e ∷ es) fits = (
       tt,
       λ _. inr (parent_b (λ why ms. lower old new n (stopped link why) ms)
-          (λ why ms. lower_b n (stopped link why) (not_stopped link why) ms) (actions.Enter new) (link_in old new n) (in_b n) new
-          ns e es fits),
+          (λ why spares ms. lower_b n (stopped link why) (not_stopped link why spares) ms) (actions.Enter new) (link_in old new n)
+          (in_b n) new ns e es fits),
     )
 
     raise_b : (n : ℕ) (ns : List ℕ) (f : Face) (o : Option Cause) → Blames (link_raise old new n ns f o)
@@ -485,11 +541,13 @@ module _ (room : Full) (apart : MemInodes ≢ room) where
             give_up_b n (give_up d (tail ns (failed gone NotEmpty))) (refused_b d ns (failed gone NotEmpty) (not_failed gone NotEmpty))
 
     other_b : (d : ℕ) (e : Name) (ns : List ℕ) (f : Face) (n : ℕ) → Blames (unlink_other path d e ns f n)
-    other_b d e ns f n = (tt, λ there. inr (by there))
+    other_b d e ns f n = (tt, λ there. by there)
       where
-        by : (b : Bool) → Blames (if b then unlink_child path d e ns f n else give_up d (tail ns (full gone MemInodes)))
-        by true = child_b d e ns f n
-        by false = refused_b d ns (full gone MemInodes) (not_full gone MemInodes apart)
+        by : (there : Bool)
+            → (wanted (Up n) there ≡ Some room) ⊎ Blames (if there then unlink_child path d e ns f n else give_up d
+            (tail ns (full gone MemInodes)))
+        by true = inr (child_b d e ns f n)
+        by false = no_place_b gone d ns
 
     gone_found_b : (d : ℕ) (e : Name) (ns : List ℕ) (f : Face) (o : Option ℕ) → Blames (unlink_found path d e ns f o)
     gone_found_b d e ns f None = refused_b d ns (failed gone NoEntry) (not_failed gone NoEntry)

@@ -1,6 +1,9 @@
 -- The calls on whole inodes are right, with the history that is their own operations.
-use Rattle.std.proofs.Common.{◌≡◌, ◌≢◌, ℕ, Option, None, List, [], ◌∷◌, ◌++◌, refl, sym, ◌∙◌, ap, subst, inl, inr}
+use Rattle.std.proofs.Common.{◌≡◌, ◌≢◌, ℕ, Option, List, [], ◌∷◌, ◌++◌, refl, sym, ◌∙◌, ap, subst, inl, inr}
 use Rattle.std.proofs.lemmas.Bool.{ne_eqb}
+use Rattle.plain_tree.specs.declared.answer.Full.{Full}
+use Rattle.plain_tree.specs.declared.answer.Reply.{Reply}
+use Rattle.plain_tree.specs.declared.call.Call.{Call}
 use Rattle.atomic_programs.specs.Prog.{Ret, Do, Did, Waits, Ran, Stops}
 use Rattle.atomic_programs.specs.Logic.{P, own, onto, oldest_first, placed_with, Good, Wp, Laws}
 use Rattle.atomic_programs.specs.Calls.{Begun, Ends, Lawful}
@@ -10,16 +13,18 @@ use Rattle.tree_moves.specs.Moves.{Step as MoveStep}
 use Rattle.inode_machine.specs.Exec.{exec}
 use Rattle.inode_machine.specs.Marks.{go, marked, places, with_mark}
 use Rattle.inode_machine.specs.Programs.{limit, program}
-use Rattle.inode_machine.specs.Rules.{Honest, Idle, May, MayWait, Others, machine, more}
+use Rattle.inode_machine.specs.Rules.{Honest, Idle, Inv, May, MayWait, Others, machine, more}
 use Rattle.inode_machine.specs.World.{Answer, Mark, Op, Outside, World}
 use Rattle.inode_machine.proofs.Calls.{laws}
 use Rattle.inodes_on_blocks.specs.Lowering.{Keeps}
 use Rattle.calls_on_blocks.specs.Theory.{served_calls}
 use Rattle.calls_on_blocks.proofs.Lawful.{served_lawful}
 use Rattle.calls_on_blocks.proofs.Operations.{keeps}
-use Rattle.run_laws.specs.WholeInodes.{IsRunOf, Operation, inode_calls, operations, told_by, unreserved, whole_inodes}
+use Rattle.run_laws.specs.WholeInodes.{IsRunOf, IsRunOfCall, Operation, inode_calls, operations, told_by, unreserved, whole_inodes}
+use Rattle.run_laws.proofs.Blamed.{IsBlamed, begun_wanted, blamed_on, ends_wanted, some_run}
 use Rattle.run_laws.proofs.Reserved.{start_same}
-use Rattle.run_laws.proofs.Running.{never_stops, some_answer}
+use Rattle.run_laws.proofs.Running.{never_stops}
+use Rattle.run_laws.proofs.WantsCalls.{call_b}
 
 pub whole_laws : Laws whole_inodes
 whole_laws =
@@ -48,57 +53,72 @@ mark_there h m a u Waits e = e
 mark_there {A} h m a u (Ran b w) e = let same : b ≡ a = ap (answer_or a) e in ap (λ (z : A). Ran b (marked h (m z) w)) (sym same) ∙ e
 mark_there h m a u (Stops w) e = e
 
--- some run of a program
-some_run : {A : Type 0} (p : P machine A) → (es : List Operation) × (r : A) × IsRunOf p es r
-some_run (Ret a) = ([], a, refl)
-some_run (Do op m k) = let x = some_run (k (some_answer op)) in (record { op = op; answer = some_answer op; mark = m (some_answer op); told = None } ∷ x.0, x.1, (some_answer op, None, refl, x.2))
-
 own_none : (g h : ℕ) (e : Operation) → g ≢ h → own g ((h, e) ∷ []) ≡ []
 own_none g h e ne = rw (ne_eqb h g (λ q. ne (sym q))) refl
 
-module _ {A : Type 0} (whole : P machine A) where
-  -- after these operations, the newest first, p is what is left of the whole
-  abbrev OnWay : P machine A → List Operation → Type 0
-  OnWay p fs = (rest : List Operation) (r : A) → IsRunOf p rest r → IsRunOf whole (onto fs rest) r
+module _ (call : Call) where
+  -- after these operations, the newest first, p is what is left of the call's program
+  record OnWay (p : P machine Reply) (fs : List Operation) : Type 0 where
+    runs : (rest : List Operation) (r : Reply) → IsRunOf p rest r → IsRunOf (program call) (onto fs rest) r
+    blamed : (room : Full) → IsBlamed room p fs
 
   abbrev RunBegun : List Operation → Type 0
-  RunBegun fs = (rest : List Operation) × (r : A) × IsRunOf whole (oldest_first fs ++ rest) r
+  RunBegun fs = (rest : List Operation) × (r : Reply) × IsRunOfCall call (oldest_first fs ++ rest) r
 
-  abbrev RunEnds : ℕ → A → List Operation → World → Type 0
-  RunEnds h r fs w = IsRunOf whole (oldest_first fs) r × Idle h w
+  abbrev RunEnds : ℕ → Reply → List Operation → World → Type 0
+  RunEnds h r fs w = IsRunOfCall call (oldest_first fs) r × Idle h w
 
-  begun_run : (p : P machine A) (fs : List Operation) → OnWay p fs → RunBegun fs
-  begun_run p fs way = let x = some_run p in (x.0, x.1, subst (λ (zs : List Operation). IsRunOf whole zs x.1) (onto_rest fs [] x.0) (way x.0 x.1 x.2))
+  begun_run : (p : P machine Reply) (fs : List Operation) → OnWay p fs → RunBegun fs
+  begun_run p fs way =
+      let x = some_run p in (
+        x.0,
+        x.1,
+        subst (λ (zs : List Operation). IsRunOfCall call zs x.1) (onto_rest fs [] x.0)
+            (record { runs = way.runs x.0 x.1 x.2; wants = λ room full. begun_wanted room p fs (way.blamed room) full }),
+      )
+
+  begins : OnWay (program call) []
+  begins = record { runs = λ rest r is. is; blamed = λ room. inr (call_b room call) }
 
   -- whatever else is shown of a program, it makes its own operations one after the other
-  follows : (h : ℕ) (B : List MoveStep → Type 0) (Q : A → List MoveStep → World → Type 0) → ((a : A) (es : List MoveStep) (w : World) → Q a es w → Idle h w)
-      → (p : P machine A) (n : ℕ) (es : List MoveStep) (w : World) (fs : List Operation) → OnWay p fs → Wp machine h B Q p n es w → Wp whole_inodes h RunBegun (RunEnds h) p n fs w
-  follows h B Q idle (Ret a) n es w fs way g = (way [] a refl, idle a es w g)
+  follows : (h : ℕ) (B : List MoveStep → Type 0) (Q : Reply → List MoveStep → World → Type 0) → ((a : Reply) (es : List MoveStep) (w : World) → Q a es w → Idle h w)
+      → (p : P machine Reply) (n : ℕ) (es : List MoveStep) (w : World) (fs : List Operation) → OnWay p fs → Wp machine h B Q p n es w → Wp whole_inodes h RunBegun (RunEnds h) p n fs w
+  follows h B Q idle (Ret a) n es w fs way g =
+      (record { runs = way.runs [] a refl; wants = λ room full. ends_wanted room fs a (way.blamed room) full }, idle a es w g)
   follows h B Q idle (Do op m k) n es w fs way g =
       λ v xs o i. let q = g v [] o.1 i in (
         λ y. inl o.0,
         q.1,
         λ x t. subst (λ (zs : List Operation). Good whole_inodes (Answer op) h (placed_with whole_inodes h op m v) (more op) n RunBegun (onto zs fs) v (MayWait h op v) (go h x op m v) (λ l a u. Wp whole_inodes h RunBegun (RunEnds h) (k a) l (onto (own h ((h, did h v op m a) ∷ [])) (onto zs fs)) u)) (sym o.0)
-            (made v x q.1 t (λ a l gs u then_. follows h B Q idle (k a) l gs u (did h v op m a ∷ fs) (λ rest r is. way (did h v op m a ∷ rest) r (a, told_by h (m a) v, refl, is)) then_) (go h x op m v) refl (q.2 x t)),
+            (made v x q.1 t (λ a l gs u on then_. follows h B Q idle (k a) l gs u (did h v op m a ∷ fs) on then_) (go h x op m v) refl (q.2 x t)),
         q.3,
       )
     where
+      on : (v : World) (a : Answer op) (l : ℕ) (gs : List MoveStep) (u : World) → Inv u → Wp machine h B Q (k a) l gs u → OnWay (k a) (did h v op m a ∷ fs)
+      on v a l gs u inv then_ =
+          record {
+            runs = λ rest r is. way.runs (did h v op m a ∷ rest) r (a, told_by h (m a) v, refl, is);
+            blamed = λ room. blamed_on room h B Q fs (did h v op m a) m k l gs u (way.blamed room) inv then_;
+          }
+
       made : (v : World) (x : Outside) → May h op v → Honest h op v x
-          → ((a : Answer op) (l : ℕ) (gs : List MoveStep) (u : World) → Wp machine h B Q (k a) l gs u → Wp whole_inodes h RunBegun (RunEnds h) (k a) l (did h v op m a ∷ fs) u)
+          → ((a : Answer op) (l : ℕ) (gs : List MoveStep) (u : World) → OnWay (k a) (did h v op m a ∷ fs) → Wp machine h B Q (k a) l gs u
+          → Wp whole_inodes h RunBegun (RunEnds h) (k a) l (did h v op m a ∷ fs) u)
           → (d : Did (Answer op) World) → go h x op m v ≡ d
           → Good machine (Answer op) h (placed_with machine h op m v) (more op) n B es v (MayWait h op v) d (λ l a u. Wp machine h B Q (k a) l (onto (own h (places h op a (m a) v)) es) u)
           → Good whole_inodes (Answer op) h (placed_with whole_inodes h op m v) (more op) n RunBegun fs v (MayWait h op v) d (λ l a u. Wp whole_inodes h RunBegun (RunEnds h) (k a) l (onto (own h ((h, did h v op m a) ∷ [])) fs) u)
       made v x allowed said next Waits is f = f
       made v x allowed said next (Ran a u) is f =
+          let later = on v a f.left (onto (own h (places h op a (m a) v)) es) u f.inv f.next in
           record {
             inv = f.inv;
             kept = λ other ne. (own_none other h (did h v op m a) ne, subst (λ (zs : List MoveStep). Others other v zs u) (f.kept other ne).none (f.kept other ne));
             goes = λ y. (unreserved u, record { before = v; after = u; outside = x; from = refl; to = refl; may = allowed; honest = said; goes = mark_there h m a u (exec h x op v) is; tells = refl }, refl);
             clean = λ y. tt;
-            begun = λ y. inr (subst (λ (zs : List Operation). RunBegun (onto zs fs)) (sym (own_one {A = Operation} h (did h v op m a))) (begun_run (k a) (did h v op m a ∷ fs) (λ rest r run. way (did h v op m a ∷ rest) r (a, told_by h (m a) v, refl, run))));
+            begun = λ y. inr (subst (λ (zs : List Operation). RunBegun (onto zs fs)) (sym (own_one {A = Operation} h (did h v op m a))) (begun_run (k a) (did h v op m a ∷ fs) later));
             left = f.left;
             falls = f.falls;
-            next = subst (λ (zs : List Operation). Wp whole_inodes h RunBegun (RunEnds h) (k a) f.left (onto zs fs) u) (sym (own_one {A = Operation} h (did h v op m a))) (next a f.left (onto (own h (places h op a (m a) v)) es) u f.next);
+            next = subst (λ (zs : List Operation). Wp whole_inodes h RunBegun (RunEnds h) (k a) f.left (onto zs fs) u) (sym (own_one {A = Operation} h (did h v op m a))) (next a f.left (onto (own h (places h op a (m a) v)) es) u later f.next);
           }
       made v x allowed said next (Stops u) is f = absurd (never_stops h x op m v u is)
 
@@ -108,7 +128,6 @@ whole_lawful =
       laws = whole_laws;
       calls = λ h call busy w u holds idle free e.
           let r = served_lawful.calls h call busy w u holds idle free e in
-          let x = some_run (program call) in
           record {
             inv = r.inv;
             halted = r.halted;
@@ -116,10 +135,10 @@ whole_lawful =
             rests = r.rests;
             tree = start_same h call busy w u (idle h free) e;
             clean = λ y. y;
-            none = λ y. (x.0, x.1, x.2);
+            none = λ y. begun_run call (program call) [] (begins call);
             runs = λ i.
-                Wp-weaker whole_inodes h (program call) (RunBegun (program call)) (Begun inode_calls call) (RunEnds (program call) h) (Ends inode_calls h call) (limit call) [] u
+                Wp-weaker whole_inodes h (program call) (RunBegun call) (Begun inode_calls call) (RunEnds call h) (Ends inode_calls h call) (limit call) [] u
                 (λ fs b. b) (λ a fs v e. (λ y. e.0, e.1))
-                (follows (program call) h (Begun served_calls call) (Ends served_calls h call) (λ a es v e. e.1) (program call) (limit call) [] u [] (λ rest r is. is) (r.runs i));
+                (follows call h (Begun served_calls call) (Ends served_calls h call) (λ a es v e. e.1) (program call) (limit call) [] u [] (begins call) (r.runs i));
           };
     }

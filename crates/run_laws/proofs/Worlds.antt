@@ -27,9 +27,8 @@ use Rattle.plain_tree.specs.declared.answer.Reply.{Reply}
 use Rattle.plain_tree.specs.declared.trace.TracedCall.{TracedCall}
 use Rattle.plain_tree.specs.Explains.{Shown, trace_of}
 use Rattle.atomic_programs.specs.Explained.{In}
-use Rattle.inode_machine.specs.Programs.{program}
 use Rattle.hart_core.proofs.Histories.{all_honest}
-use Rattle.run_laws.specs.WholeInodes.{IsRunOf, lowered_inode_calls}
+use Rattle.run_laws.specs.WholeInodes.{IsRunOfCall, lowered_inode_calls}
 use Rattle.run_laws.proofs.Shown.{shown_same}
 use Rattle.run_laws.proofs.Traced.{Matched, Matches, all_shown_by, traced_matches}
 
@@ -71,9 +70,9 @@ module _ {D : Type 0} (contents : D → List (List ℕ)) (failures : D → ℕ) 
 
     runs_to : (c : TracedCall) (o : Option (ℕ × Reply)) → Matched (sizes_of disk) s c o → RunsTo c.call (operations_of (sizes_of disk) s c.start) o
     runs_to c (Some r) m =
-        subst (IsRunOf (program c.call) (operations_of (sizes_of disk) s c.start)) m.4
-        (subst (λ (z : ℕ). IsRunOf (program c.call) (operations_of (sizes_of disk) s z) m.0.reply) m.3
-        (subst (λ (z : Call). IsRunOf (program z) (operations_of (sizes_of disk) s m.0.start) m.0.reply) m.2 (history_refines.runs.whole m.0 m.1)))
+        subst (IsRunOfCall c.call (operations_of (sizes_of disk) s c.start)) m.4
+        (subst (λ (z : ℕ). IsRunOfCall c.call (operations_of (sizes_of disk) s z) m.0.reply) m.3
+        (subst (λ (z : Call). IsRunOfCall z (operations_of (sizes_of disk) s m.0.start) m.0.reply) m.2 (history_refines.runs.whole m.0 m.1)))
     runs_to c None m =
         subst (λ (z : ℕ). BeginsRun c.call (operations_of (sizes_of disk) s z)) m.3
         (subst (λ (z : Call). BeginsRun z (operations_of (sizes_of disk) s m.0.start)) m.2 (history_refines.runs.begun c.hart m.0 m.1))

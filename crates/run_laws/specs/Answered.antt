@@ -1,11 +1,10 @@
 -- What a call is answered that there is none of, one of its operations has not found, where there was none.
-use Rattle.std.specs.Prelude.{◌≡◌, ◌≢◌, ℕ, List, ◌∷◌, ◌++◌, Some}
+use Rattle.std.specs.Prelude.{◌≡◌, ℕ, List, ◌∷◌, ◌++◌, Some}
 use Rattle.std.specs.List.{All}
 use Rattle.fs_layout.specs.declared.superblock.Super.{Super}
 use Rattle.fs_layout.specs.Recovered.{sizes_of}
 use Rattle.plain_tree.specs.declared.answer.Answer.TheVariants as answers
 use Rattle.plain_tree.specs.declared.answer.Full.{Full}
-use Rattle.plain_tree.specs.declared.answer.Full.TheVariants.{MemInodes}
 use Rattle.plain_tree.specs.declared.answer.Reply.{Reply}
 use Rattle.plain_tree.specs.declared.call.Call.{Call}
 use Rattle.plain_tree.specs.declared.trace.TracedCall.{TracedCall}
@@ -21,7 +20,8 @@ use Rattle.hart_core.specs.Harts.{HartsOf}
 use Rattle.hart_core.specs.Runs.{IsHistory, IsMounted, trace_in}
 use Rattle.hart_core.specs.Worlds.{WorldOf}
 use Rattle.run_laws.specs.Laws.{operations_made}
-use Rattle.run_laws.specs.Wants.{HasNone, wanted}
+use Rattle.run_laws.specs.Wanted.{wanted}
+use Rattle.run_laws.specs.Wants.{HasNone}
 use Rattle.run_laws.specs.WholeInodes.{lowered_inode_calls}
 
 -- The call that started at this event has made an operation that wanted this room, in a world that has none: the operations before it lead
@@ -41,10 +41,10 @@ module _ (disk : List (List ℕ)) (failures : ℕ) (history : List (EventOf Call
   abbrev inodes : Theory
   inodes = lowered_inode_calls (sizes_of disk)
 
-  -- So has a call of a trace, where it is answered that there is no room but for an inode in memory.
+  -- So has a call of a trace, where it is answered that there is no room.
   abbrev pub IsAnsweredRightly : TracedCall → Type 0
   IsAnsweredRightly c =
-      (number : ℕ) (reply : Reply) (room : Full) → c.finished ≡ Some (number, reply) → reply.answer ≡ answers.Full room → room ≢ MemInodes
+      (number : ℕ) (reply : Reply) (room : Full) → c.finished ≡ Some (number, reply) → reply.answer ≡ answers.Full room
       → FoundNone (sizes_of disk) (run inodes history (fresh inodes (first disk failures))) (first_world disk) c.start room
 
 module _ {D : Type 0} (contents : D → List (List ℕ)) (failures : D → ℕ) where

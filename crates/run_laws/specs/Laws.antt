@@ -8,17 +8,16 @@ use Rattle.atomic_programs.specs.Calls.{Theory, AllHonest, Event as EventOf, Fin
 use Rattle.atomic_programs.specs.Explained.{Chain, In, IsOfCall, IsRising, history, steps_of}
 use Rattle.atomic_programs.specs.Joined.{Both}
 use Rattle.fs_machine.specs.LogPart.{Outside}
-use Rattle.inode_machine.specs.Programs.{program}
 use Rattle.inode_machine.specs.World as above
 use Rattle.inodes_on_blocks.specs.Mounted.{IsMountable, first_world}
 use Rattle.calls_on_blocks.specs.History.{first}
 use Rattle.calls_on_blocks.specs.Layer.{World, layer}
 use Rattle.calls_on_blocks.specs.Theory.{block_calls}
-use Rattle.run_laws.specs.WholeInodes.{IsRunOf, Operation, lowered_inode_calls, unreserved}
+use Rattle.run_laws.specs.WholeInodes.{IsRunOfCall, Operation, lowered_inode_calls, unreserved}
 
 -- these operations begin a run of the call's program
 abbrev pub BeginsRun : Call → List Operation → Type 0
-BeginsRun call es = (rest : List Operation) × (reply : Reply) × IsRunOf (program call) (es ++ rest) reply
+BeginsRun call es = (rest : List Operation) × (reply : Reply) × IsRunOfCall call (es ++ rest) reply
 
 module _ (sizes : Super) (s : State (lowered_inode_calls sizes)) where
   abbrev L : Theory
@@ -39,8 +38,9 @@ module _ (sizes : Super) (s : State (lowered_inode_calls sizes)) where
     pub leads : Chain L base operations_made (unreserved s.world.seen)
     pub rises : IsRising L 0 operations_made
     pub shown : s.stopped ≡ false → (layer sizes).Shows s.world.real s.world.seen
-    -- a finished call's are a run of its program, which ends with the reply that was given; those of a call under way begin one
-    pub whole : (f : FinishedCall L) → In f s.finished → IsRunOf (program f.call) (operations_of f.start) f.reply
+    -- a finished call's are a run of its program, which ends with the reply that was given; those of a call under way begin one. Where
+    -- the reply is that there is no room, one of them wanted it.
+    pub whole : (f : FinishedCall L) → In f s.finished → IsRunOfCall f.call (operations_of f.start) f.reply
     pub begun : (h : ℕ) (r : Run L) → s.running h ≡ Some r → BeginsRun r.call (operations_of r.start)
     -- each is of a call, and is made between the call's start and its return, or the last event
     pub owned : (e : PlacedStep L) → In e operations_made → IsOfCall L s e

@@ -18,7 +18,7 @@ use Rattle.inode_machine.specs.World as above
 use Rattle.inode_machine.specs.World.Op.{Enter}
 use Rattle.inodes_on_blocks.specs.Lowering.{Carry}
 use Rattle.inodes_on_blocks.specs.Programs.{handlers}
-use Rattle.run_laws.specs.Wants.{wanted}
+use Rattle.run_laws.specs.Wanted.{wanted}
 
 -- an operation on the blocks with its answer
 abbrev pub AnsweredStep : Type 0

@@ -1,8 +1,13 @@
 -- The calls on blocks as calls of the machine of whole inodes: what explains each is the operations on whole inodes that it ran.
 use Rattle.std.specs.Prelude.{◌≡◌, ℕ, nat_lt, if◌then◌else◌, List, [], ◌∷◌, Option, Some, None}
 use Rattle.fs_layout.specs.declared.superblock.Super.{Super}
+use Rattle.plain_tree.specs.declared.answer.Answer.TheVariants as answers
+use Rattle.plain_tree.specs.declared.answer.Full.{Full}
+use Rattle.plain_tree.specs.declared.answer.Reply.{Reply}
+use Rattle.plain_tree.specs.declared.call.Call.{Call}
 use Rattle.plain_tree.specs.Widths.{descriptor_count}
 use Rattle.atomic_programs.specs.Calls.{Theory}
+use Rattle.atomic_programs.specs.Explained.{In}
 use Rattle.atomic_programs.specs.Logic.{Machine}
 use Rattle.atomic_programs.specs.Lowered.{lowered_calls}
 use Rattle.atomic_programs.specs.Prog.{Ret, Do, Ran}
@@ -18,6 +23,7 @@ use Rattle.inodes_on_blocks.specs.Lowering.{Labels, labelled}
 use Rattle.inodes_on_blocks.specs.Programs.{handlers}
 use Rattle.calls_on_blocks.specs.Layer.{layer}
 use Rattle.calls_on_blocks.specs.Theory.{begins, served_calls}
+use Rattle.run_laws.specs.Wanted.{wanted}
 
 -- ---- the machine of whole inodes
 
@@ -70,6 +76,16 @@ IsRunOf (Do op m k) [] r = ⊥
 IsRunOf (Do op m k) (e ∷ es) r =
     (a : Answer op) × (told : Option Deed) × (e ≡ record { op = op; answer = a; mark = m a; told = told }) × IsRunOf (k a) es r
 
+-- some of these operations wanted this room, and didn't find it
+abbrev pub HasWanted : List Operation → Full → Type 0
+HasWanted es room = (e : Operation) × In e es × (wanted e.op e.answer ≡ Some room)
+
+-- A whole call's operations: they are a run of its program, which ends with this reply; and where that is that there is no room, one of
+-- them wanted it.
+pub record IsRunOfCall (call : Call) (es : List Operation) (reply : Reply) : Type 0 where
+  pub runs : IsRunOf (program call) es reply
+  pub wants : (room : Full) → reply.answer ≡ answers.Full room → HasWanted es room
+
 -- the history that is the operations themselves, from world to world
 abbrev pub operations : Labels
 operations = record {
@@ -87,9 +103,9 @@ whole_inodes = labelled operations
 
 -- ---- its calls
 
--- the operations of a whole call are a run of its program, which ends with its reply
+-- explained by the operations on whole inodes
 abbrev pub inode_calls : Theory
-inode_calls = record served_calls { M = whole_inodes; Written = λ call es reply. IsRunOf (program call) es reply }
+inode_calls = record served_calls { M = whole_inodes; Written = IsRunOfCall }
 
 -- the same calls, run on the blocks
 abbrev pub lowered_inode_calls : Super → Theory

@@ -7,7 +7,6 @@ use Rattle.plain_tree.specs.declared.call.Call.{Call}
 use Rattle.plain_tree.specs.declared.trace.TracedCall.{TracedCall}
 use Rattle.atomic_programs.specs.Calls.{Theory, Event as EventOf, fresh, run}
 use Rattle.fs_machine.specs.LogPart.{Outside}
-use Rattle.inode_machine.specs.Programs.{program}
 use Rattle.calls_on_blocks.specs.History.{first}
 use Rattle.hart_core.specs.declared.events.Came.{Came}
 use Rattle.hart_core.specs.declared.events.Event.{Event}
@@ -15,11 +14,12 @@ use Rattle.hart_core.specs.Harts.{HartsOf}
 use Rattle.hart_core.specs.Runs.{IsHistory, IsMounted, trace_in}
 use Rattle.hart_core.specs.Worlds.{WorldOf}
 use Rattle.run_laws.specs.Laws.{BeginsRun, RefinesWholeInodes, operations_of}
-use Rattle.run_laws.specs.WholeInodes.{IsRunOf, Operation, lowered_inode_calls}
+use Rattle.run_laws.specs.WholeInodes.{IsRunOfCall, Operation, lowered_inode_calls}
 
--- these operations are a run of the call's program, which ends with this reply; or begin one, where it has none yet
+-- these operations are a run of the call's program, which ends with this reply, and one of them wanted what that says there is none of; or
+-- they begin one, where it has none yet
 abbrev pub RunsTo : Call → List Operation → Option (ℕ × Reply) → Type 0
-RunsTo call es (Some r) = IsRunOf (program call) es r.1
+RunsTo call es (Some r) = IsRunOfCall call es r.1
 RunsTo call es None = BeginsRun call es
 
 module _ (disk : List (List ℕ)) (failures : ℕ) (history : List (EventOf Call Outside)) where

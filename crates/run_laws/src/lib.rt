@@ -17,8 +17,8 @@ use hart_core::World;
 
 /// Of every list of events of any harts on a mounted disk, with a device that fails at any moment or never: whole operations on inodes,
 /// one after the other, lead from the image's tree to what the blocks show; each finished call's own are a run of its program, with the
-/// reply that was given, and are made between the call's start and its return. It is so also where paths climb, and after a step found
-/// no room.
+/// reply that was given, and are made between the call's start and its return; and where that reply is that there is no room, one of
+/// them wanted it. It is so also where paths climb, and after a step found no room.
 pub fn runs_refine_whole_inodes()
     ensures { RunsRefineWholeInodes }
 {}
@@ -48,8 +48,8 @@ pub fn no_room_only_where_there_is_none<D: Device>(world: &World<D>)
     let _ = world;
 }
 
-/// So a call is answered that there is no open file, no descriptor or no slot of a directory only where one of its operations wanted that,
-/// in a world that has none.
+/// So a call is answered that there is no place in memory, no open file, no descriptor or no slot of a directory only where one of its
+/// operations wanted that, in a world that has none.
 pub fn calls_find_none_where_there_is_none<D: Device>(world: &World<D>)
     ensures { CallsFindNoneWhereThereIsNone D.contents D.failures world.now }
 {
