@@ -1,5 +1,6 @@
 //! The content of a file.
 ghost use Rattle.std.specs.Prelude.{◌≡◌, ◌≢◌, ◌<◌, ◌≤◌, ◌++◌, ℕ, List, length, IfOk, IfErr, OnOk, All};
+ghost use Rattle.block_device.specs.Calls.{ComesByCalls};
 ghost use Rattle.fs_layout.specs.Recovered.{sizes_of};
 ghost use Rattle.image_tree.specs.Inodes.{content_of, numbers_of};
 ghost use Rattle.image_tree.specs.Checks.{IsData};
@@ -36,6 +37,7 @@ pub fn load_content<D: Device>(
     ensures content { IfOk result (λ bytes. bytes.items ≡ content_of (D.contents device.old) inode.now) }
     ensures err { IfErr result (JudgesFault (D.contents device.old)) }
     ensures device { OnlyReads D.contents D.failures (faults_with result) device.old device.new }
+    ensures calls { ComesByCalls D.Called device.old device.new }
 {
     let mut bytes = Vec::new(alloc);
     let mut block = [0; BLOCK_LEN];

@@ -1,6 +1,7 @@
 //! That counts are how often nodes are named.
 ghost use Rattle.std.specs.Prelude.{◌≡◌, ◌+◌, ◌<◌, ◌≤◌, ◌↔◌, ℕ, true, min, IfOk, IsTrue};
 ghost use Rattle.block_device.specs.Blocks.{faults_after};
+ghost use Rattle.block_device.specs.Calls.{ComesByCalls};
 ghost use Rattle.image_tree.specs.Inodes.{inode_of, is_node};
 ghost use Rattle.image_tree.specs.Links.{children_of, further_names_of, names_of};
 ghost use Rattle.image_tree.specs.Checks.{HasGoodCounts, IsGoodCount};
@@ -43,6 +44,7 @@ fn has_good_count<D: Device>(
     ensures good { IfOk result (λ good. IsTrue good
         ↔ (is_node (D.contents device.old) i ≡ true → IsGoodCount (inode_of (D.contents device.old) i) (names_of (D.contents device.old) i) (further_names_of (D.contents device.old) i) (children_of (D.contents device.old) i))) }
     ensures device { OnlyReads D.contents D.failures (faults_after result) device.old device.new }
+    ensures calls { ComesByCalls D.Called device.old device.new }
 {
     let inode = load_inode(device, layout, i)?;
     if is_free(&inode) {
@@ -67,6 +69,7 @@ pub fn has_good_counts<D: Device>(
     requires links { IsLinks (D.contents device.old) links.now }
     ensures good { IfOk result (λ good. IsTrue good ↔ HasGoodCounts (D.contents device.old)) }
     ensures device { OnlyReads D.contents D.failures (faults_after result) device.old device.new }
+    ensures calls { ComesByCalls D.Called device.old device.new }
 {
     for i in 1..layout.sizes.ninodes {
         let good = has_good_count(device, layout, links, i)?;

@@ -1,6 +1,7 @@
 //! A disk, seen as recovery would leave it.
 ghost use Rattle.std.specs.Prelude.{◌≡◌, ◌+◌, ◌<◌, ◌≤◌, ◌^◌, ◌==◌, length, position, OnOk, IfOk, IfSome};
 ghost use Rattle.block_device.specs.Blocks.{faults_after};
+ghost use Rattle.block_device.specs.Calls.{ComesByCalls};
 ghost use Rattle.fs_layout.specs.Recovered.{place_of, recovered};
 ghost use Rattle.image_tree.specs.Inodes.{inode_of};
 ghost use Rattle.image_tree.specs.Layout.{IsLayout};
@@ -40,6 +41,7 @@ pub fn load<D: Device>(device: &mut D, layout: &Layout, b: u32, to: &mut Block) 
     requires bound { b < length (D.contents device.old) }
     ensures read { OnOk result (to.new ≡ recovered (D.contents device.old) b) }
     ensures device { OnlyReads D.contents D.failures (faults_after result) device.old device.new }
+    ensures calls { ComesByCalls D.Called device.old device.new }
 {
     let place = place_in(layout.sizes.logstart, layout.head.blocks.as_slice(), b);
     device.read(place, to)
@@ -51,6 +53,7 @@ pub fn load_inode<D: Device>(device: &mut D, layout: &Layout, i: u32) -> Result<
     requires bound { i < layout.now.sizes.ninodes }
     ensures inode { IfOk result (λ d. d ≡ inode_of (D.contents device.old) i) }
     ensures device { OnlyReads D.contents D.failures (faults_after result) device.old device.new }
+    ensures calls { ComesByCalls D.Called device.old device.new }
 {
     let mut block = [0; BLOCK_LEN];
     load(

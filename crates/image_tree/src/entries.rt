@@ -2,6 +2,7 @@
 ghost use Rattle.std.specs.Prelude.{◌≡◌, ◌≢◌, ◌+◌, ◌<◌, ◌≤◌, ◌↔◌, ℕ, Bool, true, false, List, length, slice_index_or, IfOk, IfErr, Option, Some, None, IsTrue};
 ghost use Rattle.std.specs.List.{All};
 ghost use Rattle.std.specs.Option.{option_to_list};
+ghost use Rattle.block_device.specs.Calls.{ComesByCalls};
 ghost use Rattle.fs_layout.specs.declared.entry.Dirent.TheVariants.{Used};
 ghost use Rattle.image_tree.specs.Inodes.{is_live_directory, is_node};
 ghost use Rattle.image_tree.specs.Links.{slot_number, slot_numbers, slots_in};
@@ -124,6 +125,7 @@ fn node_table<D: Device>(
     ensures table { IfOk result (λ nodes. IsNodeTable (D.contents device.old) nodes.items) }
     ensures err { IfErr result (JudgesFault (D.contents device.old)) }
     ensures device { OnlyReads D.contents D.failures (faults_with result) device.old device.new }
+    ensures calls { ComesByCalls D.Called device.old device.new }
 {
     let mut nodes = Vec::new(alloc);
     push(&mut nodes, false)?;
@@ -145,6 +147,7 @@ pub fn has_good_slots<D: Device>(
     ensures good { IfOk result (λ good. IsTrue good ↔ HasGoodSlots (D.contents device.old)) }
     ensures err { IfErr result (JudgesFault (D.contents device.old)) }
     ensures device { OnlyReads D.contents D.failures (faults_with result) device.old device.new }
+    ensures calls { ComesByCalls D.Called device.old device.new }
 {
     let nodes = node_table(alloc, device, layout)?;
     for i in 1..layout.sizes.ninodes {
@@ -173,6 +176,7 @@ fn has_good_slots_at<D: Device>(
         ↔ (is_live_directory (D.contents device.old) i ≡ true → AreGoodSlots (is_node (D.contents device.old)) i (slots_in (D.contents device.old) i))) }
     ensures err { IfErr result (JudgesFault (D.contents device.old)) }
     ensures device { OnlyReads D.contents D.failures (faults_with result) device.old device.new }
+    ensures calls { ComesByCalls D.Called device.old device.new }
 {
     let inode = load_inode(device, layout, i)?;
     if !is_live_directory(&inode) {

@@ -1,5 +1,6 @@
 //! The examination of an image.
 ghost use Rattle.std.specs.Prelude.{◌≡◌, List, ℕ};
+ghost use Rattle.block_device.specs.Calls.{ComesByCalls};
 ghost use Rattle.image_tree.specs.Damage.{IsWellFormed, JudgesWith, UpToOnce, UpToSlots, faults_with};
 ghost use Rattle.image_tree.specs.Layout.{IsLayout};
 ghost use Rattle.image_tree.specs.Shape.{shape_of};
@@ -25,6 +26,7 @@ use std::alloc::Global;
 fn examine_blocks<D: Device>(alloc: Global, device: &mut D) -> Result<Layout, MountFault>
     ensures judges { JudgesWith (λ layout. IsLayout (D.contents device.old) layout × UpToOnce (D.contents device.old)) (D.contents device.old) result }
     ensures device { OnlyReads D.contents D.failures (faults_with result) device.old device.new }
+    ensures calls { ComesByCalls D.Called device.old device.new }
 {
     let layout = find_layout(device)?;
     if !has_good_types(device, &layout)? {
@@ -46,6 +48,7 @@ fn examine_blocks<D: Device>(alloc: Global, device: &mut D) -> Result<Layout, Mo
 fn examine_slots<D: Device>(alloc: Global, device: &mut D) -> Result<Layout, MountFault>
     ensures judges { JudgesWith (λ layout. IsLayout (D.contents device.old) layout × UpToSlots (D.contents device.old)) (D.contents device.old) result }
     ensures device { OnlyReads D.contents D.failures (faults_with result) device.old device.new }
+    ensures calls { ComesByCalls D.Called device.old device.new }
 {
     let layout = examine_blocks(alloc, device)?;
     if !has_marks(device, &layout)? {
@@ -64,6 +67,7 @@ fn examine_slots<D: Device>(alloc: Global, device: &mut D) -> Result<Layout, Mou
 pub fn examine_layout<D: Device>(alloc: Global, device: &mut D) -> Result<Layout, MountFault>
     ensures judges { JudgesWith (λ layout. IsLayout (D.contents device.old) layout × IsWellFormed (D.contents device.old)) (D.contents device.old) result }
     ensures device { OnlyReads D.contents D.failures (faults_with result) device.old device.new }
+    ensures calls { ComesByCalls D.Called device.old device.new }
 {
     let layout = examine_slots(alloc, device)?;
     let links = find_links(alloc, device, &layout)?;
@@ -81,6 +85,7 @@ pub fn examine_layout<D: Device>(alloc: Global, device: &mut D) -> Result<Layout
 pub fn examine<D: Device>(alloc: Global, device: &mut D) -> Result<Shape, MountFault>
     ensures judges { JudgesWith (λ shape. IsWellFormed (D.contents device.old) × (shape ≡ shape_of (D.contents device.old))) (D.contents device.old) result }
     ensures device { OnlyReads D.contents D.failures (faults_with result) device.old device.new }
+    ensures calls { ComesByCalls D.Called device.old device.new }
 {
     let layout = examine_layout(alloc, device)?;
     let shape = find_shape(device, &layout)?;

@@ -1,5 +1,6 @@
 //! The superblock and the log's head.
 ghost use Rattle.std.specs.Prelude.{◌≡◌, ◌≢◌, ◌<◌, ◌≤◌, ◌↔◌, length, All, Err, IsFalse, IsTrue};
+ghost use Rattle.block_device.specs.Calls.{ComesByCalls};
 ghost use Rattle.image_tree.specs.Checks.{IsGoodSuper, HasSuper, HasGoodLog};
 ghost use Rattle.fs_layout.specs.Recovered.{sizes_of, logged};
 ghost use Rattle.image_tree.specs.Damage.{JudgesWith, UpToShort, UpToSize, faults_with};
@@ -35,6 +36,7 @@ fn find_super<D: Device>(device: &mut D) -> Result<Super, MountFault>
     ensures judges { JudgesWith (λ s. (s ≡ sizes_of (D.contents device.old)) × HasSuper (D.contents device.old)) (D.contents device.old) result }
     ensures memory { result ≢ Err MountFault.NoMemory }
     ensures device { OnlyReads D.contents D.failures (faults_with result) device.old device.new }
+    ensures calls { ComesByCalls D.Called device.old device.new }
 {
     let mut block = [0; BLOCK_LEN];
     device.read(SUPER_BLOCK, &mut block)?;
@@ -75,6 +77,7 @@ fn find_log<D: Device>(device: &mut D, sizes: &Super) -> Result<LogHead, MountFa
     ensures judges { JudgesWith (λ head. (head.blocks.items ≡ logged (D.contents device.old)) × HasGoodLog (D.contents device.old)) (D.contents device.old) result }
     ensures memory { result ≢ Err MountFault.NoMemory }
     ensures device { OnlyReads D.contents D.failures (faults_with result) device.old device.new }
+    ensures calls { ComesByCalls D.Called device.old device.new }
 {
     let mut block = [0; BLOCK_LEN];
     device.read(sizes.logstart, &mut block)?;
@@ -99,6 +102,7 @@ pub fn find_layout<D: Device>(device: &mut D) -> Result<Layout, MountFault>
     ensures judges { JudgesWith (IsLayout (D.contents device.old)) (D.contents device.old) result }
     ensures memory { result ≢ Err MountFault.NoMemory }
     ensures device { OnlyReads D.contents D.failures (faults_with result) device.old device.new }
+    ensures calls { ComesByCalls D.Called device.old device.new }
 {
     let blocks = device.blocks();
     if blocks <= SUPER_BLOCK {

@@ -1,5 +1,5 @@
 //! The examination of an image: what damage it has, and which tree it holds.
-#![tactic(auto)]
+#![tactic(auto, using(block_device::specs::CallLaws::by_calls))]
 
 mod content;
 mod counts;

@@ -1,5 +1,6 @@
 //! Who names whom, as tables by inode number.
 ghost use Rattle.std.specs.Prelude.{◌≡◌, ◌≢◌, ◌+◌, ◌-◌, ◌<◌, ◌≤◌, ◌++◌, ◌∷◌, [], ◌==◌, not, ℕ, List, length, filter, slice_index, slice_index_or, None, IfOk, IfErr, OnOk};
+ghost use Rattle.block_device.specs.Calls.{ComesByCalls};
 ghost use Rattle.image_tree.specs.Inodes.{last};
 ghost use Rattle.image_tree.specs.Links.{further_in, named_in, number_in, proper_in, up};
 ghost use Rattle.image_tree.specs.Lists.{gathered};
@@ -56,6 +57,7 @@ fn find_ups<D: Device>(
     ensures table { IfOk result (λ ups. IsUpTable (D.contents device.old) ups.items) }
     ensures err { IfErr result (JudgesFault (D.contents device.old)) }
     ensures device { OnlyReads D.contents D.failures (faults_with result) device.old device.new }
+    ensures calls { ComesByCalls D.Called device.old device.new }
 {
     let mut ups = Vec::new(alloc);
     push(&mut ups, 0)?;
@@ -87,6 +89,7 @@ fn count_names<D: Device>(
     ensures proper { OnOk result (Tallies proper.new (gathered (proper_in (D.contents device.old)) (last (D.contents device.old)))) }
     ensures err { IfErr result (JudgesFault (D.contents device.old)) }
     ensures device { OnlyReads D.contents D.failures (faults_with result) device.old device.new }
+    ensures calls { ComesByCalls D.Called device.old device.new }
 {
     for i in 1..layout.sizes.ninodes {
         let slots = slots_at(alloc, device, layout, i)?;
@@ -136,6 +139,7 @@ pub fn find_links<D: Device>(
     ensures links { IfOk result (IsLinks (D.contents device.old)) }
     ensures err { IfErr result (JudgesFault (D.contents device.old)) }
     ensures device { OnlyReads D.contents D.failures (faults_with result) device.old device.new }
+    ensures calls { ComesByCalls D.Called device.old device.new }
 {
     let ups = find_ups(alloc, device, layout)?;
     let mut names = zeros(alloc, layout.sizes.ninodes)?;

@@ -1,6 +1,7 @@
 //! That the bitmap shows the blocks in use as used.
 ghost use Rattle.std.specs.Prelude.{◌≡◌, ◌≢◌, ◌<◌, ◌≤◌, ◌↔◌, ℕ, Bool, true, length, IfOk, All, IsTrue};
 ghost use Rattle.block_device.specs.Blocks.{faults_after};
+ghost use Rattle.block_device.specs.Calls.{ComesByCalls};
 ghost use Rattle.fs_layout.specs.Bits.{bit_of};
 ghost use Rattle.image_tree.specs.Checks.{HasGoodNumbers, HasMarks};
 ghost use Rattle.image_tree.specs.Layout.{IsLayout};
@@ -42,6 +43,7 @@ pub fn has_marks<D: Device>(device: &mut D, layout: &Layout) -> Result<bool, Fau
     requires numbers { HasGoodNumbers (D.contents device.old) }
     ensures marked { IfOk result (λ marked. IsTrue marked ↔ HasMarks (D.contents device.old)) }
     ensures device { OnlyReads D.contents D.failures (faults_after result) device.old device.new }
+    ensures calls { ComesByCalls D.Called device.old device.new }
 {
     let mut bitmap = [0; BLOCK_LEN];
     load(device, layout, layout.sizes.bmapstart, &mut bitmap)?;

@@ -1,6 +1,7 @@
 //! The block numbers that inodes name.
 ghost use Rattle.std.specs.Prelude.{◌≡◌, ◌≢◌, ◌<◌, ◌≤◌, ◌++◌, ◌+◌, ◌∷◌, ◌↔◌, [], ℕ, Bool, List, length, filter, slice_index, IfOk, IfErr, All, IsTrue};
 ghost use Rattle.block_device.specs.Blocks.{faults_after};
+ghost use Rattle.block_device.specs.Calls.{ComesByCalls};
 ghost use Rattle.image_tree.specs.Checks.{IsData, HasGoodNumbers, NamesOnce};
 ghost use Rattle.image_tree.specs.Inodes.{numbers_of, numbers_by, is_block};
 ghost use Rattle.fs_layout.specs.Recovered.{sizes_of};
@@ -47,6 +48,7 @@ pub fn load_numbers<D: Device>(
     requires bound { slice_index inode.now.addrs 12 < length (D.contents device.old) }
     ensures numbers { IfOk result (λ v. v.items ≡ numbers_of (D.contents device.old) inode.now) }
     ensures device { OnlyReads D.contents D.failures (faults_after result) device.old device.new }
+    ensures calls { ComesByCalls D.Called device.old device.new }
 {
     let mut numbers = ArrayVec::new();
     append(&mut numbers, &inode.addrs);
@@ -74,6 +76,7 @@ fn has_good<D: Device>(device: &mut D, layout: &Layout, i: u32) -> Result<bool, 
     ensures good { IfOk result (λ good. IsTrue good
         ↔ All (λ b. b ≢ 0 → IsData (sizes_of (D.contents device.old)) b) (numbers_by (D.contents device.old) i)) }
     ensures device { OnlyReads D.contents D.failures (faults_after result) device.old device.new }
+    ensures calls { ComesByCalls D.Called device.old device.new }
 {
     let inode = load_inode(device, layout, i)?;
     if is_free(&inode) {
@@ -91,6 +94,7 @@ pub fn has_good_numbers<D: Device>(device: &mut D, layout: &Layout) -> Result<bo
     requires layout { IsLayout (D.contents device.old) layout.now }
     ensures good { IfOk result (λ good. IsTrue good ↔ HasGoodNumbers (D.contents device.old)) }
     ensures device { OnlyReads D.contents D.failures (faults_after result) device.old device.new }
+    ensures calls { ComesByCalls D.Called device.old device.new }
 {
     for i in 1..layout.sizes.ninodes {
         let good = has_good(device, layout, i)?;
@@ -114,6 +118,7 @@ pub fn numbers_at<D: Device>(
     ensures numbers { IfOk result (λ v. v.items ≡ numbers_by (D.contents device.old) i) }
     ensures small { IfOk result (λ v. All (λ b. b < 8192) v.items) }
     ensures device { OnlyReads D.contents D.failures (faults_after result) device.old device.new }
+    ensures calls { ComesByCalls D.Called device.old device.new }
 {
     let inode = load_inode(device, layout, i)?;
     if is_free(&inode) {

@@ -1,6 +1,7 @@
 //! That no block number is named twice.
 ghost use Rattle.std.specs.Prelude.{◌≡◌, ◌<◌, ◌++◌, ◌∷◌, ◌↔◌, [], ℕ, Bool, List, length, filter, IfOk, IfErr, All, IsTrue};
 ghost use Rattle.block_device.specs.Blocks.{faults_after};
+ghost use Rattle.block_device.specs.Calls.{ComesByCalls};
 ghost use Rattle.image_tree.specs.Inodes.{is_block};
 ghost use Rattle.image_tree.specs.Checks.{HasGoodNumbers, NamesOnce};
 ghost use Rattle.image_tree.specs.Damage.{JudgesFault, faults_with};
@@ -62,6 +63,7 @@ pub fn names_once<D: Device>(
     ensures once { IfOk result (λ once. IsTrue once ↔ NamesOnce (D.contents device.old)) }
     ensures err { IfErr result (JudgesFault (D.contents device.old)) }
     ensures device { OnlyReads D.contents D.failures (faults_with result) device.old device.new }
+    ensures calls { ComesByCalls D.Called device.old device.new }
 {
     let mut seen = vec![in alloc; false; BITS_PER_BLOCK]?;
     let once = has_no_repeat(device, layout, &mut seen)?;
@@ -79,6 +81,7 @@ fn has_no_repeat<D: Device>(
     requires blank { Marks seen.old [] }
     ensures once { IfOk result (λ once. IsTrue once ↔ NamesOnce (D.contents device.old)) }
     ensures device { OnlyReads D.contents D.failures (faults_after result) device.old device.new }
+    ensures calls { ComesByCalls D.Called device.old device.new }
 {
     for i in 1..layout.sizes.ninodes {
         let numbers = numbers_at(device, layout, i)?;

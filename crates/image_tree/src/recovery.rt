@@ -1,6 +1,7 @@
 //! Recovery: what the log holds goes home.
 ghost use Rattle.std.specs.Prelude.{◌≡◌, ◌≢◌, ◌⊎◌, ◌<◌, ℕ, [], length, replicate, slice_set, Err, OnOk, OnErr, IfOk};
 ghost use Rattle.block_device.specs.Blocks.{faults_after, block_at};
+ghost use Rattle.block_device.specs.Calls.{ComesByCalls};
 ghost use Rattle.fs_layout.specs.Recovered.{logged, recovered, sizes_of, IsOutsideLog, SameRecovered};
 ghost use Rattle.image_tree.specs.Damage.{JudgesWith, UpToLog, IsWellFormed, faults_with};
 ghost use Rattle.image_tree.specs.Trees.{tree_in};
@@ -25,6 +26,7 @@ pub fn recover<D: Device>(device: &mut D) -> Result<(), MountFault>
     ensures unwritten { OnDamage result (D.contents device.new ≡ D.contents device.old) }
     ensures empty { logged (D.contents device.old) ≡ [] → D.contents device.new ≡ D.contents device.old }
     ensures faults { D.failures device.new ≡ faults_with result (D.failures device.old) }
+    ensures calls { ComesByCalls D.Called device.old device.new }
 
     // Whatever it answers, recovery would make the same disk as before.
     ensures kept { SameRecovered (D.contents device.old) (D.contents device.new) }
@@ -49,6 +51,7 @@ fn install<D: Device>(device: &mut D, layout: &Layout) -> Result<(), Fault>
     requires { IsLayout (D.contents device.old) layout.now }
     ensures empty { logged (D.contents device.old) ≡ [] → D.contents device.new ≡ D.contents device.old }
     ensures faults { D.failures device.new ≡ faults_after result (D.failures device.old) }
+    ensures calls { ComesByCalls D.Called device.old device.new }
     ensures kept { SameRecovered (D.contents device.old) (D.contents device.new) }
     ensures sizes { sizes_of (D.contents device.new) ≡ sizes_of (D.contents device.old) }
     ensures good { UpToLog (D.contents device.new) }
@@ -75,6 +78,7 @@ fn copy<D: Device>(device: &mut D, from: u32, to: u32) -> Result<(), Fault>
     ensures err { OnErr result ((D.contents device.new ≡ D.contents device.old)
         ⊎ (D.contents device.new ≡ slice_set (D.contents device.old) to (block_at (D.contents device.old) from))) }
     ensures faults { D.failures device.new ≡ faults_after result (D.failures device.old) }
+    ensures calls { ComesByCalls D.Called device.old device.new }
 {
     let block = read(device, from)?;
     device.write(to, &block)
@@ -84,6 +88,7 @@ fn read<D: Device>(device: &mut D, b: u32) -> Result<[u8; BLOCK_LEN], Fault>
     requires { b < length (D.contents device.old) }
     ensures read { IfOk result (λ block. block ≡ block_at (D.contents device.old) b) }
     ensures device { OnlyReads D.contents D.failures (faults_after result) device.old device.new }
+    ensures calls { ComesByCalls D.Called device.old device.new }
 {
     let mut block = [0; BLOCK_LEN];
     device.read(b, &mut block)?;

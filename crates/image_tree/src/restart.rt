@@ -1,5 +1,6 @@
 //! After a stop: recovery, and then the tree.
 ghost use Rattle.std.specs.Prelude.{◌≡◌, ◌≢◌, Err, IfOk};
+ghost use Rattle.block_device.specs.Calls.{ComesByCalls};
 ghost use Rattle.image_tree.specs.Damage.{IsWellFormed, faults_with};
 ghost use Rattle.image_tree.specs.Trees.{tree_in};
 ghost use Rattle.image_tree.specs.declared.fault.Damage.{Damage};
@@ -19,6 +20,7 @@ pub fn recovered_tree<D: Device>(alloc: Global, device: &mut D) -> Result<Tree, 
     ensures well { IsWellFormed (D.contents device.old) → IsWellFormed (D.contents device.new) }
     ensures same { IsWellFormed (D.contents device.old) → tree_in (D.contents device.new) ≡ tree_in (D.contents device.old) }
     ensures faults { D.failures device.new ≡ faults_with result (D.failures device.old) }
+    ensures calls { ComesByCalls D.Called device.old device.new }
 {
     recover(device)?;
     tree_of(alloc, device)

@@ -1,6 +1,7 @@
 //! What an examination tells of an image.
 ghost use Rattle.std.specs.Prelude.{◌≡◌, ◌<◌, ◌≤◌, ◌&&◌, not, if◌then◌else◌, length, filter, IfOk};
 ghost use Rattle.block_device.specs.Blocks.{faults_after};
+ghost use Rattle.block_device.specs.Calls.{ComesByCalls};
 ghost use Rattle.image_tree.specs.Inodes.{is_block, is_free, is_live};
 ghost use Rattle.image_tree.specs.Shape.{shape_of};
 ghost use Rattle.image_tree.specs.Checks.{HasGoodNumbers};
@@ -63,6 +64,7 @@ pub fn find_shape<D: Device>(device: &mut D, layout: &Layout) -> Result<Shape, F
     requires numbers { HasGoodNumbers (D.contents device.old) }
     ensures shape { IfOk result (λ shape. shape ≡ shape_of (D.contents device.old)) }
     ensures device { OnlyReads D.contents D.failures (faults_after result) device.old device.new }
+    ensures calls { ComesByCalls D.Called device.old device.new }
 {
     let mut live = 0;
     let mut orphans = 0;

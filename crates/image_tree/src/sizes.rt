@@ -1,6 +1,7 @@
 //! That nodes have sizes that their blocks can hold.
 ghost use Rattle.std.specs.Prelude.{◌≡◌, ◌≢◌, ◌+◌, ◌*◌, ◌<◌, ◌≤◌, ◌^◌, ◌↔◌, ℕ, Bool, true, length, IfOk, IsTrue};
 ghost use Rattle.block_device.specs.Blocks.{faults_after};
+ghost use Rattle.block_device.specs.Calls.{ComesByCalls};
 ghost use Rattle.image_tree.specs.Checks.{HasGoodNumbers, HasGoodSizes, IsFittingSize, IsGoodSize};
 ghost use Rattle.image_tree.specs.Inodes.{block_number, inode_of, is_node};
 ghost use Rattle.image_tree.specs.Layout.{IsLayout};
@@ -57,6 +58,7 @@ fn has_good_size<D: Device>(device: &mut D, layout: &Layout, i: u32) -> Result<b
     ensures good { IfOk result (λ good. IsTrue good
         ↔ (is_node (D.contents device.old) i ≡ true → IsGoodSize (D.contents device.old) (inode_of (D.contents device.old) i))) }
     ensures device { OnlyReads D.contents D.failures (faults_after result) device.old device.new }
+    ensures calls { ComesByCalls D.Called device.old device.new }
 {
     let inode = load_inode(device, layout, i)?;
     if is_free(&inode) {
@@ -75,6 +77,7 @@ pub fn has_good_sizes<D: Device>(device: &mut D, layout: &Layout) -> Result<bool
     requires numbers { HasGoodNumbers (D.contents device.old) }
     ensures good { IfOk result (λ good. IsTrue good ↔ HasGoodSizes (D.contents device.old)) }
     ensures device { OnlyReads D.contents D.failures (faults_after result) device.old device.new }
+    ensures calls { ComesByCalls D.Called device.old device.new }
 {
     for i in 1..layout.sizes.ninodes {
         let good = has_good_size(device, layout, i)?;

@@ -1,6 +1,7 @@
 //! The slots of a directory.
 ghost use Rattle.std.specs.Prelude.{◌≡◌, ◌≢◌, ◌+◌, ◌*◌, ◌/◌, ◌%◌, ◌<◌, ◌≤◌, ℕ, List, length, IfOk, IfErr, All};
 ghost use Rattle.block_device.specs.Blocks.{faults_after};
+ghost use Rattle.block_device.specs.Calls.{ComesByCalls};
 ghost use Rattle.fs_layout.specs.Entry.{dirent_at};
 ghost use Rattle.fs_layout.specs.Recovered.{recovered, sizes_of};
 ghost use Rattle.image_tree.specs.Inodes.{block_number, numbers_of, slots_of};
@@ -33,6 +34,7 @@ fn load_slot<D: Device>(
     requires bound { s < 4294967296 }
     ensures slot { IfOk result (λ slot. slot ≡ dirent_at (s % 64) (recovered (D.contents device.old) (block_number numbers.now (s / 64)))) }
     ensures device { OnlyReads D.contents D.failures (faults_after result) device.old device.new }
+    ensures calls { ComesByCalls D.Called device.old device.new }
 {
     let mut block = [0; BLOCK_LEN];
     let b = block_number(numbers, s / DIRENTS_PER_BLOCK);
@@ -54,6 +56,7 @@ pub fn load_slots<D: Device>(
     ensures slots { IfOk result (λ slots. slots.items ≡ slots_of (D.contents device.old) inode.now) }
     ensures err { IfErr result (JudgesFault (D.contents device.old)) }
     ensures device { OnlyReads D.contents D.failures (faults_with result) device.old device.new }
+    ensures calls { ComesByCalls D.Called device.old device.new }
 {
     let mut slots = Vec::new(alloc);
     for s in 0..inode.size as usize / DIRENT_LEN {
@@ -77,6 +80,7 @@ pub fn slots_at<D: Device>(
     ensures slots { IfOk result (λ slots. slots.items ≡ slots_in (D.contents device.old) i) }
     ensures err { IfErr result (JudgesFault (D.contents device.old)) }
     ensures device { OnlyReads D.contents D.failures (faults_with result) device.old device.new }
+    ensures calls { ComesByCalls D.Called device.old device.new }
 {
     let inode = load_inode(device, layout, i)?;
     if !is_live_directory(&inode) {

@@ -1,5 +1,6 @@
 //! The tree that an image holds.
 ghost use Rattle.std.specs.Prelude.{◌≡◌, ◌≢◌, ◌<◌, ◌≤◌, ℕ, List, length, map, Option, IfOk, IfErr, false};
+ghost use Rattle.block_device.specs.Calls.{ComesByCalls};
 ghost use Rattle.image_tree.specs.Checks.{HasGoodNumbers};
 ghost use Rattle.image_tree.specs.Damage.{IsWellFormed, JudgesFault, JudgesWith, faults_with};
 ghost use Rattle.image_tree.specs.Inodes.{inode_of, is_free};
@@ -78,6 +79,7 @@ fn load_kind<D: Device>(
     ensures kind { IfOk result (λ kind. kind ≡ kind_of (D.contents device.old) inode.now) }
     ensures err { IfErr result (JudgesFault (D.contents device.old)) }
     ensures device { OnlyReads D.contents D.failures (faults_with result) device.old device.new }
+    ensures calls { ComesByCalls D.Called device.old device.new }
 {
     let numbers = numbers_at(device, layout, i)?;
     if is_directory(inode) {
@@ -121,6 +123,7 @@ fn load_node<D: Device>(
     ensures node { IfOk result (λ node. node ≡ node_of (D.contents device.old) i) }
     ensures err { IfErr result (JudgesFault (D.contents device.old)) }
     ensures device { OnlyReads D.contents D.failures (faults_with result) device.old device.new }
+    ensures calls { ComesByCalls D.Called device.old device.new }
 {
     let inode = load_inode(device, layout, i)?;
     if is_free(&inode) {
@@ -146,6 +149,7 @@ fn load_nodes<D: Device>(
     ensures nodes { IfOk result (λ nodes. nodes.items ≡ first_nodes (D.contents device.old) (sizes_of (D.contents device.old)).ninodes) }
     ensures err { IfErr result (JudgesFault (D.contents device.old)) }
     ensures device { OnlyReads D.contents D.failures (faults_with result) device.old device.new }
+    ensures calls { ComesByCalls D.Called device.old device.new }
 {
     let mut nodes = Vec::new(alloc);
     push(&mut nodes, None)?;
@@ -161,6 +165,7 @@ fn load_nodes<D: Device>(
 pub fn tree_of<D: Device>(alloc: Global, device: &mut D) -> Result<Tree, MountFault>
     ensures judges { JudgesWith (λ tree. IsWellFormed (D.contents device.old) × (tree ≡ tree_in (D.contents device.old))) (D.contents device.old) result }
     ensures device { OnlyReads D.contents D.failures (faults_with result) device.old device.new }
+    ensures calls { ComesByCalls D.Called device.old device.new }
 {
     let layout = examine_layout(alloc, device)?;
     let nodes = load_nodes(alloc, device, &layout)?;

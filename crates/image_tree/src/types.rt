@@ -1,6 +1,7 @@
 //! The types of inodes, and the root.
 ghost use Rattle.std.specs.Prelude.{◌↔◌, ◌<◌, IsTrue, IfOk};
 ghost use Rattle.block_device.specs.Blocks.{faults_after};
+ghost use Rattle.block_device.specs.Calls.{ComesByCalls};
 ghost use Rattle.image_tree.specs.Checks.{IsGoodType, HasGoodTypes, HasRoot};
 ghost use Rattle.image_tree.specs.Layout.{IsLayout};
 ghost use Rattle.image_tree.specs.Reads.{OnlyReads};
@@ -23,6 +24,7 @@ pub fn has_good_types<D: Device>(device: &mut D, layout: &Layout) -> Result<bool
     requires layout { IsLayout (D.contents device.old) layout.now }
     ensures good { IfOk result (λ good. IsTrue good ↔ HasGoodTypes (D.contents device.old)) }
     ensures device { OnlyReads D.contents D.failures (faults_after result) device.old device.new }
+    ensures calls { ComesByCalls D.Called device.old device.new }
 {
     for i in 1..layout.sizes.ninodes {
         let inode = load_inode(device, layout, i)?;
@@ -38,6 +40,7 @@ pub fn has_root<D: Device>(device: &mut D, layout: &Layout) -> Result<bool, Faul
     requires layout { IsLayout (D.contents device.old) layout.now }
     ensures good { IfOk result (λ good. IsTrue good ↔ HasRoot (D.contents device.old)) }
     ensures device { OnlyReads D.contents D.failures (faults_after result) device.old device.new }
+    ensures calls { ComesByCalls D.Called device.old device.new }
 {
     let root = load_inode(device, layout, ROOT)?;
     Ok(root.kind == KIND_DIRECTORY && 0 < root.nlink)

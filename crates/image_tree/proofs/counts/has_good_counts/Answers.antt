@@ -1,4 +1,5 @@
 use Rattle.std.proofs.Common.{◌∙◌, subst, ℕ, ◌<◌, List, arith}
+use Rattle.block_device.specs.CallLaws.{calls_after}
 use Rattle.image_tree.proofs.Told.{held}
 use Rattle.image_tree.proofs.Nodes.{node_is, one_more}
 use Rattle.image_tree.proofs.CountLemmas.{GoodCount}
@@ -11,6 +12,7 @@ loop-i-preserved g c =
       c.in_ok-good.ensures.device.contents ∙ c.loop-i.invariant.0,
       c.in_ok-good.ensures.device.faults ∙ c.loop-i.invariant.1,
       one_more (GoodCount disk) c.loop-i.i c.loop-i.invariant.2 (subst (λ (d : List (List ℕ)). GoodCount d c.loop-i.i) c.loop-i.invariant.0 here),
+      calls_after c.loop-i.invariant.3 c.in_ok-good.ensures.calls,
     )
 
 pub returns-clause-good : goal.returns-clause-good

@@ -1,4 +1,5 @@
 use Rattle.std.proofs.Common.{◌≡◌, ℕ, ◌<◌, ◌≤◌, true}
+use Rattle.block_device.specs.Calls.{ComesByCalls}
 use Rattle.image_tree.specs.Inodes.{inode_of, is_node}
 use Rattle.image_tree.specs.Links.{names_of, further_names_of, children_of}
 use Rattle.image_tree.specs.Checks.{IsGoodCount}
@@ -10,3 +11,4 @@ invariant-loop-i g l =
     × ((k : ℕ) → 1 ≤ k → k < l.i → is_node (g.D.Device.contents l.fn.device) k ≡ true
     → IsGoodCount (inode_of (g.D.Device.contents l.fn.device) k) (names_of (g.D.Device.contents l.fn.device) k) (further_names_of (g.D.Device.contents l.fn.device) k)
     (children_of (g.D.Device.contents l.fn.device) k))
+    × ComesByCalls g.D.Device.Called l.fn.device l.device

@@ -1,4 +1,5 @@
 use Rattle.std.proofs.Common.{◌≡◌, ◌∙◌, subst, ℕ, ◌<◌, List, true, arith}
+use Rattle.block_device.specs.CallLaws.{calls_after}
 use Rattle.image_tree.proofs.Told.{held}
 use Rattle.image_tree.specs.Inodes.{is_node, is_live_directory}
 use Rattle.image_tree.specs.Links.{slots_in}
@@ -14,6 +15,7 @@ loop-i-preserved g c =
       c.in_ok-good.ensures.device.contents ∙ c.loop-i.invariant.0,
       c.in_ok-good.ensures.device.faults ∙ c.loop-i.invariant.1,
       one_more (Good disk) c.loop-i.i c.loop-i.invariant.2 (subst (λ (d : List (List ℕ)). Good d c.loop-i.i) c.loop-i.invariant.0 here),
+      calls_after c.loop-i.invariant.3 c.in_ok-good.ensures.calls,
     )
 
 pub returns-clause-good : goal.returns-clause-good

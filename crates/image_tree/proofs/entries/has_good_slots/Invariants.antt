@@ -1,4 +1,5 @@
 use Rattle.std.proofs.Common.{◌≡◌, ℕ, ◌<◌, ◌≤◌, true}
+use Rattle.block_device.specs.Calls.{ComesByCalls}
 use Rattle.image_tree.specs.Inodes.{is_node, is_live_directory}
 use Rattle.image_tree.specs.Links.{slots_in}
 use Rattle.image_tree.specs.Checks.{AreGoodSlots}
@@ -9,3 +10,4 @@ invariant-loop-i g l =
     (g.D.Device.contents l.device ≡ g.D.Device.contents l.fn.device) × (g.D.Device.failures l.device ≡ g.D.Device.failures l.fn.device)
     × ((k : ℕ) → 1 ≤ k → k < l.i → is_live_directory (g.D.Device.contents l.fn.device) k ≡ true
     → AreGoodSlots (is_node (g.D.Device.contents l.fn.device)) k (slots_in (g.D.Device.contents l.fn.device) k))
+    × ComesByCalls g.D.Device.Called l.fn.device l.device

@@ -1,4 +1,5 @@
 use Rattle.std.proofs.Common.{◌≡◌, ◌<◌, ℕ, length, get_or, false}
+use Rattle.block_device.specs.Calls.{ComesByCalls}
 use Rattle.image_tree.specs.Inodes.{is_node}
 use Rattle.image_tree.proofs.entries.node_table.Given as goal
 
@@ -6,3 +7,4 @@ abbrev pub invariant-loop-i : goal.invariant-loop-i
 invariant-loop-i g l =
     (g.D.Device.contents l.device ≡ g.D.Device.contents l.fn.device) × (g.D.Device.failures l.device ≡ g.D.Device.failures l.fn.device)
     × (length l.nodes.items ≡ l.i) × ((k : ℕ) → k < l.i → get_or l.nodes.items k false ≡ is_node (g.D.Device.contents l.fn.device) k)
+    × ComesByCalls g.D.Device.Called l.fn.device l.device

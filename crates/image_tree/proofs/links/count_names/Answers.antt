@@ -1,4 +1,6 @@
 use Rattle.std.proofs.Common.{◌≡◌, ◌∙◌, ℕ, ◌-◌, ◌≤◌, List, refl}
+use Rattle.block_device.specs.Calls.{none}
+use Rattle.block_device.specs.CallLaws.{calls_after}
 use Rattle.image_tree.specs.Links.{named_in, further_in, proper_in}
 use Rattle.image_tree.specs.Lists.{gathered}
 use Rattle.image_tree.proofs.LinkLemmas.{tallies_more, tallies_none, named_loaded, further_loaded, proper_loaded}
@@ -12,6 +14,7 @@ loop-i-init g c =
       tallies_none (named_in disk) c.args.names.now c.requires.names,
       tallies_none (further_in disk) c.args.further.now c.requires.further,
       tallies_none (proper_in disk) c.args.proper.now c.requires.proper,
+      none,
     )
 
 pub loop-i-preserved : goal.loop-i-preserved
@@ -34,4 +37,5 @@ loop-i-preserved g c =
           (proper_loaded disk now i c.args.ups.now c.past_dots-in-loop-i.result.now c.as_slice-in-loop-i-2.result.now c.in_ok-slots.slots.items c.requires.ups same
           c.past_dots-in-loop-i.ensures c.as_slice-in-loop-i-2.ensures.value c.in_ok-slots.ensures.slots)
           (c.tally_proper.ensures (gathered (proper_in disk) (i - 1)) c.loop-i.invariant.4),
+      calls_after c.loop-i.invariant.5 c.in_ok-slots.ensures.calls,
     )

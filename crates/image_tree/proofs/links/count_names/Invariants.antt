@@ -1,4 +1,5 @@
 use Rattle.std.proofs.Common.{◌≡◌, ◌-◌}
+use Rattle.block_device.specs.Calls.{ComesByCalls}
 use Rattle.image_tree.specs.Links.{named_in, further_in, proper_in}
 use Rattle.image_tree.specs.Lists.{gathered}
 use Rattle.image_tree.specs.Marks.{Tallies}
@@ -10,3 +11,4 @@ invariant-loop-i g l =
     × Tallies l.names (gathered (named_in (g.D.Device.contents l.fn.device)) (l.i - 1))
     × Tallies l.further (gathered (further_in (g.D.Device.contents l.fn.device)) (l.i - 1))
     × Tallies l.proper (gathered (proper_in (g.D.Device.contents l.fn.device)) (l.i - 1))
+    × ComesByCalls g.D.Device.Called l.fn.device l.device

@@ -1,4 +1,7 @@
-use Rattle.std.proofs.Common.{refl, arith}
+use Rattle.std.proofs.Common.{◌∙◌, refl, arith}
+use Rattle.std.proofs.lemmas.Grind.{common_steps}
+use Rattle.block_device.specs.Calls.{none}
+use Rattle.block_device.specs.CallLaws.{calls_after}
 use Rattle.image_tree.proofs.Layouts.{in_order}
 use Rattle.image_tree.proofs.LinkLemmas.{up-one, up_table_is}
 use Rattle.image_tree.proofs.links.find_ups.Goals as goal
@@ -6,7 +9,16 @@ use Rattle.image_tree.proofs.links.find_ups.Goals as goal
 pub loop-i-init : goal.loop-i-init
 loop-i-init g c =
     let one = up-one (g.D.Device.contents c.args.device.now) c.new-ups.result.items c.push.new.items.items c.new-ups.ensures.items c.in_ok-push.ensures in
-    (refl, refl, one.0, one.1)
+    (refl, refl, one.0, one.1, none)
+
+pub loop-i-preserved : goal.loop-i-preserved
+loop-i-preserved g c = (
+  c.in_ok-slots.ensures.device.contents ∙ c.loop-i.invariant.0,
+  c.in_ok-slots.ensures.device.faults ∙ c.loop-i.invariant.1,
+  grind (arith, common_steps),
+  grind (arith, common_steps),
+  calls_after c.loop-i.invariant.4 c.in_ok-slots.ensures.calls,
+)
 
 pub returns-clause-table : goal.returns-clause-table
 returns-clause-table g c =

@@ -1,4 +1,5 @@
 use Rattle.std.proofs.Common.{◌≡◌, ◌<◌, ℕ, length, get_or}
+use Rattle.block_device.specs.Calls.{ComesByCalls}
 use Rattle.image_tree.specs.Links.{up}
 use Rattle.image_tree.proofs.links.find_ups.Given as goal
 
@@ -6,3 +7,4 @@ abbrev pub invariant-loop-i : goal.invariant-loop-i
 invariant-loop-i g l =
     (g.D.Device.contents l.device ≡ g.D.Device.contents l.fn.device) × (g.D.Device.failures l.device ≡ g.D.Device.failures l.fn.device)
     × (length l.ups.items ≡ l.i) × ((k : ℕ) → k < l.i → get_or l.ups.items k 0 ≡ up (g.D.Device.contents l.fn.device) k)
+    × ComesByCalls g.D.Device.Called l.fn.device l.device

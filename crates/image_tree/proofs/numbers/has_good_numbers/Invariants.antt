@@ -1,5 +1,6 @@
 use Rattle.std.proofs.Common.{◌≡◌, ◌≢◌, ℕ, ◌<◌, ◌≤◌}
 use Rattle.std.specs.List.{All}
+use Rattle.block_device.specs.Calls.{ComesByCalls}
 use Rattle.image_tree.specs.Checks.{IsData}
 use Rattle.image_tree.specs.Inodes.{numbers_by}
 use Rattle.fs_layout.specs.Recovered.{sizes_of}
@@ -9,3 +10,4 @@ abbrev pub invariant-loop-i : goal.invariant-loop-i
 invariant-loop-i g l =
     (g.D.Device.contents l.device ≡ g.D.Device.contents l.fn.device) × (g.D.Device.failures l.device ≡ g.D.Device.failures l.fn.device)
     × ((k : ℕ) → 1 ≤ k → k < l.i → All (λ b. b ≢ 0 → IsData (sizes_of (g.D.Device.contents l.fn.device)) b) (numbers_by (g.D.Device.contents l.fn.device) k))
+    × ComesByCalls g.D.Device.Called l.fn.device l.device

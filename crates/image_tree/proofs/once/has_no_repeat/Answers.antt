@@ -1,5 +1,7 @@
 use Rattle.std.proofs.Common.{◌≡◌, ◌∙◌, sym, refl, subst, ℕ, List, ◌+◌, ◌-◌, arith}
 use Rattle.std.proofs.lemmas.Bool.{iff_false}
+use Rattle.block_device.specs.Calls.{none}
+use Rattle.block_device.specs.CallLaws.{calls_after}
 use Rattle.image_tree.specs.Lists.{gathered}
 use Rattle.image_tree.specs.Inodes.{named_by}
 use Rattle.fs_layout.specs.Recovered.{sizes_of}
@@ -14,7 +16,7 @@ use Rattle.image_tree.proofs.once.has_no_repeat.Goals as goal
 pub loop-i-init : goal.loop-i-init
 loop-i-init g c =
     let e = sym (gathered-none (named_by (g.D.Device.contents c.args.device.now))) in
-    (refl, refl, subst (Marks c.args.seen.now) e c.requires.blank, subst IsOnce e once_nil)
+    (refl, refl, subst (Marks c.args.seen.now) e c.requires.blank, subst IsOnce e once_nil, none)
 
 pub returns-then-not-mark_all-clause-once : goal.returns-then-not-mark_all-clause-once
 returns-then-not-mark_all-clause-once g c =
@@ -33,6 +35,7 @@ loop-i-preserved g c =
       c.in_ok-numbers.ensures.device.faults ∙ c.loop-i.invariant.1,
       subst (Marks c.mark_all.new.seen) e (c.mark_all.ensures.marks before c.loop-i.invariant.2 c.loop-i.invariant.3 c.if-not-mark_all.false),
       subst IsOnce e ((c.mark_all.ensures.once before c.loop-i.invariant.2 c.loop-i.invariant.3).0 c.if-not-mark_all.false),
+      calls_after c.loop-i.invariant.4 c.in_ok-numbers.ensures.calls,
     )
 
 pub returns-clause-once : goal.returns-clause-once

@@ -1,4 +1,5 @@
 use Rattle.std.proofs.Common.{◌≡◌, ◌-◌}
+use Rattle.block_device.specs.Calls.{ComesByCalls}
 use Rattle.image_tree.specs.Lists.{gathered}
 use Rattle.image_tree.specs.Inodes.{named_by}
 use Rattle.image_tree.specs.Marks.{Marks}
@@ -9,3 +10,4 @@ abbrev pub invariant-loop-i : goal.invariant-loop-i
 invariant-loop-i g l =
     (g.D.Device.contents l.device ≡ g.D.Device.contents l.fn.device) × (g.D.Device.failures l.device ≡ g.D.Device.failures l.fn.device)
     × Marks l.seen (gathered (named_by (g.D.Device.contents l.fn.device)) (l.i - 1)) × IsOnce (gathered (named_by (g.D.Device.contents l.fn.device)) (l.i - 1))
+    × ComesByCalls g.D.Device.Called l.fn.device l.device

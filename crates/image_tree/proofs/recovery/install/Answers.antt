@@ -1,5 +1,6 @@
 use Rattle.std.proofs.Common.{◌≡◌, ◌⊎◌, ◌∙◌, inr, ap, sym, subst, refl, ℕ, List, [], ◌∷◌, ◌+◌, ◌<◌, ◌≤◌, length, get_or, set, replicate, arith, Result, Ok, Err, OnOk, OnErr}
 use Rattle.std.proofs.lemmas.Bool.{eqb-true}
+use Rattle.block_device.specs.CallLaws.{no_call, calls_after}
 use Rattle.fs_layout.specs.declared.superblock.Super.{Super}
 use Rattle.block_device.specs.Blocks.{block_at}
 use Rattle.fs_layout.specs.Recovered.{logged, recovered, sizes_of, IsOutsideLog}
@@ -28,7 +29,7 @@ pub loop-i-init : goal.loop-i-init
 loop-i-init g c =
     let layout = c.args.layout.now in
     let d = g.D.Device.contents c.args.device.now in
-    record { faults = refl; at = installed_first d layout.sizes layout.head.blocks.items (ready_of d layout c.requires); good = c.requires.good }
+    record { faults = refl; calls = no_call _; at = installed_first d layout.sizes layout.head.blocks.items (ready_of d layout c.requires); good = c.requires.good }
 
 pub copy-requires-clause-from : goal.copy-requires-clause-from
 copy-requires-clause-from g c =
@@ -85,6 +86,7 @@ on_ok (Err x) P Q f p = tt
 pub loop-i-preserved : goal.loop-i-preserved
 loop-i-preserved g c = record {
   faults = c.in_ok-copy.ensures.faults ∙ c.loop-i.invariant.faults;
+  calls = calls_after c.loop-i.invariant.calls c.in_ok-copy.ensures.calls;
   at = after_copy (g.D.Device.contents c.args.device.now) (g.D.Device.contents c.loop-i.device) (g.D.Device.contents c.copy.new.device) c.args.layout.now c.requires c.as_slice-blocks.result.now c.as_slice-blocks.ensures.value c.loop-i.i
       c.loop-i.invariant.at c.loop-i-test.true c.in_ok-copy.ensures.ok;
   good = copy_good (g.D.Device.contents c.loop-i.device) (g.D.Device.contents c.copy.new.device) c.args.layout.now.sizes (recovered (g.D.Device.contents c.args.device.now)) c.args.layout.now.head.blocks.items (length (g.D.Device.contents c.args.device.now)) c.loop-i.i

@@ -1,10 +1,12 @@
 use Rattle.std.proofs.Common.{◌∙◌, ℕ, List, refl, ap, rules}
+use Rattle.block_device.specs.Calls.{none}
+use Rattle.block_device.specs.CallLaws.{calls_after}
 use Rattle.image_tree.specs.Inodes.{inode_of}
 use Rattle.image_tree.proofs.ShapeLemmas.{shape_none, shape_more}
 use Rattle.image_tree.proofs.shape.find_shape.Goals as goal
 
 pub loop-i-init : goal.loop-i-init
-loop-i-init g c = (refl, refl, shape_none (g.D.Device.contents c.args.device.now))
+loop-i-init g c = (refl, refl, shape_none (g.D.Device.contents c.args.device.now), none)
 
 pub loop-i-preserved : goal.loop-i-preserved
 loop-i-preserved g c =
@@ -17,4 +19,5 @@ loop-i-preserved g c =
           (c.in_ok-inode.ensures.inode ∙ ap (λ (d : List (List ℕ)). inode_of d c.loop-i.i) c.loop-i.invariant.0)
           (c.in_ok-inode.ensures.device.contents ∙ c.loop-i.invariant.0) c.as_slice.ensures.value c.in_ok-numbers.ensures.numbers (search rules) c.count_live-live.ensures c.count_orphan-orphans.ensures
           c.count_blocks-blocks.ensures.blocks (search rules) c.loop-i.invariant.2,
+      calls_after (calls_after c.loop-i.invariant.3 c.in_ok-inode.ensures.calls) c.in_ok-numbers.ensures.calls,
     )

@@ -1,4 +1,5 @@
 use Rattle.std.proofs.Common.{◌≡◌, ◌-◌}
+use Rattle.block_device.specs.Calls.{ComesByCalls}
 use Rattle.image_tree.proofs.ShapeLemmas.{ShapeUpto}
 use Rattle.image_tree.proofs.shape.find_shape.Given as goal
 
@@ -6,3 +7,4 @@ abbrev pub invariant-loop-i : goal.invariant-loop-i
 invariant-loop-i g l =
     (g.D.Device.contents l.device ≡ g.D.Device.contents l.fn.device) × (g.D.Device.failures l.device ≡ g.D.Device.failures l.fn.device)
     × ShapeUpto (g.D.Device.contents l.fn.device) (l.i - 1) l.live l.orphans l.blocks
+    × ComesByCalls g.D.Device.Called l.fn.device l.device

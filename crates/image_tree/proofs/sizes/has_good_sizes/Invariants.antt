@@ -1,4 +1,5 @@
 use Rattle.std.proofs.Common.{◌≡◌, ℕ, ◌<◌, ◌≤◌, true}
+use Rattle.block_device.specs.Calls.{ComesByCalls}
 use Rattle.image_tree.specs.Inodes.{inode_of, is_node}
 use Rattle.image_tree.specs.Checks.{IsGoodSize}
 use Rattle.image_tree.proofs.sizes.has_good_sizes.Given as goal
@@ -8,3 +9,4 @@ invariant-loop-i g l =
     (g.D.Device.contents l.device ≡ g.D.Device.contents l.fn.device) × (g.D.Device.failures l.device ≡ g.D.Device.failures l.fn.device)
     × ((k : ℕ) → 1 ≤ k → k < l.i
     → is_node (g.D.Device.contents l.fn.device) k ≡ true → IsGoodSize (g.D.Device.contents l.fn.device) (inode_of (g.D.Device.contents l.fn.device) k))
+    × ComesByCalls g.D.Device.Called l.fn.device l.device

@@ -1,4 +1,5 @@
 use Rattle.std.proofs.Common.{◌≡◌}
+use Rattle.block_device.specs.Calls.{ComesByCalls}
 use Rattle.image_tree.specs.Inodes.{first_slots}
 use Rattle.image_tree.proofs.slots.load_slots.Given as goal
 
@@ -6,3 +7,4 @@ abbrev pub invariant-loop-s : goal.invariant-loop-s
 invariant-loop-s g l =
     (g.D.Device.contents l.device ≡ g.D.Device.contents l.fn.device) × (g.D.Device.failures l.device ≡ g.D.Device.failures l.fn.device)
     × (l.slots.items ≡ first_slots (g.D.Device.contents l.fn.device) l.inode l.s)
+    × ComesByCalls g.D.Device.Called l.fn.device l.device

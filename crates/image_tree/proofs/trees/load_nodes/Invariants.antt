@@ -1,4 +1,5 @@
 use Rattle.std.proofs.Common.{◌≡◌}
+use Rattle.block_device.specs.Calls.{ComesByCalls}
 use Rattle.image_tree.specs.Trees.{first_nodes}
 use Rattle.image_tree.proofs.trees.load_nodes.Given as goal
 
@@ -6,3 +7,4 @@ abbrev pub invariant-loop-i : goal.invariant-loop-i
 invariant-loop-i g l =
     (g.D.Device.contents l.device ≡ g.D.Device.contents l.fn.device) × (g.D.Device.failures l.device ≡ g.D.Device.failures l.fn.device)
     × (l.nodes.items ≡ first_nodes (g.D.Device.contents l.fn.device) l.i)
+    × ComesByCalls g.D.Device.Called l.fn.device l.device

@@ -1,4 +1,5 @@
 use Rattle.std.proofs.Common.{◌≡◌, ℕ, ◌<◌, ◌≤◌}
+use Rattle.block_device.specs.Calls.{ComesByCalls}
 use Rattle.image_tree.specs.Checks.{IsGoodType}
 use Rattle.image_tree.specs.Inodes.{inode_of}
 use Rattle.image_tree.proofs.types.has_good_types.Given as goal
@@ -7,3 +8,4 @@ abbrev pub invariant-loop-i : goal.invariant-loop-i
 invariant-loop-i g l =
     (g.D.Device.contents l.device ≡ g.D.Device.contents l.fn.device) × (g.D.Device.failures l.device ≡ g.D.Device.failures l.fn.device)
     × ((k : ℕ) → 1 ≤ k → k < l.i → IsGoodType (inode_of (g.D.Device.contents l.fn.device) k))
+    × ComesByCalls g.D.Device.Called l.fn.device l.device
