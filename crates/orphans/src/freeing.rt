@@ -1,6 +1,7 @@
 //! Nodes without a name are freed, one after the other.
 ghost use Rattle.std.specs.Prelude.{◌≡◌, ◌≢◌, ◌⊎◌, ◌+◌, ◌/◌, ◌%◌, ◌<◌, ◌≤◌, ◌&&◌, not, ℕ, [], true, false, pos, All, IfOk, OnOk};
 ghost use Rattle.block_device.specs.Blocks.{faults_after};
+ghost use Rattle.block_device.specs.Calls.{ComesByCalls};
 ghost use Rattle.fs_layout.specs.Bits.{bit_of};
 ghost use Rattle.fs_layout.specs.Inode.{dinode_at};
 ghost use Rattle.fs_layout.specs.Recovered.{logged, recovered, sizes_of};
@@ -38,6 +39,7 @@ pub fn reclaim<D: Device>(device: &mut D, sizes: Super) -> Result<(), Fault>
     requires empty { logged (D.contents device.old) ≡ [] }
     requires sizes { sizes ≡ sizes_of (D.contents device.old) }
     ensures faults { D.failures device.new ≡ faults_after result (D.failures device.old) }
+    ensures calls { ComesByCalls D.Called device.old device.new }
 
     // Whatever it answers, the image stays well formed, with the same tree.
     ensures sizes { sizes_of (D.contents device.new) ≡ sizes_of (D.contents device.old) }
@@ -73,6 +75,7 @@ fn reclaim_at<D: Device>(device: &mut D, layout: &Layout, i: u32) -> Result<(), 
     requires low { 1 ≤ i }
     requires bound { i < layout.now.sizes.ninodes }
     ensures faults { D.failures device.new ≡ faults_after result (D.failures device.old) }
+    ensures calls { ComesByCalls D.Called device.old device.new }
     ensures sizes { sizes_of (D.contents device.new) ≡ sizes_of (D.contents device.old) }
     ensures well { IsWellFormed (D.contents device.new) }
     ensures tree { tree_in (D.contents device.new) ≡ tree_in (D.contents device.old) }
@@ -94,6 +97,7 @@ fn is_nameless<D: Device>(device: &mut D, layout: &Layout, i: u32) -> Result<boo
     requires bound { i < layout.now.sizes.ninodes }
     ensures is { IfOk result (λ nameless. nameless ≡ is_orphan (D.contents device.old) i) }
     ensures device { OnlyReads D.contents D.failures (faults_after result) device.old device.new }
+    ensures calls { ComesByCalls D.Called device.old device.new }
 {
     let inode = load_inode(device, layout, i)?;
     Ok(has_no_name(&inode))
@@ -127,6 +131,7 @@ fn free<D: Device>(device: &mut D, layout: &Layout, i: u32) -> Result<(), Fault>
     requires bound { i < layout.now.sizes.ninodes }
     requires nameless { is_orphan (D.contents device.old) i ≡ true }
     ensures faults { D.failures device.new ≡ faults_after result (D.failures device.old) }
+    ensures calls { ComesByCalls D.Called device.old device.new }
     ensures either { IsViewOf (D.contents device.old) (D.contents device.new)
         ⊎ IsFreed (D.contents device.old) (D.contents device.new) i }
     ensures empty { OnOk result (logged (D.contents device.new) ≡ []) }
@@ -147,6 +152,7 @@ fn freed_bitmap<D: Device>(device: &mut D, layout: &Layout, numbers: &[u32]) -> 
     ensures kept { IfOk result (λ bitmap. (b : ℕ) → All (λ c. c ≢ 0 → c ≢ b) numbers.now → bit_of bitmap b ≡ is_marked (D.contents device.old) b) }
     ensures fewer { IfOk result (λ bitmap. (b : ℕ) → is_marked (D.contents device.old) b ≡ false → bit_of bitmap b ≡ false) }
     ensures device { OnlyReads D.contents D.failures (faults_after result) device.old device.new }
+    ensures calls { ComesByCalls D.Called device.old device.new }
 {
     let mut bitmap = [0; BLOCK_LEN];
     load(device, layout, layout.sizes.bmapstart, &mut bitmap)?;
@@ -175,6 +181,7 @@ fn freed_inodes<D: Device>(device: &mut D, layout: &Layout, i: u32) -> Result<Bl
     ensures others { IfOk result (λ inodes. (q : ℕ) → q < 16 → q ≢ i % 16
         → dinode_at q inodes ≡ dinode_at q (recovered (D.contents device.old) ((sizes_of (D.contents device.old)).inodestart + i / 16))) }
     ensures device { OnlyReads D.contents D.failures (faults_after result) device.old device.new }
+    ensures calls { ComesByCalls D.Called device.old device.new }
 {
     let mut inodes = [0; BLOCK_LEN];
     let home = layout.sizes.inodestart + i / INODES_PER_BLOCK as u32;

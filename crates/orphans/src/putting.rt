@@ -1,6 +1,7 @@
 //! Two blocks put in one transaction of an empty log: copies into the log, its head, the blocks' homes, and the head cleared.
 ghost use Rattle.std.specs.Prelude.{◌≡◌, ◌⊎◌, ◌+◌, ◌<◌, ◌≤◌, ◌∷◌, List, ℕ, [], OnOk, slice_set};
 ghost use Rattle.block_device.specs.Blocks.{block_at, faults_after};
+ghost use Rattle.block_device.specs.Calls.{ComesByCalls};
 ghost use Rattle.fs_layout.specs.Recovered.{logged, recovered, sizes_of, IsOutsideLog};
 ghost use Rattle.image_tree.specs.Damage.{IsWellFormed, UpToLog};
 ghost use Rattle.image_tree.specs.Views.{IsViewOf};
@@ -26,6 +27,7 @@ pub fn put_both<D: Device>(
     requires high { home < sizes.bmapstart }
     requires well { (disk : List (List ℕ)) → IsPut (D.contents device.old) disk home bitmap.now inodes.now → IsWellFormed disk }
     ensures faults { D.failures device.new ≡ faults_after result (D.failures device.old) }
+    ensures calls { ComesByCalls D.Called device.old device.new }
     ensures either { IsViewOf (D.contents device.old) (D.contents device.new)
         ⊎ IsPut (D.contents device.old) (D.contents device.new) home bitmap.now inodes.now }
     ensures put { OnOk result (IsPut (D.contents device.old) (D.contents device.new) home bitmap.now inodes.now) }
@@ -47,6 +49,7 @@ fn log_both<D: Device>(
     requires empty { logged (D.contents device.old) ≡ [] }
     requires sizes { sizes.now ≡ sizes_of (D.contents device.old) }
     ensures faults { D.failures device.new ≡ faults_after result (D.failures device.old) }
+    ensures calls { ComesByCalls D.Called device.old device.new }
     ensures view { IsViewOf (D.contents device.old) (D.contents device.new) }
     ensures empty { logged (D.contents device.new) ≡ [] }
     ensures first { OnOk result (block_at (D.contents device.new) (sizes.now.logstart + 1) ≡ bitmap.now) }
@@ -68,6 +71,7 @@ fn log_copy<D: Device>(
     requires low { sizes.now.logstart < place }
     requires high { place ≤ sizes.now.logstart + 2 }
     ensures faults { D.failures device.new ≡ faults_after result (D.failures device.old) }
+    ensures calls { ComesByCalls D.Called device.old device.new }
     ensures view { IsViewOf (D.contents device.old) (D.contents device.new) }
     ensures empty { logged (D.contents device.new) ≡ [] }
     ensures ok { OnOk result (D.contents device.new ≡ slice_set (D.contents device.old) place block.now) }
@@ -83,6 +87,7 @@ fn write_head<D: Device>(device: &mut D, sizes: &Super, home: u32) -> Result<(),
     requires low { sizes.now.inodestart ≤ home }
     requires high { home < sizes.now.bmapstart }
     ensures faults { D.failures device.new ≡ faults_after result (D.failures device.old) }
+    ensures calls { ComesByCalls D.Called device.old device.new }
     ensures either { (D.contents device.new ≡ D.contents device.old)
         ⊎ IsPut (D.contents device.old) (D.contents device.new) home
         (block_at (D.contents device.old) (sizes.now.logstart + 1)) (block_at (D.contents device.old) (sizes.now.logstart + 2)) }
@@ -98,6 +103,7 @@ fn write_head<D: Device>(device: &mut D, sizes: &Super, home: u32) -> Result<(),
 pub fn install<D: Device>(device: &mut D) -> Result<(), Fault>
     requires { IsWellFormed (D.contents device.old) }
     ensures faults { D.failures device.new ≡ faults_after result (D.failures device.old) }
+    ensures calls { ComesByCalls D.Called device.old device.new }
     ensures view { IsViewOf (D.contents device.old) (D.contents device.new) }
     ensures empty { OnOk result (logged (D.contents device.new) ≡ []) }
     ensures home { OnOk result ((b : ℕ) → IsOutsideLog (sizes_of (D.contents device.old)) b

@@ -1,6 +1,7 @@
 //! What is done with a disk before it is used: recovery, and then the freeing of nodes without a name.
 ghost use Rattle.std.specs.Prelude.{◌≡◌, ◌≢◌, ◌<◌, ◌≤◌, ℕ, [], true, false, All, OnOk};
 ghost use Rattle.block_device.specs.Blocks.{block_at, faults_after};
+ghost use Rattle.block_device.specs.Calls.{ComesByCalls};
 ghost use Rattle.fs_layout.specs.Recovered.{logged, recovered, sizes_of, IsOutsideLog};
 ghost use Rattle.image_tree.specs.Checks.{is_marked};
 ghost use Rattle.image_tree.specs.Damage.{IsWellFormed};
@@ -21,6 +22,7 @@ pub fn settle<D: Device>(device: &mut D, sizes: Super) -> Result<(), Fault>
     requires well { IsWellFormed (D.contents device.old) }
     requires sizes { sizes ≡ sizes_of (D.contents device.old) }
     ensures faults { D.failures device.new ≡ faults_after result (D.failures device.old) }
+    ensures calls { ComesByCalls D.Called device.old device.new }
 
     // Whatever it answers, the image stays well formed, with the same tree.
     ensures sizes { sizes_of (D.contents device.new) ≡ sizes_of (D.contents device.old) }

@@ -1,4 +1,5 @@
 use Rattle.std.proofs.Common.{◌∙◌, ◌<◌, ◌≤◌, subst, arith}
+use Rattle.block_device.specs.CallLaws.{calls_after}
 use Rattle.fs_layout.specs.declared.superblock.Super.{Super}
 use Rattle.orphans.proofs.Reclaims.{image_next, reclaimed_next, same_next, named_all, all_freed}
 use Rattle.orphans.proofs.freeing.reclaim.Goals as goal
@@ -15,6 +16,7 @@ loop-i-preserved g c =
     let n = g.D.Device.contents c.reclaim_at.new.device in
     record {
       faults = c.in_ok-reclaim_at.ensures.faults ∙ c.loop-i.invariant.faults;
+      calls = calls_after c.loop-i.invariant.calls c.in_ok-reclaim_at.ensures.calls;
       image = image_next d e n c.loop-i.invariant.image c.in_ok-reclaim_at.ensures.sizes c.in_ok-reclaim_at.ensures.well c.in_ok-reclaim_at.ensures.tree;
       empty = c.in_ok-reclaim_at.ensures.empty;
       to = reclaimed_next d e n c.loop-i.i c.loop-i.invariant.image.sizes c.loop-i.invariant.image.well (omega arith)
