@@ -137,7 +137,7 @@ all_followed d marks size closed k [] n m h =
 all_followed d marks size closed k (e ∷ es) n m h =
     past (look (tree_of d).nodes k e) (λ j. follow (tree_of d).nodes j es) n (is_marked marks n ≡ true) (λ j l h'. all_followed d marks size closed j es n (look_marked d marks size closed k e j m l) h') h
 
-pub marks_all : (d : TreeData) (marks : List Bool) → MarksReached (tree_of d) marks → IsClosed (tree_of d) marks → MarksAll (tree_of d) marks
+pub marks_all : (d : TreeData) (marks : List Bool) → MarksReached d marks → IsClosed (tree_of d) marks → MarksAll d marks
 marks_all d marks r closed = record {
   size = r.size;
   reached = r.reached;
@@ -156,18 +156,18 @@ kept_marked marks n k h = elim (cases_eq k n) [
   | inr ne ↦ get_or-set_other marks n k true true ne ∙ h
 ]
 
-pub marks_more : (t : Tree) (marks : List Bool) (n : ℕ) → MarksReached t marks → IsReached t n → MarksReached t (set marks n true)
-marks_more t marks n r p = record {
+pub marks_more : (d : TreeData) (marks : List Bool) (n : ℕ) → MarksReached d marks → IsReached (tree_of d) n → MarksReached d (set marks n true)
+marks_more d marks n r p = record {
   size = length-set marks n true ∙ r.size;
   reached = λ k lt h. elim (cases_eq k n) [
-    | inl e ↦ subst (λ (x : ℕ). IsReached t x) (sym e) p
+    | inl e ↦ subst (λ (x : ℕ). IsReached (tree_of d) x) (sym e) p
     | inr ne ↦ r.reached k (omega (arith, length-set marks n true, lt)) (sym (get_or-set_other marks n k true true ne) ∙ h)
   ];
   start = kept_marked marks n root r.start;
 }
 
-pub next_reached : (t : Tree) (marks : List Bool) (n : ℕ) → MarksReached t marks → IsNext t marks n → IsReached t n
-next_reached t marks n r x = reached_more t x.directory n x.new.name (r.reached x.directory x.within x.marked) x.new.finds
+pub next_reached : (d : TreeData) (marks : List Bool) (n : ℕ) → MarksReached d marks → IsNext (tree_of d) marks n → IsReached (tree_of d) n
+next_reached d marks n r x = reached_more (tree_of d) x.directory n x.new.name (r.reached x.directory x.within x.marked) x.new.finds
 
 unmarked_at : (count n : ℕ) → n < count → get_or (replicate count false) n true ≡ false
 unmarked_at zero n h = absurd (omega arith)
@@ -178,43 +178,43 @@ length_same : (count : ℕ) → length (replicate count false) ≡ count
 length_same zero = refl
 length_same (suc count) = ap suc (length_same count)
 
-none_reached : (t : Tree) (n : ℕ) → n < length (replicate t.ninodes false) → is_marked (replicate t.ninodes false) n ≡ true → IsReached t n
-none_reached t n lt h = absurd (let x : true ≡ false = sym h ∙ unmarked_at t.ninodes n (omega (arith, length_same t.ninodes, lt)) in cc)
+none_reached : (t : Tree) (count n : ℕ) → n < length (replicate count false) → is_marked (replicate count false) n ≡ true → IsReached t n
+none_reached t count n lt h = absurd (let x : true ≡ false = sym h ∙ unmarked_at count n (omega (arith, length_same count, lt)) in cc)
 
 -- the root is marked, where it is in range
-pub first_marks : (t : Tree) (marks : List Bool) → marks ≡ set (replicate t.ninodes false) root true → MarksReached t marks
-first_marks t marks e = subst (λ (m : List Bool). MarksReached t m) (sym e) (record {
-  size = length-set (replicate t.ninodes false) root true ∙ length_same t.ninodes;
+pub first_marks : (d : TreeData) (marks : List Bool) → marks ≡ set (replicate (length d.nodes) false) root true → MarksReached d marks
+first_marks d marks e = subst (λ (m : List Bool). MarksReached d m) (sym e) (record {
+  size = length-set (replicate (length d.nodes) false) root true ∙ length_same (length d.nodes);
   reached = λ k lt h. elim (cases_eq k root) [
-    | inl e ↦ subst (λ (x : ℕ). IsReached t x) (sym e) (root_reached t)
-    | inr ne ↦ none_reached t k (omega (arith, length-set (replicate t.ninodes false) root true, lt)) (sym (get_or-set_other (replicate t.ninodes false) root k true true ne) ∙ h)
+    | inl e ↦ subst (λ (x : ℕ). IsReached (tree_of d) x) (sym e) (root_reached (tree_of d))
+    | inr ne ↦ none_reached (tree_of d) (length d.nodes) k (omega (arith, length-set (replicate (length d.nodes) false) root true, lt)) (sym (get_or-set_other (replicate (length d.nodes) false) root k true true ne) ∙ h)
   ];
-  start = set_same (replicate t.ninodes false) root;
+  start = set_same (replicate (length d.nodes) false) root;
 })
 
-pub no_root : (t : Tree) (marks : List Bool) → marks ≡ replicate t.ninodes false → length marks ≤ root → MarksReached t marks
-no_root t marks e le = record {
-  size = ap length e ∙ length_same t.ninodes;
-  reached = λ k lt h. none_reached t k (subst (λ (m : List Bool). k < length m) e lt) (ap (λ m. is_marked m k) (sym e) ∙ h);
+pub no_root : (d : TreeData) (marks : List Bool) → marks ≡ replicate (length d.nodes) false → length marks ≤ root → MarksReached d marks
+no_root d marks e le = record {
+  size = ap length e ∙ length_same (length d.nodes);
+  reached = λ k lt h. none_reached (tree_of d) (length d.nodes) k (subst (λ (m : List Bool). k < length m) e lt) (ap (λ m. is_marked m k) (sym e) ∙ h);
   start = get_or-eq_default marks true le;
 }
 
 pub next_fewer : (t : Tree) (marks seen : List Bool) (n m : ℕ) → seen ≡ marks → m ≡ n → IsNext t seen n → unmarked (set marks m true) < unmarked marks
 next_fewer t marks seen n m e f x = subst (λ (k : ℕ). unmarked (set marks k true) < unmarked marks) (sym f) (subst (λ (s : List Bool). unmarked (set s n true) < unmarked s) e (fewer seen n x.new.below x.new.unmarked))
 
-pub next_marks : (t : Tree) (marks seen : List Bool) (n m : ℕ) → seen ≡ marks → m ≡ n → MarksReached t marks → IsNext t seen n → MarksReached t (set marks m true)
-next_marks t marks seen n m e f r x =
-    let y : IsNext t marks n = subst (λ (s : List Bool). IsNext t s n) e x in
-    subst (λ (k : ℕ). MarksReached t (set marks k true)) (sym f) (marks_more t marks n r (next_reached t marks n r y))
+pub next_marks : (d : TreeData) (marks seen : List Bool) (n m : ℕ) → seen ≡ marks → m ≡ n → MarksReached d marks → IsNext (tree_of d) seen n → MarksReached d (set marks m true)
+next_marks d marks seen n m e f r x =
+    let y : IsNext (tree_of d) marks n = subst (λ (s : List Bool). IsNext (tree_of d) s n) e x in
+    subst (λ (k : ℕ). MarksReached d (set marks k true)) (sym f) (marks_more d marks n r (next_reached d marks n r y))
 
-pub closed_all : (d : TreeData) (marks seen : List Bool) → seen ≡ marks → MarksReached (tree_of d) marks → IsClosed (tree_of d) seen → MarksAll (tree_of d) marks
+pub closed_all : (d : TreeData) (marks seen : List Bool) → seen ≡ marks → MarksReached d marks → IsClosed (tree_of d) seen → MarksAll d marks
 closed_all d marks seen e r closed = marks_all d marks r (subst (λ (s : List Bool). IsClosed (tree_of d) s) e closed)
 
-pub first_marked : (t : Tree) (marks none : List Bool) (count r : ℕ) → marks ≡ set none r true → none ≡ replicate count false → count ≡ t.ninodes → r ≡ root → MarksReached t marks
-first_marked t marks none count r a b c d = first_marks t marks (rw (a, b, c, d) refl)
+pub first_marked : (d : TreeData) (marks none : List Bool) (count r : ℕ) → marks ≡ set none r true → none ≡ replicate count false → count ≡ length d.nodes → r ≡ root → MarksReached d marks
+first_marked d marks none count r a b c e = first_marks d marks (rw (a, b, c, e) refl)
 
-pub none_marked : (t : Tree) (marks none : List Bool) (count r n : ℕ) → marks ≡ none → none ≡ replicate count false → count ≡ t.ninodes → r ≡ root → n ≡ length none → n ≤ r → MarksReached t marks
-none_marked t marks none count r n a b c d f le = no_root t marks (rw (a, b, c) refl) (rw a (omega arith))
+pub none_marked : (d : TreeData) (marks none : List Bool) (count r n : ℕ) → marks ≡ none → none ≡ replicate count false → count ≡ length d.nodes → r ≡ root → n ≡ length none → n ≤ r → MarksReached d marks
+none_marked d marks none count r n a b c e f le = no_root d marks (rw (a, b, c) refl) (rw a (omega arith))
 
 get_or_last : (xs : List (Option Node)) (v : Option Node) (n : ℕ) → length xs ≡ n → get_or (xs ++ v ∷ []) n None ≡ v
 get_or_last [] v zero h = refl
@@ -248,10 +248,10 @@ none_either : (b : Bool) (v : Option Node) → v ≡ None → (if b then v else 
 none_either true v e = e
 none_either false v e = refl
 
-pub named_part : (d : TreeData) (marks : List Bool) (nodes : List (Option Node)) (named : TreeData) → named ≡ at_rest nodes → MarksAll (tree_of d) marks → length nodes ≡ length marks → ((k : ℕ) → k < length marks → get_or nodes k None ≡ part_at (tree_of d) marks k) → IsNamedPart (tree_of d) (tree_of named)
+pub named_part : (d : TreeData) (marks : List Bool) (nodes : List (Option Node)) (named : TreeData) → named ≡ record (at_rest nodes) { ninodes = d.ninodes } → MarksAll d marks → length nodes ≡ length marks → ((k : ℕ) → k < length marks → get_or nodes k None ≡ part_at (tree_of d) marks k) → IsNamedPart (tree_of d) (tree_of named)
 unfolding file_in
 named_part d marks nodes named is m size each = subst (λ (x : TreeData). IsNamedPart (tree_of d) (tree_of x)) (sym is) (record {
-  ninodes = size ∙ m.size;
+  ninodes = refl;
   reached = λ n p. elim (cases_lt n (length marks)) [
     | inl lt ↦ each n lt ∙ copied_in d marks n (m.all n p)
     | inr ge ↦ get_or-eq_default nodes None (omega (arith, size, ge)) ∙ sym (at_none d n (omega (arith, m.size, ge)))
@@ -275,5 +275,5 @@ part_more t marks nodes more n v is size each e k lt = rw is (elim (cases_eq k n
   | inr ne ↦ get_or_front nodes v k (omega arith) ∙ each k (omega arith)
 ])
 
-pub named_copy : (d : TreeData) (marks seen : List Bool) (n : ℕ) (nodes : List (Option Node)) (named : TreeData) → named ≡ at_rest nodes → seen ≡ marks → MarksAll (tree_of d) marks → n ≡ length seen → (length nodes ≡ n) × ((k : ℕ) → k < n → get_or nodes k None ≡ part_at (tree_of d) seen k) → IsNamedPart (tree_of d) (tree_of named)
-named_copy d marks seen n nodes named is e m size x = named_part d seen nodes named is (subst (λ (s : List Bool). MarksAll (tree_of d) s) (sym e) m) (x.0 ∙ size) (λ k lt. x.1 k (omega (arith, size, lt)))
+pub named_copy : (d : TreeData) (marks seen : List Bool) (n : ℕ) (nodes : List (Option Node)) (named : TreeData) → named ≡ record (at_rest nodes) { ninodes = d.ninodes } → seen ≡ marks → MarksAll d marks → n ≡ length seen → (length nodes ≡ n) × ((k : ℕ) → k < n → get_or nodes k None ≡ part_at (tree_of d) seen k) → IsNamedPart (tree_of d) (tree_of named)
+named_copy d marks seen n nodes named is e m size x = named_part d seen nodes named is (subst (λ (s : List Bool). MarksAll d s) (sym e) m) (x.0 ∙ size) (λ k lt. x.1 k (omega (arith, size, lt)))

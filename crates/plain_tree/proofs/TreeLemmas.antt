@@ -1,7 +1,7 @@
 -- A tree's data changed in one place, and what its functions then say.
-use Rattle.std.proofs.Common.{◌^◌, ◌&&◌, nat_lt, Result, Ok, Err, MatchResult, ◌≡◌, ◌≢◌, ℕ, zero, suc, ◌+◌, ◌<◌, ◌≤◌, Bool, true, false, List, [], ◌∷◌, ◌++◌, length, take, get_or, ◌==◌, ◌⊎◌, inl, inr, refl, sym, ◌∙◌, ap, arith, Option, Some, None, get_or-set_other, get_or-set_same}
+use Rattle.std.proofs.Common.{◌^◌, ◌&&◌, nat_lt, Result, Ok, Err, MatchResult, ◌≡◌, ◌≢◌, ℕ, zero, suc, ◌+◌, ◌<◌, ◌≤◌, Bool, true, false, List, [], ◌∷◌, ◌++◌, length, take, get_or, ◌==◌, ◌⊎◌, inl, inr, refl, sym, ◌∙◌, ap, arith, Option, Some, None, replicate, get_or-set_other, get_or-set_same}
 use Rattle.std.proofs.Math.Path.{fun_ext}
-use Rattle.std.proofs.Math.ListN.{set, length-set, get_or-eq_default}
+use Rattle.std.proofs.Math.ListN.{set, get_or-eq_default}
 use Rattle.std.proofs.lemmas.List.{take_more, set-get_or}
 use Rattle.std.proofs.lemmas.Bool.{cases_eq, cases_Bool}
 use Rattle.std.proofs.lemmas.Bool.Decides.{nat_tests}
@@ -50,9 +50,18 @@ pub set_put : {A B : Type 0} (g : A → B) (xs : List A) (n : ℕ) (v : A) (d : 
 set_put g xs n v d h = fun_ext (set_at g xs n v d h)
 
 pub nodes_set : (d : TreeData) (n : ℕ) (v : Option Node) → n < length d.nodes → tree_of (record d { nodes = set d.nodes n v }) ≡ with_nodes (tree_of d) (put (tree_of d).nodes n v)
-nodes_set d n v h =
-    ap (λ (x : ℕ). record (tree_of (record d { nodes = set d.nodes n v })) { ninodes = x }) (length-set d.nodes n v)
-    ∙ ap (λ (f : ℕ → Option Node). with_nodes (tree_of d) f) (set_put {A = Option Node} {B = Option Node} (λ x. x) d.nodes n v None h)
+nodes_set d n v h = ap (λ (f : ℕ → Option Node). with_nodes (tree_of d) f) (set_put {A = Option Node} {B = Option Node} (λ x. x) d.nodes n v None h)
+
+-- a table with more empty places says the same nodes
+same_before : (ns : List (Option Node)) (n k : ℕ) → get_or (ns ++ replicate n None) k None ≡ get_or ns k None
+same_before [] zero k = refl
+same_before [] (suc n) zero = refl
+same_before [] (suc n) (suc k) = same_before [] n k
+same_before (v ∷ ns) n zero = refl
+same_before (v ∷ ns) n (suc k) = same_before ns n k
+
+pub nodes_grown : (d : TreeData) (ns : List (Option Node)) (n : ℕ) → ns ≡ d.nodes ++ replicate n None → tree_of (record d { nodes = ns }) ≡ tree_of d
+nodes_grown d ns n is = ap (λ (f : ℕ → Option Node). with_nodes (tree_of d) f) (fun_ext (λ k. ap (λ (xs : List (Option Node)). get_or xs k None) is ∙ same_before d.nodes n k))
 
 pub harts_set : (d : TreeData) (h : ℕ) (x : Hart) → h < length d.harts → tree_of (record d { harts = set d.harts h x }) ≡ record (tree_of d) { cwd = put (tree_of d).cwd h x.directory; fds = put (tree_of d).fds h (λ i. get_or x.descriptors i None); holds = put (tree_of d).holds h x.hold }
 harts_set d h x lt =

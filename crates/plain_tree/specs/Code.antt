@@ -3,14 +3,14 @@ use Rattle.std.specs.Prelude.{ℕ, ◌≡◌, ◌+◌, ◌^◌, ◌==◌, ◌&&�
 use Rattle.plain_tree.specs.declared.node.Node.{Node}
 use Rattle.plain_tree.specs.declared.node.Slot.{Slot}
 use Rattle.plain_tree.specs.declared.step.Action.{Action}
-use Rattle.plain_tree.specs.declared.step.Action.TheVariants.{Open}
+use Rattle.plain_tree.specs.declared.step.Action.TheVariants.{Open, Read}
 use Rattle.plain_tree.specs.declared.step.StepAnswer.{StepAnswer}
 use Rattle.plain_tree.specs.declared.step.StepAnswer.TheVariants.{Bytes}
 use Rattle.plain_tree.specs.declared.tree.OpenFile.{OpenFile}
 use Rattle.plain_tree.specs.declared.tree.OpenFileEntry.{OpenFileEntry}
 use Rattle.plain_tree.specs.Tree.{Name, Tree, tree_of, file_in, is_empty, and_then, is_named, settle}
 use Rattle.plain_tree.specs.TreeData.{TreeData}
-use Rattle.plain_tree.specs.Steps.{cleared, first_free, has_fd}
+use Rattle.plain_tree.specs.Steps.{cleared, file_at, first_free, has_fd}
 use Rattle.plain_tree.specs.Widths.{name_len}
 
 -- the element that these bytes are, if there are any, before the others
@@ -70,6 +70,16 @@ Advances t id by = (f : OpenFile) → and_then id (λ j. t.files j) ≡ Some f �
 abbrev pub read_count : StepAnswer → ℕ
 read_count (Bytes b) = length b
 read_count a = 0
+
+-- so many bytes after the offset of the open file end at a u64
+abbrev pub EndsWithin : Option OpenFile → ℕ → Type 0
+EndsWithin None by = Unit {0}
+EndsWithin (Some f) by = f.offset + by < 2 ^ 64
+
+-- what a read gives ends at a u64
+abbrev pub ReadsWithin : Tree → ℕ → Action → StepAnswer → Type 0
+ReadsWithin t h (Read fd n) a = EndsWithin (file_at t h fd) (read_count a)
+ReadsWithin t h s a = Unit {0}
 
 abbrev pub is_open : Action → Bool
 is_open (Open path flags) = true

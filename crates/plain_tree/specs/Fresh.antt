@@ -1,5 +1,5 @@
 -- A fresh tree, and what a list of steps answers.
-use Rattle.std.specs.Prelude.{ℕ, ◌-◌, List, [], ◌∷◌, Option, Some, None, replicate}
+use Rattle.std.specs.Prelude.{ℕ, ◌-◌, List, [], ◌∷◌, length, Option, Some, None, replicate}
 use Rattle.plain_tree.specs.declared.node.Node.{Node}
 use Rattle.plain_tree.specs.declared.node.Kind.TheVariants.{Directory}
 use Rattle.plain_tree.specs.declared.step.TreeStep.{TreeStep}
@@ -22,7 +22,7 @@ fresh_hart = record { directory = root; descriptors = replicate descriptor_count
 
 -- these nodes, with nothing open and all harts in the root
 abbrev pub at_rest : List (Option Node) → TreeData
-at_rest nodes = record { nodes = nodes; files = []; harts = replicate hart_count fresh_hart }
+at_rest nodes = record { ninodes = length nodes; nodes = nodes; files = []; harts = replicate hart_count fresh_hart }
 
 -- a root without names, and room for these numbers of nodes
 abbrev pub fresh : ℕ → TreeData

@@ -1,7 +1,8 @@
 -- Words in which the search for the named part is promised.
 use Rattle.std.specs.Prelude.{ℕ, ◌≡◌, ◌<◌, length, slice_index_or, Bool, true, false, List, Option, Some}
 use Rattle.plain_tree.specs.declared.node.Slot.{Slot}
-use Rattle.plain_tree.specs.Tree.{Name, Tree, first_slot, look}
+use Rattle.plain_tree.specs.TreeData.{TreeData}
+use Rattle.plain_tree.specs.Tree.{Name, Tree, tree_of, first_slot, look}
 use Rattle.plain_tree.specs.Explains.{IsReached}
 use Rattle.plain_tree.specs.Widths.{root}
 
@@ -42,13 +43,13 @@ pub record IsNext (t : Tree) (marks : List Bool) (n : ℕ) : Type 0 where
   pub new : LooksNew t marks directory n
 
 -- the marked numbers are reached, and the root is marked
-pub record MarksReached (t : Tree) (marks : List Bool) : Type 0 where
-  pub size : length marks ≡ t.ninodes
-  pub reached : (n : ℕ) → n < length marks → is_marked marks n ≡ true → IsReached t n
+pub record MarksReached (d : TreeData) (marks : List Bool) : Type 0 where
+  pub size : length marks ≡ length d.nodes
+  pub reached : (n : ℕ) → n < length marks → is_marked marks n ≡ true → IsReached (tree_of d) n
   pub start : is_marked marks root ≡ true
 
 -- exactly the reached numbers are marked
-pub record MarksAll (t : Tree) (marks : List Bool) : Type 0 where
-  pub size : length marks ≡ t.ninodes
-  pub reached : (n : ℕ) → n < length marks → is_marked marks n ≡ true → IsReached t n
-  pub all : (n : ℕ) → IsReached t n → is_marked marks n ≡ true
+pub record MarksAll (d : TreeData) (marks : List Bool) : Type 0 where
+  pub size : length marks ≡ length d.nodes
+  pub reached : (n : ℕ) → n < length marks → is_marked marks n ≡ true → IsReached (tree_of d) n
+  pub all : (n : ℕ) → IsReached (tree_of d) n → is_marked marks n ≡ true

@@ -1,5 +1,5 @@
 -- The plain tree: what a path names, and which nodes stay.
-use Rattle.std.specs.Prelude.{ℕ, zero, suc, Bool, true, false, ◌&&◌, ◌||◌, not, List, [], ◌∷◌, ◌++◌, take, map, filter, length, ◌==◌, nat_lt, if◌then◌else◌, Option, Some, None, slice_index_or}
+use Rattle.std.specs.Prelude.{ℕ, zero, suc, Bool, true, false, ◌&&◌, ◌||◌, not, List, [], ◌∷◌, ◌++◌, take, map, filter, ◌==◌, nat_lt, if◌then◌else◌, Option, Some, None, slice_index_or}
 use Rattle.plain_tree.specs.declared.node.Slot.{Slot}
 use Rattle.plain_tree.specs.declared.node.Node.{Node}
 use Rattle.plain_tree.specs.declared.node.Kind.{Kind}
@@ -16,7 +16,7 @@ abbrev pub Name : Type 0
 Name = List ℕ
 
 pub record Tree : Type 0 where
-  pub ninodes : ℕ  -- numbers of nodes are below it
+  pub ninodes : ℕ  -- the number of a new node is below it
   pub nodes : ℕ → Option Node
   pub files : ℕ → Option OpenFile  -- by id
   pub cwd : ℕ → ℕ  -- by hart
@@ -38,7 +38,7 @@ hart_at d h = slice_index_or d.harts h resting
 
 abbrev pub tree_of : TreeData → Tree
 tree_of d = record {
-  ninodes = length d.nodes;
+  ninodes = d.ninodes;
   nodes = λ n. slice_index_or d.nodes n None;
   files = λ id. file_in d.files id;
   cwd = λ h. (hart_at d h).directory;

@@ -1,7 +1,7 @@
 //! What a step that isn't refused changes, before the nodes that nothing keeps leave the tree.
-ghost use Rattle.std.specs.Prelude.{◌≡◌, ◌<◌, ◌||◌, true, not, IfOk, IfSome, MatchResult};
-ghost use Rattle.plain_tree.specs.Code.{HasFiles, is_open, with_name};
-ghost use Rattle.plain_tree.specs.Steps.{IsNewNode, answer_with, at_dir, at_hold, bump_refusal, closed, drop_hold, effect_with, enter_hold, entered, file_at, has, has_room, held, is_absent, lowered, lowest, made, makes_node, mkdir_refusal, moved, new_directory, new_file, node_at, opened_at, opened_in, opened_new, place_of, raise_hold, raised, read_write, refusal_with, removed, truncated, with_file, with_nodes, write_only, wrote};
+ghost use Rattle.std.specs.Prelude.{◌≡◌, ◌<◌, ◌||◌, length, true, not, IfOk, IfSome, MatchResult};
+ghost use Rattle.plain_tree.specs.Code.{Advances, HasFiles, ReadsWithin, is_open, with_name};
+ghost use Rattle.plain_tree.specs.Steps.{IsNewNode, answer_with, at_dir, at_hold, bump_refusal, closed, drop_hold, effect_with, enter_hold, entered, file_at, has, has_room, held, is_absent, lowered, lowest, made, makes_node, mkdir_refusal, moved, new_directory, new_file, node_at, opened_at, opened_in, opened_new, place_of, raise_hold, raised, read_write, refusal_with, removed, truncated, with_file, with_nodes, write_only, write_refusal, wrote};
 ghost use Rattle.plain_tree.specs.Tree.{file_in, live_directory, look, put, tree_of};
 
 use crate::answer_of::bytes_read;
@@ -9,7 +9,7 @@ use crate::bytes::Bytes;
 use crate::look::Found;
 use crate::node::{Kind, Node, Slot, Slots};
 use crate::refusal::has_flag;
-use crate::refused::{Attempt, NoMemory};
+use crate::refused::Attempt;
 use crate::step::{Action, StepAnswer};
 use crate::tree::{Hold, OpenFile, OpenFileEntry, Tree};
 use crate::widths::{CREATE, DOT, DOTDOT, READ_WRITE, WRITE_ONLY};
@@ -85,7 +85,8 @@ impl Tree {
     ) -> Attempt
         requires live { live_directory ((tree_of self.old).nodes directory) ≡ true }
         requires range { number < (tree_of self.old).ninodes }
-        ensures { MatchResult result (λ _. tree_of self.new ≡ with_nodes (tree_of self.old) (put (entered (tree_of self.old) directory name number).nodes number (Some node))) (λ _. self.new ≡ self.old) }
+        ensures tree { MatchResult result (λ _. tree_of self.new ≡ with_nodes (tree_of self.old) (put (entered (tree_of self.old) directory name number).nodes number (Some node))) (λ _. self.new ≡ self.old) }
+        ensures table { length self.new.nodes ≡ length self.old.nodes }
     {
         self.enter(alloc, usize::from(directory), name, number)?;
         self.set_node(usize::from(number), node);
@@ -179,24 +180,17 @@ impl Tree {
     }
 
     fn write_part(&mut self, alloc: Global, hart: u8, fd: u32, bytes: &[u8]) -> Attempt
+        requires { write_refusal (tree_of self.old) bytes.now (file_at (tree_of self.old) hart fd) ≡ None }
         ensures { MatchResult result (λ _. tree_of self.new ≡ wrote (tree_of self.old) hart fd bytes.now) (λ _. self.new ≡ self.old) }
     {
         if bytes.is_empty() {
             return Ok(());
         }
         let id = self.descriptor(hart, fd as usize);
-        let by = bytes.len() as u64;
-        if !self.can_advance(id, by) {
-            return Err(NoMemory);
-        }
         if let Some(file) = self.file_at(hart, fd) {
-            let number = usize::from(file.number);
-            if number >= self.ninodes() {
-                return Err(NoMemory);
-            }
-            self.overwrite(alloc, number, file.offset, bytes)?;
+            self.overwrite(alloc, usize::from(file.number), file.offset, bytes)?;
         }
-        self.advance(id, by);
+        self.advance(id, bytes.len() as u64);
         Ok(())
     }
 
@@ -207,9 +201,7 @@ impl Tree {
             return Ok(());
         };
         let number = usize::from(file.number);
-        if number >= self.ninodes() {
-            return Err(NoMemory);
-        }
+        self.reach(number)?;
         self.empty(alloc, number);
         Ok(())
     }
@@ -243,9 +235,7 @@ impl Tree {
             return Ok(());
         };
         let number_at = usize::from(number);
-        if number_at >= self.ninodes() {
-            return Err(NoMemory);
-        }
+        self.reach(number_at)?;
         let lowers = self.is_directory(number);
         self.clear(alloc, usize::from(directory), name, lowers);
         self.lower(alloc, number_at);
@@ -277,9 +267,7 @@ impl Tree {
             return Ok(());
         };
         let number = usize::from(hold.number);
-        if number >= self.ninodes() {
-            return Err(NoMemory);
-        }
+        self.reach(number)?;
         self.raise(alloc, number);
         self.set_hold(
             hart,
@@ -312,9 +300,7 @@ impl Tree {
     {
         if let Some(hold) = self.hold(hart) {
             let number = usize::from(hold.number);
-            if number >= self.ninodes() {
-                return Err(NoMemory);
-            }
+            self.reach(number)?;
             self.lower(alloc, number);
         }
         self.set_hold(hart, None);
@@ -349,15 +335,12 @@ impl Tree {
         self.close_orphans();
     }
 
-    fn read(&mut self, hart: u8, fd: u32, count: u64) -> Attempt
-        ensures { MatchResult result (λ _. tree_of self.new ≡ moved (tree_of self.old) ((tree_of self.old).fds hart fd) count) (λ _. self.new ≡ self.old) }
+    fn read(&mut self, hart: u8, fd: u32, count: u64)
+        requires { Advances (tree_of self.old) ((tree_of self.old).fds hart fd) count }
+        ensures { tree_of self.new ≡ moved (tree_of self.old) ((tree_of self.old).fds hart fd) count }
     {
         let id = self.descriptor(hart, fd as usize);
-        if !self.can_advance(id, count) {
-            return Err(NoMemory);
-        }
         self.advance(id, count);
-        Ok(())
     }
 
     /// The change that the action makes, where it has its place and isn't refused. `answer` is what it answers.
@@ -379,6 +362,7 @@ impl Tree {
         requires new { makes_node (tree_of self.old) action.now (with_name found.now.parent found.now.name.now) ≡ true → IsNewNode (tree_of self.old) number }
         requires unused { is_open action.now ≡ true → (tree_of self.old).files id ≡ None }
         requires answer { answer.now ≡ answer_with (tree_of self.old) hart action.now found.now.node (with_name found.now.parent found.now.name.now) id }
+        requires fits { ReadsWithin (tree_of self.old) hart action.now answer.now }
         ensures { MatchResult result (λ _. tree_of self.new ≡ effect_with (tree_of self.old) hart action.now found.now.node (with_name found.now.parent found.now.name.now) number id) (λ _. self.new ≡ self.old) }
     {
         match action {
@@ -395,7 +379,10 @@ impl Tree {
                 alloc, hart, found.node, *flags, number, id,
             ),
             Action::Truncate { fd } => self.truncate(alloc, hart, *fd),
-            Action::Read { fd, .. } => self.read(hart, *fd, bytes_read(answer)),
+            Action::Read { fd, .. } => {
+                self.read(hart, *fd, bytes_read(answer));
+                Ok(())
+            }
             Action::WritePart { fd, bytes } => self.write_part(alloc, hart, *fd, bytes.as_slice()),
             Action::Find { .. } => {
                 self.find(hart, found.node);

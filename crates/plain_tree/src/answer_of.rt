@@ -1,6 +1,6 @@
 //! What a step that isn't refused answers.
-ghost use Rattle.std.specs.Prelude.{◌≡◌, IfOk, take, drop};
-ghost use Rattle.plain_tree.specs.Code.{read_count, with_name};
+ghost use Rattle.std.specs.Prelude.{◌≡◌, ◌+◌, ◌^◌, ◌<◌, IfOk, length, take, drop};
+ghost use Rattle.plain_tree.specs.Code.{EndsWithin, ReadsWithin, read_count, with_name};
 ghost use Rattle.plain_tree.specs.Steps.{answer_with, opened, size_of, opens_file, part, stat_answer, stat_of, type_of};
 ghost use Rattle.plain_tree.specs.Tree.{and_then, look, tree_of};
 
@@ -18,7 +18,8 @@ use std::alloc::Global;
 
 /// So many bytes from the offset on, as far as there are.
 fn cut_out(alloc: Global, bytes: &[u8], offset: u64, count: usize) -> Attempt<Vec<u8>>
-    ensures { IfOk result (λ v. v.items ≡ take count (drop offset bytes.now)) }
+    ensures bytes { IfOk result (λ v. v.items ≡ take count (drop offset bytes.now)) }
+    ensures within { IfOk result (λ v. offset + length v.items < 2 ^ 64) }
 {
     let start = if offset < bytes.len() as u64 {
         offset as usize
@@ -66,7 +67,8 @@ pub(crate) fn bytes_read(answer: &StepAnswer) -> u64
 
 impl Tree {
     fn part(&self, alloc: Global, file: Option<OpenFile>, count: usize) -> Attempt<Vec<u8>>
-        ensures { IfOk result (λ v. v.items ≡ part (tree_of self.now) file count) }
+        ensures bytes { IfOk result (λ v. v.items ≡ part (tree_of self.now) file count) }
+        ensures within { IfOk result (λ v. EndsWithin file (length v.items)) }
     {
         let Some(file) = file else {
             return Ok(Vec::new(alloc));
@@ -150,7 +152,8 @@ impl Tree {
         found: &Found,
         id: usize,
     ) -> Attempt<StepAnswer>
-        ensures { IfOk result (λ a. a ≡ answer_with (tree_of self.now) hart action.now found.now.node (with_name found.now.parent found.now.name.now) id) }
+        ensures answer { IfOk result (λ a. a ≡ answer_with (tree_of self.now) hart action.now found.now.node (with_name found.now.parent found.now.name.now) id) }
+        ensures within { IfOk result (λ a. ReadsWithin (tree_of self.now) hart action.now a) }
     {
         match action {
             Action::Open { flags, .. } if has_flag(*flags, CREATE) => Ok(self.opened(

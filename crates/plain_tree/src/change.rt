@@ -1,5 +1,5 @@
 //! A tree changed in one place.
-ghost use Rattle.std.specs.Prelude.{◌≡◌, ◌+◌, ◌-◌, ◌<◌, ◌++◌, take, drop, length, true, IfOk, MatchOption, MatchResult, if◌then◌else◌};
+ghost use Rattle.std.specs.Prelude.{◌≡◌, ◌+◌, ◌-◌, ◌<◌, ◌≤◌, ◌^◌, ◌++◌, take, drop, length, true, IfOk, MatchOption, MatchResult, if◌then◌else◌};
 ghost use Rattle.plain_tree.specs.Steps.{at_node, cleared, emptied, entered, lowered, node_at, raised, written_kind};
 ghost use Rattle.plain_tree.specs.Tree.{live_directory, put, slots_of, tree_of};
 ghost use Rattle.plain_tree.specs.declared.node.Kind.TheVariants.{Directory, File};
@@ -64,7 +64,7 @@ fn fewer(count: u16, lowers: bool) -> u16
 impl Tree {
     /// One name more.
     pub(crate) fn raise(&mut self, alloc: Global, number: usize)
-        requires range { number < (tree_of self.old).ninodes }
+        requires place { number < length self.old.nodes }
         requires few { (node_at (tree_of self.old) number).count < 32767 }
         ensures { tree_of self.new ≡ at_node (tree_of self.old) number raised }
     {
@@ -80,7 +80,7 @@ impl Tree {
 
     /// One name less.
     pub(crate) fn lower(&mut self, alloc: Global, number: usize)
-        requires { number < (tree_of self.old).ninodes }
+        requires { number < length self.old.nodes }
         ensures { tree_of self.new ≡ at_node (tree_of self.old) number lowered }
     {
         let Node { count, kind } = self.take_node(alloc, number);
@@ -95,7 +95,7 @@ impl Tree {
 
     /// A file without bytes.
     pub(crate) fn empty(&mut self, alloc: Global, number: usize)
-        requires { number < (tree_of self.old).ninodes }
+        requires { number < length self.old.nodes }
         ensures { tree_of self.new ≡ at_node (tree_of self.old) number (λ v. record v { kind = emptied v.kind }) }
     {
         let Node { count, kind } = self.take_node(alloc, number);
@@ -136,12 +136,13 @@ impl Tree {
         offset: u64,
         bytes: &[u8],
     ) -> Attempt
-        requires { number < (tree_of self.old).ninodes }
+        requires { number < 2 ^ 16 }
         ensures { MatchResult result (λ _. tree_of self.new ≡ at_node (tree_of self.old) number (λ v. record v { kind = written_kind v.kind offset bytes.now })) (λ _. self.new ≡ self.old) }
     {
         let Some(new) = self.rewritten(alloc, number, offset, bytes)? else {
             return Ok(());
         };
+        self.reach(number)?;
         let count = self.take_node(alloc, number).count;
         let kind = Kind::File {
             bytes: Bytes::new(new),
@@ -159,7 +160,8 @@ impl Tree {
         number: u16,
     ) -> Attempt
         requires { live_directory ((tree_of self.old).nodes directory) ≡ true }
-        ensures { MatchResult result (λ _. tree_of self.new ≡ entered (tree_of self.old) directory name number) (λ _. self.new ≡ self.old) }
+        ensures tree { MatchResult result (λ _. tree_of self.new ≡ entered (tree_of self.old) directory name number) (λ _. self.new ≡ self.old) }
+        ensures table { (length self.new.nodes ≡ length self.old.nodes) × (self.new.ninodes ≤ length self.new.nodes) }
     {
         let Node { count, kind } = self.take_node(alloc, directory);
         let mut slots = into_slots(alloc, kind);
@@ -173,8 +175,9 @@ impl Tree {
 
     /// A directory with the first slot of that name free, and one name less where it says so.
     pub(crate) fn clear(&mut self, alloc: Global, directory: usize, name: &[u8], lowers: bool)
-        requires { directory < (tree_of self.old).ninodes }
-        ensures { tree_of self.new ≡ at_node (tree_of self.old) directory (λ v. record v { kind = Directory (cleared (slots_of v.kind) name.now); count = if lowers then v.count - 1 else v.count }) }
+        requires { directory < length self.old.nodes }
+        ensures table { length self.new.nodes ≡ length self.old.nodes }
+        ensures tree { tree_of self.new ≡ at_node (tree_of self.old) directory (λ v. record v { kind = Directory (cleared (slots_of v.kind) name.now); count = if lowers then v.count - 1 else v.count }) }
     {
         let Node { count, kind } = self.take_node(alloc, directory);
         let mut slots = into_slots(alloc, kind);

@@ -49,8 +49,7 @@ fn all_written(calls: &[TracedCall], list: &[Placed]) -> bool
 
 /// The list of tree steps explains the trace from this tree: the numbers never fall, each step leads on from the
 /// one before, each call has its steps and its reply, and no entry belongs to anything else. The steps are made on a
-/// copy of the tree. The error is that memory is short for the copy or for a step, or that a step which the list
-/// leads to would change a node past the table, as `ApplyRefused::NoMemory` says.
+/// copy of the tree. The error is that memory is short for the copy or for a step.
 pub fn check(alloc: Global, base: &Tree, trace: &Trace, list: &[Placed]) -> Result<bool, NoMemory>
     ensures { IfOk result (λ b. IsTrue b ↔ Explains base.now trace.now list.now) }
 {

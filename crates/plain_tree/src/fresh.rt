@@ -1,20 +1,24 @@
 //! The parts of a fresh tree.
-ghost use Rattle.std.specs.Prelude.{◌≡◌, ◌++◌, ◌-◌, ◌∷◌, IfOk, replicate};
+ghost use Rattle.std.specs.Prelude.{◌≡◌, ◌++◌, ◌-◌, ◌∷◌, IfOk, MatchResult, replicate};
 ghost use Rattle.plain_tree.specs.Fresh.{fresh_hart, fresh_root};
 
 use crate::act::slot;
 use crate::node::{Kind, Node, Slots};
-use crate::refused::Attempt;
+use crate::refused::{Attempt, NoMemory};
 use crate::tree::Hart;
 use crate::widths::{DESCRIPTOR_COUNT, DOT, DOTDOT, FRESH_SLOTS, ROOT};
 use std::alloc::Global;
 
 /// Adds so many places with nothing in them.
-fn push_absent<T: Drop>(places: &mut Vec<Option<T>>, count: usize) -> Attempt
-    ensures { IfOk result (λ _. places.new.items ≡ places.old.items ++ replicate count None) }
+pub(crate) fn push_absent<T: Drop>(places: &mut Vec<Option<T>>, count: usize) -> Attempt
+    ensures { MatchResult result (λ _. places.new.items ≡ places.old.items ++ replicate count None) (λ _. places.new.items ≡ places.old.items) }
 {
+    let len = places.len();
     for _ in 0..count {
-        places.push(None)?;
+        if places.push(None).is_err() {
+            places.truncate(len);
+            return Err(NoMemory);
+        }
     }
     Ok(())
 }

@@ -40,8 +40,8 @@ impl Tree {
     }
 }
 
-/// Each step leads on from the tree that the one before it left. The error is that of the copy, or of the first step
-/// that `apply` refuses with `NoMemory`.
+/// Each step leads on from the tree that the one before it left. The error is that memory is short for the copy or
+/// for a step.
 pub(crate) fn leads(alloc: Global, base: &Tree, list: &[Placed]) -> Attempt<bool>
     ensures { IfOk result (λ b. IsTrue b ↔ Leads (tree_of base.now) list.now) }
 {

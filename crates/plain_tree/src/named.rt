@@ -77,9 +77,9 @@ impl Tree {
 
     /// Marks on the numbers that a path from the root leads to.
     fn reached(&self, alloc: Global) -> Attempt<Vec<bool>>
-        ensures { IfOk result (λ v. MarksAll (tree_of self.now) v.items) }
+        ensures { IfOk result (λ v. MarksAll self.now v.items) }
     {
-        let mut marks = no_marks(alloc, self.ninodes())?;
+        let mut marks = no_marks(alloc, self.table_len())?;
         if usize::from(ROOT) < marks.len() {
             marks[usize::from(ROOT)] = true;
         }
@@ -112,6 +112,6 @@ impl Tree {
                 nodes.push(None)?;
             }
         }
-        Ok(Tree::of_nodes(alloc, nodes))
+        Ok(self.at_rest(alloc, nodes))
     }
 }

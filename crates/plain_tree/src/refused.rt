@@ -1,8 +1,7 @@
 //! Why the tree gives no answer.
 use std::alloc::{AllocError, AllocFailed};
 
-/// Memory is short; or a step was to change a node past the tree's table, as `ApplyRefused` says. What was asked for
-/// changed nothing.
+/// Memory is short. What was asked for changed nothing.
 #[derive(Clone, Copy, PartialEq, Eq, Debug)]
 pub struct NoMemory;
 
@@ -24,10 +23,8 @@ impl<T: Drop> From<AllocFailed<T>> for NoMemory {
 /// Why a step was not made. The tree is as it was.
 #[derive(Clone, Copy, PartialEq, Eq, Debug)]
 pub enum ApplyRefused {
-    /// Memory is short for the step. Or the step is to change a node whose number isn't below `ninodes`: the one
-    /// that it unlinks, the one whose count it raises for a link, or that of the file which it empties or writes
-    /// bytes to. No tree that `Tree::new` and steps make should lead there; one of `Tree::of_nodes` does where a slot
-    /// has such a number, or where the table has no place for the root.
+    /// Memory is short for the step. A step may change a node whose number isn't below `ninodes`, as one of
+    /// `Tree::of_nodes` does where a slot has such a number: then it asks for the places up to that node too.
     NoMemory,
     /// The step makes a node, and its number is 0, past the last or already in the tree.
     BadChoice,

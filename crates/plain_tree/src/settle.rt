@@ -107,7 +107,7 @@ impl Tree {
     pub(crate) fn settle(&mut self)
         ensures { tree_of self.new ≡ settle (tree_of self.old) }
     {
-        for number in 0..self.ninodes() {
+        for number in 0..self.table_len() {
             if self.is_lost(number) {
                 self.drop_node(number);
             }

@@ -1,12 +1,12 @@
 //! The tree.
-ghost use Rattle.std.specs.Prelude.{◌≡◌, ◌<◌, ◌++◌, ◌∷◌, [], length, replicate, IfOk, MatchOption, MatchResult, remove, slice_index_or, slice_set, true};
+ghost use Rattle.std.specs.Prelude.{◌≡◌, ◌<◌, ◌≤◌, ◌^◌, ◌++◌, ◌∷◌, [], length, replicate, IfOk, MatchOption, MatchResult, OnErr, OnOk, remove, slice_index_or, slice_set, true};
 ghost use Rattle.plain_tree.specs.Code.{Advances, HasFiles, IsEntryOf, IsOrphan};
 ghost use Rattle.plain_tree.specs.Fresh.{at_rest, fresh};
 ghost use Rattle.plain_tree.specs.Steps.{IsLeastUnused, closed, moved, node_at, with_nodes};
 ghost use Rattle.plain_tree.specs.Tree.{file_in, hart_at, put, tree_of};
 
 use crate::bytes::Bytes;
-use crate::fresh::{fresh_hart, fresh_nodes};
+use crate::fresh::{fresh_hart, fresh_nodes, push_absent};
 use crate::node::{Kind, Node};
 use crate::refused::{Attempt, NoMemory};
 use crate::widths::{DESCRIPTOR_COUNT, HART_COUNT, ROOT};
@@ -46,8 +46,10 @@ pub struct Hart {
 }
 
 /// The nodes by their numbers (number 0 names none), the open files, and the harts. A contract reads it by `tree_of`.
+/// New nodes have numbers below `ninodes`. The table grows past it where a step changes a node past the table's end.
 #[derive(Drop)]
 pub struct Tree {
+    ninodes: usize,
     nodes: Vec<Option<Node>>,
     files: Vec<OpenFileEntry>,
     harts: [Hart; HART_COUNT as usize],
@@ -58,11 +60,11 @@ impl Model for Tree {
 
     ghost Value = { TreeData };
 
-    ghost use Rattle.std.specs.Prelude.{◌≡◌, length};
+    ghost use Rattle.std.specs.Prelude.{◌≡◌, ◌≤◌, length};
 
-    ghost view = { λ t. record { nodes = t.nodes.items; files = t.files.items; harts = t.harts } };
+    ghost view = { λ t. record { ninodes = t.ninodes; nodes = t.nodes.items; files = t.files.items; harts = t.harts } };
 
-    ghost invariant = { λ t. length t.harts ≡ 8 };
+    ghost invariant = { λ t. (t.ninodes ≤ length t.nodes.items) × (length t.harts ≡ 8) };
 }
 
 /// Where the first entry of that id stands.
@@ -91,17 +93,52 @@ impl Tree {
         ensures { result ≡ at_rest nodes.items }
     {
         Tree {
+            ninodes: nodes.len(),
             nodes,
             files: Vec::new(alloc),
             harts: [fresh_hart(); HART_COUNT as usize],
         }
     }
 
-    /// The numbers of nodes are below it.
+    /// The numbers of new nodes are below it.
     pub fn ninodes(&self) -> usize
         ensures { result ≡ (tree_of self.now).ninodes }
     {
+        self.ninodes
+    }
+
+    /// These nodes in a table of the same length. Nothing is open, and all harts are in the root.
+    pub(crate) fn at_rest(&self, alloc: Global, nodes: Vec<Option<Node>>) -> Tree
+        requires { length nodes.items ≡ length self.now.nodes }
+        ensures { result ≡ record (at_rest nodes.items) { ninodes = self.now.ninodes } }
+    {
+        Tree {
+            ninodes: self.ninodes,
+            nodes,
+            files: Vec::new(alloc),
+            harts: [fresh_hart(); HART_COUNT as usize],
+        }
+    }
+
+    /// How many places the table has.
+    pub(crate) fn table_len(&self) -> usize
+        ensures { result ≡ length self.now.nodes }
+    {
         self.nodes.len()
+    }
+
+    /// Has a place for the number: the table grows to it where it ends before.
+    pub(crate) fn reach(&mut self, number: usize) -> Attempt
+        requires { number < 2 ^ 16 }
+        ensures tree { tree_of self.new ≡ tree_of self.old }
+        ensures place { OnOk result (number < length self.new.nodes) }
+        ensures err { OnErr result (self.new ≡ self.old) }
+    {
+        let len = self.nodes.len();
+        if number >= len {
+            push_absent(&mut self.nodes, number + 1 - len)?;
+        }
+        Ok(())
     }
 
     /// The node of that number.
@@ -185,7 +222,7 @@ impl Tree {
 
     /// Takes the node out; an empty file where there is none.
     pub(crate) fn take_node(&mut self, alloc: Global, number: usize) -> Node
-        requires { number < (tree_of self.old).ninodes }
+        requires { number < length self.old.nodes }
         ensures node { result ≡ node_at (tree_of self.old) number }
         ensures rest { tree_of self.new ≡ with_nodes (tree_of self.old) (put (tree_of self.old).nodes number None) }
         ensures place { self.new ≡ record self.old { nodes = slice_set self.old.nodes number None } }
@@ -204,17 +241,19 @@ impl Tree {
 
     /// Puts the node in its place.
     pub(crate) fn set_node(&mut self, number: usize, node: Node)
-        requires { number < (tree_of self.old).ninodes }
+        requires { number < length self.old.nodes }
         ensures tree { tree_of self.new ≡ with_nodes (tree_of self.old) (put (tree_of self.old).nodes number (Some node)) }
         ensures place { self.new ≡ record self.old { nodes = slice_set self.old.nodes number (Some node) } }
+        ensures table { self.new.ninodes ≤ length self.new.nodes }
     {
         self.nodes[number] = Some(node);
     }
 
     /// The node goes.
     pub(crate) fn drop_node(&mut self, number: usize)
-        requires { number < (tree_of self.old).ninodes }
-        ensures { tree_of self.new ≡ with_nodes (tree_of self.old) (put (tree_of self.old).nodes number None) }
+        requires { number < length self.old.nodes }
+        ensures tree { tree_of self.new ≡ with_nodes (tree_of self.old) (put (tree_of self.old).nodes number None) }
+        ensures table { length self.new.nodes ≡ length self.old.nodes }
     {
         self.nodes[number] = None;
     }
@@ -239,19 +278,6 @@ impl Tree {
         ensures { tree_of self.new ≡ record (tree_of self.old) { files = λ k. file_in files.items k } }
     {
         self.files = files;
-    }
-
-    /// The offset can move on by so much.
-    pub(crate) fn can_advance(&self, id: Option<usize>, by: u64) -> bool
-        ensures { result ≡ true → Advances (tree_of self.now) id by }
-    {
-        let Some(id) = id else {
-            return true;
-        };
-        match self.file(id) {
-            Some(file) => file.offset <= u64::MAX - by,
-            None => true,
-        }
     }
 
     /// Moves the offset of the open file on, where there is one.
@@ -305,6 +331,7 @@ impl Tree {
         ensures { IfOk result (λ t. t ≡ self.now) }
     {
         Ok(Tree {
+            ninodes: self.ninodes,
             nodes: self.nodes.clone()?,
             files: Vec::from_slice(alloc, &self.files)?,
             harts: self.harts,

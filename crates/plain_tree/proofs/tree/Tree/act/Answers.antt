@@ -2,7 +2,7 @@ use Rattle.std.proofs.Common.{ap, ◌∙◌, ◌≡◌, length}
 use Rattle.plain_tree.specs.Tree.{tree_of}
 use Rattle.plain_tree.specs.Steps.{answer_with, effect_with, part, file_at, refusal_with}
 use Rattle.plain_tree.specs.Code.{read_count, with_name}
-use Rattle.plain_tree.proofs.ActLemmas.{dup_room, close_below, child_below}
+use Rattle.plain_tree.proofs.ActLemmas.{dup_room, close_below, child_below, read_advances}
 use Rattle.plain_tree.proofs.tree.Tree.act.Goals as goal
 
 pub returns-in-Read : goal.returns-in-Read
@@ -11,6 +11,14 @@ returns-in-Read c =
     let said : c.bytes_read.result ≡ read_count (answer_with (tree_of c.args.self.now) c.args.hart c.args.action.now c.args.found.now.node (with_name c.args.found.now.parent c.args.found.now.name.now) c.args.id) = c.bytes_read.ensures ∙ ap read_count c.requires.answer in
     let count : c.bytes_read.result ≡ length (part (tree_of c.args.self.now) (file_at (tree_of c.args.self.now) c.args.hart c.in-Read.fd) c.in-Read.count) = rw c.in-Read.is at said in
     rw (c.in-Read.is, ← count) c.read.ensures
+
+pub read-requires : goal.read-requires
+unfolding refusal_with
+read-requires c = read_advances (tree_of c.args.self.now) c.args.hart c.in-Read.fd c.bytes_read.result c.args.answer.now (rw c.in-Read.is at c.requires.none) (rw c.in-Read.is at c.requires.fits) c.bytes_read.ensures
+
+pub write_part-requires : goal.write_part-requires
+unfolding refusal_with
+write_part-requires c = rw c.as_slice.ensures (rw c.in-WritePart.is at c.requires.none)
 
 pub bump-requires-clause-none : goal.bump-requires-clause-none
 unfolding refusal_with

@@ -7,8 +7,8 @@ use Rattle.plain_tree.specs.Steps.{cleared}
 use Rattle.plain_tree.proofs.TreeLemmas.{changed}
 use Rattle.plain_tree.proofs.tree.Tree.clear.Goals as goal
 
-pub returns : goal.returns
-returns c =
+pub returns-clause-tree : goal.returns-clause-tree
+returns-clause-tree c =
     let x : Node = c.take_node-count.result in
     changed (tree_of c.args.self.now) (tree_of c.take_node-count.new.self) (tree_of c.set_node.new.self) c.args.directory
     (λ v. record { kind = Directory (cleared (slots_of v.kind) c.args.name.now); count = if c.args.lowers then v.count - 1 else v.count })

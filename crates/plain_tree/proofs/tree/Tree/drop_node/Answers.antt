@@ -2,5 +2,5 @@ use Rattle.std.proofs.Common.{None}
 use Rattle.plain_tree.proofs.TreeLemmas.{nodes_set}
 use Rattle.plain_tree.proofs.tree.Tree.drop_node.Goals as goal
 
-pub returns : goal.returns
-returns c = rw (← c.self.view_is) (nodes_set (record { nodes = c.self.inside.nodes.items; files = c.self.inside.files.items; harts = c.self.inside.harts }) c.args.number None (rw (← c.self.view_is) at c.requires))
+pub returns-clause-tree : goal.returns-clause-tree
+returns-clause-tree c = rw (← c.self.view_is) (nodes_set (record { ninodes = c.self.inside.ninodes; nodes = c.self.inside.nodes.items; files = c.self.inside.files.items; harts = c.self.inside.harts }) c.args.number None (rw (← c.self.view_is) at c.requires))

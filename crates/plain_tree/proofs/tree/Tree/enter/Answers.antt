@@ -10,8 +10,8 @@ use Rattle.plain_tree.proofs.tree.Tree.enter.Goals as goal
 pub take_node-count-requires : goal.take_node-count-requires
 take_node-count-requires c = live_below c.args.self.now c.args.directory c.requires
 
-pub returns : goal.returns
-returns c =
+pub returns-clause-tree : goal.returns-clause-tree
+returns-clause-tree c =
     let x : Node = c.take_node-count.result in
     let s : Slot = record { name = c.args.name; number = c.args.number } in
     on_result c.enter_slot-entered.result

@@ -1,10 +1,9 @@
-use Rattle.plain_tree.specs.Tree.{tree_of}
 use Rattle.plain_tree.specs.Marks.{MarksReached}
 use Rattle.plain_tree.proofs.MarkLemmas.{unmarked}
 use Rattle.plain_tree.proofs.tree.Tree.reached.Given as goal
 
 abbrev pub invariant-loop-number : goal.invariant-loop-number
-invariant-loop-number l = MarksReached (tree_of l.self) l.marks.items
+invariant-loop-number l = MarksReached l.self l.marks.items
 
 abbrev pub decreases-loop-number : goal.decreases-loop-number
 decreases-loop-number l = unmarked l.marks.items

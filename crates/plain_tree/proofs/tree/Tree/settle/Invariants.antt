@@ -1,7 +1,7 @@
-use Rattle.std.proofs.Common.{◌≡◌}
+use Rattle.std.proofs.Common.{◌≡◌, length}
 use Rattle.plain_tree.specs.Tree.{tree_of}
 use Rattle.plain_tree.specs.Code.{settled_below}
 use Rattle.plain_tree.proofs.tree.Tree.settle.Given as goal
 
 abbrev pub invariant-loop-number : goal.invariant-loop-number
-invariant-loop-number l = (tree_of l.self ≡ settled_below l.number (tree_of l.fn.self))
+invariant-loop-number l = (tree_of l.self ≡ settled_below l.number (tree_of l.fn.self)) × (length l.self.nodes ≡ length l.fn.self.nodes)

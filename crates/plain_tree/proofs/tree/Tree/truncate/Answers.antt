@@ -1,0 +1,6 @@
+use Rattle.plain_tree.specs.Tree.{tree_of}
+use Rattle.plain_tree.proofs.ActLemmas.{emptied_far}
+use Rattle.plain_tree.proofs.tree.Tree.truncate.Goals as goal
+
+pub returns : goal.returns
+returns c = emptied_far (tree_of c.args.self.now) (tree_of c.reach.new.self) (tree_of c.empty.new.self) c.from-number.result c.in-Some.file _ c.in_ok-reach.ensures.tree c.empty.ensures c.from-number.ensures c.in-Some.ensures
