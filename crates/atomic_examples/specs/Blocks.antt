@@ -131,7 +131,8 @@ pub record Shows (r : World) (g : above.World) : Type 0 where
 -- nothing of the hart's changed: what its locks and its buffers protect, and whether it is in a transaction
 pub record Same (h : ℕ) (v w : World) : Type 0 where
   pub inodes : (i : ℕ) → if_held (w.lock i) h (at w.cell i) ≡ if_held (v.lock i) h (at v.cell i)
-  pub buffers : (b : ℕ) → if_held {A = Block × Bool} (w.out b) h (w.cell b, w.valid b) ≡ if_held {A = Block × Bool} (v.out b) h (v.cell b, v.valid b)
+  pub buffers : (b : ℕ) → if_held {A = Block × Bool} (w.out b) h (w.cell b, w.valid b)
+      ≡ if_held {A = Block × Bool} (v.out b) h (v.cell b, v.valid b)
   pub txn : w.txn h ≡ v.txn h
   pub parts : (i : ℕ) → if_held (w.lock i) h (w.part i) ≡ if_held (v.lock i) h (v.part i)
 
@@ -214,7 +215,8 @@ module _ (M : Type 0) where
 
   abbrev pub handler : Carry → (op : above.Op) → (above.Answer op → Option M) → P (Handover (above.Answer op) Carry)
   handler hand (above.Take i) m = Do (Lock i) (λ _. act (above.Take i) m) (λ r. bind (load_or i r) (λ d. Ret (with_record hand i d)))
-  handler hand (above.Store i d) m = bind (fetch (i / 16)) (λ z. holding (put hand i (Some d)) (once (Put (i / 16) (Some (put z (i % 16) d))) (λ _. act (above.Store i d) m)))
+  handler hand (above.Store i d) m = bind (fetch (i / 16))
+      (λ z. holding (put hand i (Some d)) (once (Put (i / 16) (Some (put z (i % 16) d))) (λ _. act (above.Store i d) m)))
   handler hand (above.Give i) m = holding (put hand i None) (once (Unlock i (record_of (hand i))) (λ _. act (above.Give i) m))
   handler hand above.Enter m = holding hand (once Join (λ _. act above.Enter m))
   handler hand above.Exit m = holding hand (once Leave (λ _. act above.Exit m))

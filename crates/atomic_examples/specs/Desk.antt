@@ -50,7 +50,8 @@ Happens t h (Gave j x) u = (x ≡ t.tokens h) × (u ≡ record t { tokens = chan
 
 abbrev pub serve_if : ℕ → World → Slot → Did Bool World
 serve_if j w Empty = Ran false w
-serve_if j w (Asked n) = Ran true (record w { book = record { number = n; tokens = w.book.tokens }; slots = changed w.slots j (Served w.book.number) })
+serve_if j w (Asked n) =
+    Ran true (record w { book = record { number = n; tokens = w.book.tokens }; slots = changed w.slots j (Served w.book.number) })
 serve_if j w (Served old) = Ran false w
 
 abbrev pub collect_if : ℕ → World → Slot → Did ℕ World

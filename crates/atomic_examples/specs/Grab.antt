@@ -182,7 +182,8 @@ pub record Shows (r : World) (g : Above) : Type 0 where
 pub record Same (h : ℕ) (v w : World) : Type 0 where
   pub locks : (i : ℕ) → if_held (w.lock i) h i ≡ if_held (v.lock i) h i
   pub bits : if_held w.bits_out h w.bits ≡ if_held v.bits_out h v.bits
-  pub blocks : (c : ℕ) → if_held {A = Option ℕ × ℕ} (holder w c) h (w.owner c, w.block c) ≡ if_held {A = Option ℕ × ℕ} (holder v c) h (v.owner c, v.block c)
+  pub blocks : (c : ℕ) → if_held {A = Option ℕ × ℕ} (holder w c) h (w.owner c, w.block c)
+      ≡ if_held {A = Option ℕ × ℕ} (holder v c) h (v.owner c, v.block c)
 
 -- a block of the hart's is above as below
 abbrev pub TiedAt : ℕ → ℕ → World → Above → Type 0
@@ -193,7 +194,23 @@ pub record Base (h : ℕ) (r : World) (g : Above) : Type 0 where
   pub tied : (c : ℕ) → holder r c ≡ Some h → TiedAt h c r g
 
 abbrev pub low : Lower Above
-low = record { Op = LowOp; Answer = LowAnswer; World = World; Outside = Unit {0}; Honest = λ h op w x. Unit {0}; May = low_may; exec = exec; MayWait = waits; Shows = Shows; Halted = Shows; Same = Same; Kept = Kept; Carry = Unit {0}; none = tt; Base = λ h r g hand. Base h r g }
+low = record {
+  Op = LowOp;
+  Answer = LowAnswer;
+  World = World;
+  Outside = Unit {0};
+  Honest = λ h op w x. Unit {0};
+  May = low_may;
+  exec = exec;
+  MayWait = waits;
+  Shows = Shows;
+  Halted = Shows;
+  Same = Same;
+  Kept = Kept;
+  Carry = Unit {0};
+  none = tt;
+  Base = λ h r g hand. Base h r g;
+}
 
 abbrev pub first : (ℕ → Bool) → ℕ → ℕ → Option ℕ
 first z k zero = None
@@ -222,7 +239,10 @@ grabs_above = lowered_calls (operations_of grabs core) low handler (λ h i busy 
 
 -- all blocks are free
 abbrev pub rest : Both World Above
-rest = record { real = record { lock = λ i. None; bits = λ c. false; bits_out = None; block = λ c. c; owner = λ c. None }; seen = record { lock = λ i. None; owner = λ c. None; bytes = λ c. c } }
+rest = record {
+  real = record { lock = λ i. None; bits = λ c. false; bits_out = None; block = λ c. c; owner = λ c. None };
+  seen = record { lock = λ i. None; owner = λ c. None; bytes = λ c. c };
+}
 
 -- What the code has of the world below: all but which inode has a block.
 pub record SharedState : Type 0 where
@@ -262,7 +282,14 @@ may_code h (PutBits p) s = s.bits_out ≡ Some h
 may_code h (Zero c) s = Unit {0}
 
 abbrev pub grabs_part : Part (operations_of grabs core) low
-grabs_part = record { Shared = SharedState; of = shared_of; exec = exec_code; may = may_code; honest = λ h op s x. Unit {0}; begin = λ h i busy s. Begins s }
+grabs_part = record {
+  Shared = SharedState;
+  of = shared_of;
+  exec = exec_code;
+  may = may_code;
+  honest = λ h op s x. Unit {0};
+  begin = λ h i busy s. Begins s;
+}
 
 abbrev pub grabs_code : Code grabs_above
 grabs_code = code_part (operations_of grabs core) low handler (λ h i busy r. Begins r) grabs_part LowOp (λ op a. op)

@@ -24,7 +24,8 @@ placed h (Some e) = (h, e) ∷ []
 
 -- what the others leave a hart: the inodes in its hand, and whether it is in a transaction
 pub record Mine (h : ℕ) (v w : World) : Type 0 where
-  pub inodes : (i : ℕ) → if_held {A = Dinode × (ℕ → ℕ)} (w.lock i) h (w.dino i, w.node i) ≡ if_held {A = Dinode × (ℕ → ℕ)} (v.lock i) h (v.dino i, v.node i)
+  pub inodes : (i : ℕ) → if_held {A = Dinode × (ℕ → ℕ)} (w.lock i) h (w.dino i, w.node i)
+      ≡ if_held {A = Dinode × (ℕ → ℕ)} (v.lock i) h (v.dino i, v.node i)
   pub txn : w.txn h ≡ v.txn h
 
 abbrev pub MayWait : ℕ → Op → World → Type 0
@@ -47,7 +48,10 @@ pub record Swap : Type 0 where
   pub to : Dinode
 
 abbrev pub program : Swap → Prog Op Answer Step Dinode
-program c = Do Enter unmarked (λ _. Do (Take c.inode) unmarked (λ o. Do (Store c.inode c.to) (λ _. Some (Swapped c.inode c.to o)) (λ _. Do (Give c.inode) unmarked (λ _. Do Exit unmarked (λ _. Ret o)))))
+program c = Do Enter unmarked
+    (λ _. Do (Take c.inode) unmarked
+    (λ o. Do (Store c.inode c.to) (λ _. Some (Swapped c.inode c.to o))
+    (λ _. Do (Give c.inode) unmarked (λ _. Do Exit unmarked (λ _. Ret o)))))
 
 abbrev pub labels : Labels
 labels =
@@ -90,18 +94,28 @@ abbrev pub blocks_below : Machine
 blocks_below = joined (whole labels) low.blocks
 
 abbrev pub look : ℕ → P blocks_below Dinode
-look i = lowered (whole labels) low.blocks (low.handler Step) low.blocks.none (Do (Take i) unmarked (λ o. Do (Give i) unmarked (λ _. Ret o)))
+look i =
+    lowered (whole labels) low.blocks (low.handler Step) low.blocks.none (Do (Take i) unmarked (λ o. Do (Give i) unmarked (λ _. Ret o)))
 
 -- what the code has of both: the blocks
 abbrev pub code : Code swaps
 code = code_below (theory labels calls) low.blocks (low.handler Step) (begins_at_once labels calls) low.Op (λ op a. op)
 
 abbrev pub code_above : Code swaps_above
-code_above = code_below (operations_of (theory labels calls) (core labels)) low.blocks (low.handler Step) (begins_at_once labels calls) low.Op (λ op a. op)
+code_above = code_below (operations_of (theory labels calls) (core labels)) low.blocks (low.handler Step)
+    (begins_at_once labels calls) low.Op (λ op a. op)
 
 -- a world at rest: no inode is loaded, and no block is valid
 abbrev pub real : low.World
-real = record { lock = λ i. None; mem = λ i. None; out = λ b. None; valid = λ b. false; cell = λ b k. record { kind = b; size = k }; txn = λ h. false; part = λ i k. 0 }
+real = record {
+  lock = λ i. None;
+  mem = λ i. None;
+  out = λ b. None;
+  valid = λ b. false;
+  cell = λ b k. record { kind = b; size = k };
+  txn = λ h. false;
+  part = λ i k. 0;
+}
 
 abbrev pub rest : Both low.World World
 rest = record { real = real; seen = record { lock = λ i. None; dino = λ i. low.at real.cell i; txn = λ h. false; node = λ i k. 0 } }

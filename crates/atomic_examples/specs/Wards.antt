@@ -173,7 +173,8 @@ abbrev pub act : (op : Op) → (Answer op → Option (Unit {0})) → Option (Act
 act op m = Some (record { op = op; outside = tt; mark = m })
 
 -- the look into the hart's own purse acts: from then on the ward has it above
-abbrev pub handler : Unit {0} → (op : Op) → (Answer op → Option (Unit {0})) → Prog LowOp LowAnswer (Act Op Answer (Unit {0}) (Unit {0})) (Handover (Answer op) (Unit {0}))
+abbrev pub handler : Unit {0} → (op : Op) → (Answer op → Option (Unit {0}))
+    → Prog LowOp LowAnswer (Act Op Answer (Unit {0}) (Unit {0})) (Handover (Answer op) (Unit {0}))
 handler hand (Give j) m = holding hand (Do Peek (λ _. act (Give j) m) (λ x. once (Fill j x) unmarked))
 handler hand (Free j) m = holding hand (once (Release j) (λ _. act (Free j) m))
 

@@ -53,7 +53,8 @@ pub record Right (L : Theory) (h : ℕ) (call : L.Call) (busy : ℕ → Bool) (w
 pub record Lawful (L : Theory) : Type 0 where
   pub laws : Laws L.M
   -- each call, started in a world that holds or has stopped
-  pub calls : (h : ℕ) (call : L.Call) (busy : ℕ → Bool) (w u : L.M.World) → L.M.Inv w ⊎ L.M.Halted w → ((other : ℕ) → busy other ≡ false → L.M.Idle other w) → busy h ≡ false
+  pub calls : (h : ℕ) (call : L.Call) (busy : ℕ → Bool) (w u : L.M.World) → L.M.Inv w ⊎ L.M.Halted w
+      → ((other : ℕ) → busy other ≡ false → L.M.Idle other w) → busy h ≡ false
       → L.start h call busy w ≡ Begins u → Right L h call busy w u
 
 -- a call under way: the number of its start, its program from here on, how many steps ran, and its tree steps so far
@@ -187,7 +188,8 @@ moved L h s r did ps (Do op m k) w =
           record {
             world = w;
             stopped = s.stopped;
-            running = changed (all_told L ps s.running) h (Some (record { call = r.call; start = r.start; prog = Do op m k; count = suc r.count; done = onto (own h ps) r.done }));
+            running = changed (all_told L ps s.running) h
+                (Some (record { call = r.call; start = r.start; prog = Do op m k; count = suc r.count; done = onto (own h ps) r.done }));
             list = placed L s.now s.running ps s.list;
             finished = s.finished;
             now = suc s.now;
@@ -195,7 +197,8 @@ moved L h s r did ps (Do op m k) w =
     }
 
 -- the operation came to this
-abbrev pub tried : (L : Theory) → ℕ → State L → Run L → (op : L.M.Op) → (L.M.Answer op → List (ℕ × L.M.Step)) → (L.M.Answer op → P L.M L.Reply) → Did (L.M.Answer op) L.M.World → Made L
+abbrev pub tried : (L : Theory) → ℕ → State L → Run L → (op : L.M.Op) → (L.M.Answer op → List (ℕ × L.M.Step))
+    → (L.M.Answer op → P L.M L.Reply) → Did (L.M.Answer op) L.M.World → Made L
 tried L h s r op ps k Waits = record { came = DidWait; after = unchanged L s }
 tried L h s r op ps k (Ran a w) = moved L h s r (op, a) (ps a) (k a) w
 tried L h s r op ps k (Stops w) =

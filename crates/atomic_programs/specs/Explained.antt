@@ -30,7 +30,8 @@ history L s = oldest_first s.list
 -- an entry is of a call of its hart that was started: it has finished, or is under way
 abbrev pub IsOfCall : (L : Theory) → State L → PlacedStep L → Type 0
 IsOfCall L s e =
-    ((f : FinishedCall L) × In f s.finished × (f.hart ≡ e.hart) × (f.start ≡ e.call)) ⊎ ((r : Run L) × (s.running e.hart ≡ Some r) × (r.start ≡ e.call))
+    ((f : FinishedCall L) × In f s.finished × (f.hart ≡ e.hart) × (f.start ≡ e.call))
+    ⊎ ((r : Run L) × (s.running e.hart ≡ Some r) × (r.start ≡ e.call))
 
 -- a hart that has a call whose next operation waits, and may
 pub record IsBlocked (L : Theory) (h : ℕ) (s : State L) : Type 0 where
@@ -58,8 +59,10 @@ pub record IsExplained (L : Theory) (base : L.M.Tree) (s : State L) : Type 0 whe
   -- no entry belongs to anything else
   pub owned : (e : PlacedStep L) → In e (history L s) → IsOfCall L s e
   -- each is placed between its call's start and its return, or the last event where the call is under way
-  pub within : (f : FinishedCall L) → In f s.finished → (e : PlacedStep L) → In e (history L s) → e.call ≡ f.start → (f.start < e.number) × (e.number ≤ f.number)
-  pub after : (h : ℕ) (r : Run L) → s.running h ≡ Some r → (e : PlacedStep L) → In e (history L s) → e.call ≡ r.start → (r.start < e.number) × (e.number < s.now)
+  pub within : (f : FinishedCall L) → In f s.finished → (e : PlacedStep L) → In e (history L s) → e.call ≡ f.start
+      → (f.start < e.number) × (e.number ≤ f.number)
+  pub after : (h : ℕ) (r : Run L) → s.running h ≡ Some r → (e : PlacedStep L) → In e (history L s) → e.call ≡ r.start
+      → (r.start < e.number) × (e.number < s.now)
   -- two calls never have one start
   pub apart : (h k : ℕ) (r q : Run L) → s.running h ≡ Some r → s.running k ≡ Some q → r.start ≡ q.start → h ≡ k
   -- no call takes more steps than its bound
@@ -112,8 +115,10 @@ pub record Steady (L : Theory) : Type 0 where
   pub counts : (e : Event L.Call L.M.Outside) (s : State L) → (next L e s).now ≡ suc s.now
   pub appends : (e : Event L.Call L.M.Outside) (s : State L) → Appends L s (next L e s)
   -- once the world has stopped, each step of a hart with a call says so
-  pub answers_stopped : (h : ℕ) (x : L.M.Outside) (r : Run L) (s : State L) → s.stopped ≡ true → s.running h ≡ Some r → (makes L (Step h x) s).came ≡ WasStopped
+  pub answers_stopped : (h : ℕ) (x : L.M.Outside) (r : Run L) (s : State L) → s.stopped ≡ true → s.running h ≡ Some r
+      → (makes L (Step h x) s).came ≡ WasStopped
   pub stays_stopped : (e : Event L.Call L.M.Outside) (s : State L) → s.stopped ≡ true → (next L e s).stopped ≡ true
   -- and starts are taken as before
   pub starts_as_before : (h : ℕ) (call : L.Call) (s : State L) (b : Bool)
-      → makes L (Start h call) (record s { stopped = b }) ≡ record { came = (makes L (Start h call) s).came; after = record (next L (Start h call) s) { stopped = b } }
+      → makes L (Start h call) (record s { stopped = b })
+      ≡ record { came = (makes L (Start h call) s).came; after = record (next L (Start h call) s) { stopped = b } }

@@ -124,23 +124,27 @@ lowered U R handler c (Ret a) = Ret a
 lowered U R handler c (Do op m k) = bind (handler c op m) (λ r. lowered U R handler r.carry (k r.answer))
 
 -- C holds above, and the hart has below what it has between two operations, with what the program hands on
-abbrev pub Below : (U : Machine) (R : Lower U.World) → {A : Type 0} → ℕ → (A → List U.Step → U.World → Type 0) → Handover A R.Carry → List U.Step → Both R.World U.World → Type 0
+abbrev pub Below : (U : Machine) (R : Lower U.World) → {A : Type 0} → ℕ → (A → List U.Step → U.World → Type 0) → Handover A R.Carry
+    → List U.Step → Both R.World U.World → Type 0
 Below U R h C r es w = C r.answer es w.seen × R.Base h w.real w.seen r.carry
 
 -- the same at the end of a whole program, whatever it leaves in hand, in a world above that holds
-abbrev pub AtEnd : (U : Machine) (R : Lower U.World) → {A : Type 0} → ℕ → (A → List U.Step → U.World → Type 0) → A → List U.Step → Both R.World U.World → Type 0
+abbrev pub AtEnd : (U : Machine) (R : Lower U.World) → {A : Type 0} → ℕ → (A → List U.Step → U.World → Type 0) → A → List U.Step
+    → Both R.World U.World → Type 0
 AtEnd U R h C a es w = C a es w.seen × U.Inv w.seen × ((c : R.Carry) × R.Base h w.real w.seen c)
 
 -- C lasts while the others step
 abbrev pub Lasts : (L : Machine) {A : Type 0} → ℕ → (List L.Step → Type 0) → (A → List L.Step → L.World → Type 0) → Type 0
 Lasts L {A} h B C =
-    (a : A) (fs xs : List L.Step) (v u : L.World) → L.Others h v xs u → L.Inv u → C a fs v → (L.Clean u → Grown B xs fs) × C a (onto xs fs) u
+    (a : A) (fs xs : List L.Step) (v u : L.World) → L.Others h v xs u → L.Inv u → C a fs v
+    → (L.Clean u → Grown B xs fs) × C a (onto xs fs) u
 
 -- An operation's program below acts at one moment: whatever the operation alone is shown to do above, its program does
 -- below, though others step before and after that moment, and in as many steps as it counts for. It does so whatever the
 -- hart has in hand, and what it hands on is again what Base is of.
 abbrev pub Atomic : (U : Machine) (R : Lower U.World) → Handlers U R → ℕ → (op : U.Op) → (U.Answer op → Option U.Mark) → Type 1
 Atomic U R handler h op m =
-    (c : R.Carry) (B : List U.Step → Type 0) (C : U.Answer op → List U.Step → U.World → Type 0) (es : List U.Step) (w : Both R.World U.World)
+    (c : R.Carry) (B : List U.Step → Type 0) (C : U.Answer op → List U.Step → U.World → Type 0) (es : List U.Step)
+    (w : Both R.World U.World)
     → Lasts U h B C → Wp U h B C (once op m) (suc (U.more op)) es w.seen → R.Base h w.real w.seen c
     → Wp (joined U R) h B (Below U R h C) (handler c op m) (suc (U.more op)) es w

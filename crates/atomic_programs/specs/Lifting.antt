@@ -11,17 +11,21 @@ abbrev pub Uses : (U : Machine) → ((op : U.Op) → (U.Answer op → Option U.M
 Uses U Is (Ret a) = Unit {1}
 Uses U Is (Do op m k) = Is op m × ((a : U.Answer op) → Uses U Is (k a))
 
--- Whatever the program is shown to do above, it does below, in as many steps, by a hart with this in hand, from worlds of which this is known.
-abbrev pub Lifts : (U : Machine) (R : Lower U.World) → Handlers U R → ℕ → R.Carry → (Both R.World U.World → Type 0) → {A : Type 0} → P U A → Type 1
+-- Whatever the program is shown to do above, it does below, in as many steps, by a hart with this in hand, from worlds of which this is
+-- known.
+abbrev pub Lifts : (U : Machine) (R : Lower U.World) → Handlers U R → ℕ → R.Carry → (Both R.World U.World → Type 0) → {A : Type 0} → P U A
+    → Type 1
 Lifts U R handler h c From {A} p =
     (B : List U.Step → Type 0) (Q : A → List U.Step → U.World → Type 0) → Lasts U h B Q
-    → (n : ℕ) (es : List U.Step) (w : Both R.World U.World) → From w → Wp U h B Q p n es w.seen → R.Base h w.real w.seen c → U.Inv w.seen → Wp (joined U R) h B (AtEnd U R h Q) (lowered U R handler c p) n es w
+    → (n : ℕ) (es : List U.Step) (w : Both R.World U.World) → From w → Wp U h B Q p n es w.seen → R.Base h w.real w.seen c → U.Inv w.seen
+    → Wp (joined U R) h B (AtEnd U R h Q) (lowered U R handler c p) n es w
 
 -- in some world, whichever harts have calls, this hart's start begins this call
 abbrev pub BeginsSome : (T : Theory) (R : Lower T.M.World) → Starts T R → ℕ → T.Call → Type 0
 BeginsSome T R begin h call = (busy : ℕ → Bool) × (r : R.World) × (s : R.World) × (begin h call busy r ≡ Begins s)
 
--- Where a hart's call was started, and none of its operations was made: the hart was idle above before, and the start made this of that world.
+-- Where a hart's call was started, and none of its operations was made: the hart was idle above before, and the start made this of that
+-- world.
 pub record IsStarted (T : Theory) (R : Lower T.M.World) (h : ℕ) (call : T.Call) (w : Both R.World T.M.World) : Type 0 where
   pub shows : R.Shows w.real w.seen
   pub busy : ℕ → Bool
@@ -31,7 +35,8 @@ pub record IsStarted (T : Theory) (R : Lower T.M.World) (h : ℕ) (call : T.Call
 
 -- the program of each call that can begin does so from its start
 abbrev pub AllLift : (T : Theory) (R : Lower T.M.World) → Handlers T.M R → Starts T R → Type 1
-AllLift T R handler begin = (h : ℕ) (call : T.Call) → BeginsSome T R begin h call → Lifts T.M R handler h R.none (IsStarted T R h call) (T.program call)
+AllLift T R handler begin =
+    (h : ℕ) (call : T.Call) → BeginsSome T R begin h call → Lifts T.M R handler h R.none (IsStarted T R h call) (T.program call)
 
 -- A layer in which a hart has this besides, in the world above, between two operations above.
 abbrev pub with_more : {Above : Type 0} → Lower Above → (ℕ → Above → Type 0) → Lower Above

@@ -77,7 +77,8 @@ Grown B xs es = (xs ≡ []) ⊎ B (onto xs es)
 
 -- an operation of hart h that placed ps and led from v to w: Next is of what comes after it; of n steps it took one, and
 -- `more`
-pub record Fine (L : Machine) (h : ℕ) (ps : List (ℕ × L.Step)) (more n : ℕ) (B : List L.Step → Type 0) (es : List L.Step) (v w : L.World) (Next : ℕ → Type 0) : Type 0 where
+pub record Fine (L : Machine) (h : ℕ) (ps : List (ℕ × L.Step)) (more n : ℕ) (B : List L.Step → Type 0) (es : List L.Step) (v w : L.World)
+    (Next : ℕ → Type 0) : Type 0 where
   pub inv : L.Inv w
   pub kept : (other : ℕ) → other ≢ h → L.Others other v (own other ps) w
   pub goes : L.Clean w → Goes L (L.tree v) ps (L.tree w)
@@ -95,14 +96,16 @@ pub record Halts (L : Machine) (h : ℕ) (v w : L.World) : Type 0 where
   pub tree : L.Clean w → L.tree w ≡ L.tree v
   pub clean : L.Clean w → L.Clean v
 
-abbrev pub Good : (L : Machine) (A : Type 0) → ℕ → (A → List (ℕ × L.Step)) → ℕ → ℕ → (List L.Step → Type 0) → List L.Step → L.World → Type 0 → Did A L.World → (ℕ → A → L.World → Type 0) → Type 0
+abbrev pub Good : (L : Machine) (A : Type 0) → ℕ → (A → List (ℕ × L.Step)) → ℕ → ℕ → (List L.Step → Type 0) → List L.Step → L.World → Type 0
+    → Did A L.World → (ℕ → A → L.World → Type 0) → Type 0
 Good L A h ps more n B es v wait Waits Next = wait
 Good L A h ps more n B es v wait (Ran a w) Next = Fine L h (ps a) more n B es v w (λ l. Next l a w)
 Good L A h ps more n B es v wait (Stops w) Next = Halts L h v w
 
 -- From w on hart h's program does as it should whatever the others do and the outside answers, in at most n steps, and ends
 -- with Q; each operation is made where it may be. es are the steps so far, the newest first, and are B whenever they have grown.
-abbrev pub Wp : (L : Machine) {A : Type 0} → ℕ → (List L.Step → Type 0) → (A → List L.Step → L.World → Type 0) → P L A → ℕ → List L.Step → L.World → Type 0
+abbrev pub Wp : (L : Machine) {A : Type 0} → ℕ → (List L.Step → Type 0) → (A → List L.Step → L.World → Type 0) → P L A → ℕ → List L.Step
+    → L.World → Type 0
 Wp L h B Q (Ret a) n es w = Q a es w
 Wp L h B Q (Do op m k) n es w =
     (v : L.World) (xs : List L.Step) → L.Others h w xs v → L.Inv v
@@ -114,7 +117,8 @@ Wp L h B Q (Do op m k) n es w =
     × (L.more op < n)
 
 -- the same, closed, so that the program can be read off it
-pub record Safe (L : Machine) {A : Type 0} (h : ℕ) (B : List L.Step → Type 0) (Q : A → List L.Step → L.World → Type 0) (p : P L A) (n : ℕ) (es : List L.Step) (w : L.World) : Type 0 where
+pub record Safe (L : Machine) {A : Type 0} (h : ℕ) (B : List L.Step → Type 0) (Q : A → List L.Step → L.World → Type 0) (p : P L A) (n : ℕ)
+    (es : List L.Step) (w : L.World) : Type 0 where
   pub wp : Wp L h B Q p n es w
 
 -- where an operation runs, at most one of the steps that are placed is its own hart's

@@ -34,7 +34,8 @@ lowered_calls T R handler begin =
     }
 
 -- A start that made s of r below begins above too, where it made u of g: what it reserves, it reserves in both.
-pub record BeginsBoth (T : Theory) (R : Lower T.M.World) (h : ℕ) (call : T.Call) (busy : ℕ → Bool) (r s : R.World) (g : T.M.World) : Type 0 where
+pub record BeginsBoth (T : Theory) (R : Lower T.M.World) (h : ℕ) (call : T.Call) (busy : ℕ → Bool) (r s : R.World)
+    (g : T.M.World) : Type 0 where
   pub above : T.M.World
   pub begins : T.start h call busy g ≡ Begins above
   pub shows : R.Shows r g → R.Shows s above
@@ -47,7 +48,8 @@ pub record BeginsBoth (T : Theory) (R : Lower T.M.World) (h : ℕ) (call : T.Cal
 -- what a project shows of the starts below
 abbrev pub StartsBoth : (T : Theory) (R : Lower T.M.World) → Starts T R → Type 0
 StartsBoth T R begin =
-    (h : ℕ) (call : T.Call) (busy : ℕ → Bool) (r s : R.World) (g : T.M.World) → R.Shows r g ⊎ R.Halted r g → T.M.Inv g → ((other : ℕ) → busy other ≡ false → R.Base other r g R.none × T.M.Idle other g) → busy h ≡ false
+    (h : ℕ) (call : T.Call) (busy : ℕ → Bool) (r s : R.World) (g : T.M.World) → R.Shows r g ⊎ R.Halted r g → T.M.Inv g
+    → ((other : ℕ) → busy other ≡ false → R.Base other r g R.none × T.M.Idle other g) → busy h ≡ false
     → begin h call busy r ≡ Begins s → BeginsBoth T R h call busy r s g
 
 -- in some world, whichever harts have calls, a start by this one begins its call
@@ -56,7 +58,8 @@ CanBegin T R begin h = (call : T.Call) × (busy : ℕ → Bool) × (r : R.World)
 
 -- the program of each operation, of each hart that can have a call, acts at one moment
 abbrev pub AllAtomic : (T : Theory) (R : Lower T.M.World) → Handlers T.M R → Starts T R → Type 1
-AllAtomic T R handler begin = (h : ℕ) → CanBegin T R begin h → (op : T.M.Op) (m : T.M.Answer op → Option T.M.Mark) → Atomic T.M R handler h op m
+AllAtomic T R handler begin =
+    (h : ℕ) → CanBegin T R begin h → (op : T.M.Op) (m : T.M.Answer op → Option T.M.Mark) → Atomic T.M R handler h op m
 
 -- What the code has of the world below, where that has parts for the proof alone besides; and what operations and starts make
 -- of it.
@@ -73,16 +76,28 @@ pub record IsPart (T : Theory) (R : Lower T.M.World) (begin : Starts T R) (part 
   pub goes : (h : ℕ) (x : R.Outside) (op : R.Op) (w : R.World) → part.exec h x op (part.of w) ≡ did_in part.of (R.exec h x op w)
   pub may : (h : ℕ) (op : R.Op) (w : R.World) → R.May h op w → part.may h op (part.of w)
   pub honest : (h : ℕ) (op : R.Op) (w : R.World) (x : R.Outside) → part.honest h op (part.of w) x → R.Honest h op w x
-  pub starts : (h : ℕ) (call : T.Call) (busy : ℕ → Bool) (w : R.World) → part.begin h call busy (part.of w) ≡ began_in part.of (begin h call busy w)
+  pub starts : (h : ℕ) (call : T.Call) (busy : ℕ → Bool) (w : R.World)
+      → part.begin h call busy (part.of w) ≡ began_in part.of (begin h call busy w)
 
 -- the code of the lowered calls; the kind of a step is told by the operation below, with its answer
-abbrev pub code_part : (T : Theory) (R : Lower T.M.World) (handler : Handlers T.M R) (begin : Starts T R) (part : Part T R) (Kind : Type 0) → ((op : R.Op) → R.Answer op → Kind) → Code (lowered_calls T R handler begin)
+abbrev pub code_part : (T : Theory) (R : Lower T.M.World) (handler : Handlers T.M R) (begin : Starts T R) (part : Part T R) (Kind : Type 0)
+    → ((op : R.Op) → R.Answer op → Kind) → Code (lowered_calls T R handler begin)
 code_part T R handler begin part Kind kind =
-    record { Shared = part.Shared; Kind = Kind; shared = λ w. part.of w.real; kind = kind; exec = part.exec; may = part.may; honest = part.honest; begin = part.begin }
+    record {
+      Shared = part.Shared;
+      Kind = Kind;
+      shared = λ w. part.of w.real;
+      kind = kind;
+      exec = part.exec;
+      may = part.may;
+      honest = part.honest;
+      begin = part.begin;
+    }
 
 -- the world below alone, all of it
 abbrev pub all_below : (T : Theory) (R : Lower T.M.World) → Starts T R → Part T R
 all_below T R begin = record { Shared = R.World; of = λ w. w; exec = R.exec; may = R.May; honest = R.Honest; begin = begin }
 
-abbrev pub code_below : (T : Theory) (R : Lower T.M.World) (handler : Handlers T.M R) (begin : Starts T R) (Kind : Type 0) → ((op : R.Op) → R.Answer op → Kind) → Code (lowered_calls T R handler begin)
+abbrev pub code_below : (T : Theory) (R : Lower T.M.World) (handler : Handlers T.M R) (begin : Starts T R) (Kind : Type 0)
+    → ((op : R.Op) → R.Answer op → Kind) → Code (lowered_calls T R handler begin)
 code_below T R handler begin Kind kind = code_part T R handler begin (all_below T R begin) Kind kind

@@ -7,7 +7,8 @@ use Rattle.atomic_programs.specs.declared.machines.Came.{Came}
 use Rattle.atomic_programs.specs.declared.machines.Came.TheVariants as came
 
 -- where a step of a machine leads, as a program; its result stands for what the program returns
-abbrev pub moved_to : {M R K A S Op : Type 0} {Answer : Op → Type 0} → (M → Prog Op Answer ⊥ A) → (R → A) → Stepped M R K → S → OperationResult K (Prog Op Answer ⊥ A) S
+abbrev pub moved_to : {M R K A S Op : Type 0} {Answer : Op → Type 0} → (M → Prog Op Answer ⊥ A) → (R → A) → Stepped M R K → S
+    → OperationResult K (Prog Op Answer ⊥ A) S
 moved_to program result (Waits m) s = StillWaits
 moved_to program result (Ran m kind) s = WentOn kind (program m) s
 moved_to program result (Done a kind) s = WentOn kind (Ret (result a)) s

@@ -68,16 +68,19 @@ Now L {A} {B} entry p (e ∷ es) Then = (b : B) × (e ≡ Places (entry b)) × A
 abbrev pub Within : (L : Machine) → {A B : Type 0} → (B → L.Step) → P L A → Notes L → (B → A → Notes L → Type 0) → Type 0
 Within L entry (Ret a) es Then = ⊥
 Within L entry (Do op m k) [] Then = ⊥
-Within L entry (Do op m k) (e ∷ es) Then = (a : L.Answer op) × (e ≡ Runs (op, a)) × (Within L entry (k a) es Then ⊎ Now L entry (k a) es Then)
+Within L entry (Do op m k) (e ∷ es) Then =
+    (a : L.Answer op) × (e ≡ Runs (op, a)) × (Within L entry (k a) es Then ⊎ Now L entry (k a) es Then)
 
 -- The notes, the oldest first, of a run of the program above that ends with r: for each of its operations, one after the
 -- other, a whole run of the operation's program below, and within it the operation with its answer, once. By that answer the
 -- program above goes on; the one that the program below ends with isn't compared. What it ends with in hand is what the next
 -- operation's program has in hand: c, for the first one.
-abbrev pub IsWhole : (U : Machine) (K : Core U) (R : Lower U.World) → Handlers U R → {A : Type 0} → R.Carry → P U A → Notes (joined (operations U K) R) → A → Type 0
+abbrev pub IsWhole : (U : Machine) (K : Core U) (R : Lower U.World) → Handlers U R → {A : Type 0} → R.Carry → P U A
+    → Notes (joined (operations U K) R) → A → Type 0
 IsWhole U K R handler c (Ret a) [] r = a ≡ r
 IsWhole U K R handler c (Ret a) (e ∷ es) r = ⊥
-IsWhole U K R handler c (Do op m k) es r = Within (joined (operations U K) R) (λ b. (op, b)) (handler c op m) es (λ b x rest. IsWhole U K R handler x.carry (k b) rest r)
+IsWhole U K R handler c (Do op m k) es r =
+    Within (joined (operations U K) R) (λ b. (op, b)) (handler c op m) es (λ b x rest. IsWhole U K R handler x.carry (k b) rest r)
 
 -- The same calls, each explained by all that is noted of it.
 abbrev pub with_notes : (L : Theory) → (L.Call → Notes L.M → L.Reply → Type 0) → Theory
@@ -85,7 +88,8 @@ with_notes L Written = record L { M = noted L.M; Written = Written }
 
 -- the lowered calls, each explained by the operations below that it ran, and those above within them
 abbrev pub noted_calls : (T : Theory) (K : Core T.M) (R : Lower T.M.World) → Handlers T.M R → Starts T R → Theory
-noted_calls T K R handler begin = with_notes (lowered_calls (operations_of T K) R handler begin) (λ call es r. IsWhole T.M K R handler R.none (T.program call) es r)
+noted_calls T K R handler begin =
+    with_notes (lowered_calls (operations_of T K) R handler begin) (λ call es r. IsWhole T.M K R handler R.none (T.program call) es r)
 
 -- an entry, where it is of a step that was placed
 abbrev pub entry_of : (L : Theory) → ℕ → ℕ → ℕ → Note (OpWithAnswer L.M) L.M.Step → List (PlacedStep L) → List (PlacedStep L)
@@ -93,13 +97,18 @@ entry_of L number hart call (Runs e) es = es
 entry_of L number hart call (Places x) es = record { number = number; hart = hart; call = call; step = x } ∷ es
 
 -- the entries of the steps that were placed
-abbrev pub entries_of : (L : Theory) (Written : L.Call → Notes L.M → L.Reply → Type 0) → List (PlacedStep (with_notes L Written)) → List (PlacedStep L)
+abbrev pub entries_of : (L : Theory) (Written : L.Call → Notes L.M → L.Reply → Type 0) → List (PlacedStep (with_notes L Written))
+    → List (PlacedStep L)
 entries_of L Written [] = []
 entries_of L Written (e ∷ es) = entry_of L e.number e.hart e.call e.step (entries_of L Written es)
 
 -- A list of events comes to the same with the notes and without, and the notes leave each entry where it was: at its event, in
 -- its call.
 pub record SameRuns (L : Theory) (Written : L.Call → Notes L.M → L.Reply → Type 0) (w : L.M.World) : Type 0 where
-  pub honest : (events : List (Event L.Call L.M.Outside)) → AllHonest L events (fresh L w) → AllHonest (with_notes L Written) events (fresh (with_notes L Written) w)
-  pub outcomes_are : (events : List (Event L.Call L.M.Outside)) → outcomes (with_notes L Written) events (fresh (with_notes L Written) w) ≡ outcomes L events (fresh L w)
-  pub entries_are : (events : List (Event L.Call L.M.Outside)) → entries_of L Written (history (with_notes L Written) (run (with_notes L Written) events (fresh (with_notes L Written) w))) ≡ history L (run L events (fresh L w))
+  pub honest : (events : List (Event L.Call L.M.Outside)) → AllHonest L events (fresh L w)
+      → AllHonest (with_notes L Written) events (fresh (with_notes L Written) w)
+  pub outcomes_are : (events : List (Event L.Call L.M.Outside))
+      → outcomes (with_notes L Written) events (fresh (with_notes L Written) w) ≡ outcomes L events (fresh L w)
+  pub entries_are : (events : List (Event L.Call L.M.Outside))
+      → entries_of L Written (history (with_notes L Written) (run (with_notes L Written) events (fresh (with_notes L Written) w)))
+      ≡ history L (run L events (fresh L w))

@@ -21,7 +21,8 @@ all_of L exec = record { World = L.World; of = λ w. w; May = L.May; Honest = L.
 pub record IsCore (T : Theory) (K : Core T.M) : Type 0 where
   pub may : (h : ℕ) (op : T.M.Op) (w : T.M.World) → T.M.May h op w → K.May h op (K.of w)
   pub honest : (h : ℕ) (op : T.M.Op) (w : T.M.World) (x : T.M.Outside) → T.M.Honest h op w x → K.Honest h op (K.of w) x
-  pub goes : (h : ℕ) (x : T.M.Outside) (op : T.M.Op) (m : T.M.Answer op → Option T.M.Mark) (w : T.M.World) → did_in K.of (T.M.go h x op m w) ≡ K.go h x op (K.of w)
+  pub goes : (h : ℕ) (x : T.M.Outside) (op : T.M.Op) (m : T.M.Answer op → Option T.M.Mark) (w : T.M.World)
+      → did_in K.of (T.M.go h x op m w) ≡ K.go h x op (K.of w)
   -- an operation that stops the world leaves the core as it was
   pub stops : (h : ℕ) (x : T.M.Outside) (op : T.M.Op) (t u : K.World) → K.go h x op t ≡ Stops u → u ≡ t
   -- and so does a start

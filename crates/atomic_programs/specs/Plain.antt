@@ -26,10 +26,12 @@ began_in f (Begins v) = Begins (f v)
 
 -- the theory makes of the world what the code makes of its state; marks change nothing of it
 pub record IsCode (L : Theory) (C : Code L) : Type 0 where
-  pub goes : (h : ℕ) (x : L.M.Outside) (op : L.M.Op) (m : L.M.Answer op → Option L.M.Mark) (w : L.M.World) → C.exec h x op (C.shared w) ≡ did_in C.shared (L.M.go h x op m w)
+  pub goes : (h : ℕ) (x : L.M.Outside) (op : L.M.Op) (m : L.M.Answer op → Option L.M.Mark) (w : L.M.World)
+      → C.exec h x op (C.shared w) ≡ did_in C.shared (L.M.go h x op m w)
   pub may : (h : ℕ) (op : L.M.Op) (w : L.M.World) → L.M.May h op w → C.may h op (C.shared w)
   pub honest : (h : ℕ) (op : L.M.Op) (w : L.M.World) (x : L.M.Outside) → C.honest h op (C.shared w) x → L.M.Honest h op w x
-  pub starts : (h : ℕ) (call : L.Call) (busy : ℕ → Bool) (w : L.M.World) → C.begin h call busy (C.shared w) ≡ began_in C.shared (L.start h call busy w)
+  pub starts : (h : ℕ) (call : L.Call) (busy : ℕ → Bool) (w : L.M.World)
+      → C.begin h call busy (C.shared w) ≡ began_in C.shared (L.start h call busy w)
 
 pub record Plain (L : Theory) (C : Code L) : Type 0 where
   pub shared : C.Shared
@@ -58,7 +60,8 @@ module _ (L : Theory) (C : Code L) where
   plain_moved h s kind (Do op m k) t =
       record { came = DidRun kind; after = record { shared = t; stopped = s.stopped; running = changed s.running h (Some (Do op m k)) } }
 
-  abbrev pub plain_tried : ℕ → Plain L C → (op : L.M.Op) → (L.M.Answer op → UnmarkedProgram L) → Did (L.M.Answer op) C.Shared → PlainMade L C
+  abbrev pub plain_tried : ℕ → Plain L C → (op : L.M.Op) → (L.M.Answer op → UnmarkedProgram L) → Did (L.M.Answer op) C.Shared
+      → PlainMade L C
   plain_tried h s op k Waits = record { came = DidWait; after = s }
   plain_tried h s op k (Ran a t) = plain_moved h s (C.kind op a) (k a) t
   plain_tried h s op k (Stops t) = record { came = DidStop; after = record { shared = t; stopped = true; running = s.running } }
@@ -78,7 +81,14 @@ module _ (L : Theory) (C : Code L) where
   abbrev pub plain_begun : ℕ → L.Call → Plain L C → Began L.Refusal C.Shared → PlainMade L C
   plain_begun h call s (Refuses why) = record { came = Refused why; after = s }
   plain_begun h call s (Begins t) =
-      record { came = Started; after = record { shared = t; stopped = s.stopped; running = changed s.running h (Some (plain (L.program call))) } }
+      record {
+        came = Started;
+        after = record {
+          shared = t;
+          stopped = s.stopped;
+          running = changed s.running h (Some (plain (L.program call)));
+        };
+      }
 
   abbrev pub plain_start : ℕ → L.Call → Plain L C → Option (UnmarkedProgram L) → PlainMade L C
   plain_start h call s (Some p) = record { came = Refused L.busy; after = s }
@@ -142,7 +152,8 @@ module _ (L : Theory) (C : Code L) where
   hart_moved b kind (Ret reply) t = record { came = DidEnd reply; left = None; shared = t; stopped = b }
   hart_moved b kind (Do op m k) t = record { came = DidRun kind; left = Some (Do op m k); shared = t; stopped = b }
 
-  abbrev pub hart_tried : UnmarkedProgram L → C.Shared → (op : L.M.Op) → (L.M.Answer op → UnmarkedProgram L) → Did (L.M.Answer op) C.Shared → HartMade
+  abbrev pub hart_tried : UnmarkedProgram L → C.Shared → (op : L.M.Op) → (L.M.Answer op → UnmarkedProgram L) → Did (L.M.Answer op) C.Shared
+      → HartMade
   hart_tried p t op k Waits = record { came = DidWait; left = Some p; shared = t; stopped = false }
   hart_tried p t op k (Ran a u) = hart_moved false (C.kind op a) (k a) u
   hart_tried p t op k (Stops u) = record { came = DidStop; left = Some p; shared = u; stopped = true }

@@ -8,7 +8,8 @@ use Rattle.atomic_programs.specs.Plain.{Code, Plain, erase, all_by_kind}
 module _ (L : Theory) (C : Code L) where
   -- What was asked of a state with its history came to these outcomes and this state of the code: there are answers from
   -- outside, all of which may be given, at which the run does so.
-  pub record CameTo (s : State L) (asks : List (Event L.Call (Unit {0}))) (came : List (Outcome C.Kind L.Reply L.Refusal)) (p : Plain L C) : Type 0 where
+  pub record CameTo (s : State L) (asks : List (Event L.Call (Unit {0}))) (came : List (Outcome C.Kind L.Reply L.Refusal))
+      (p : Plain L C) : Type 0 where
     pub events : List (Event L.Call L.M.Outside)
     pub are : all_asked events ≡ asks
     pub honest : AllHonest L events s
@@ -16,7 +17,8 @@ module _ (L : Theory) (C : Code L) where
     pub after : erase L C (run L events s) ≡ p
 
   -- the same from a world at rest, where one list of steps explains the replies, which are those that were given
-  pub record Shown (first : L.M.World) (asks : List (Event L.Call (Unit {0}))) (came : List (Outcome C.Kind L.Reply L.Refusal)) (p : Plain L C) : Type 0 where
+  pub record Shown (first : L.M.World) (asks : List (Event L.Call (Unit {0}))) (came : List (Outcome C.Kind L.Reply L.Refusal))
+      (p : Plain L C) : Type 0 where
     pub to : CameTo (fresh L first) asks came p
     pub explained : IsExplained L (L.M.tree first) (run L to.events (fresh L first))
     pub traced : IsTraced L (λ x. In x (happened L to.events (fresh L first))) (run L to.events (fresh L first))

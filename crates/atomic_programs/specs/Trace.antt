@@ -21,6 +21,7 @@ pub record IsTraced (L : Theory) (Was : EventReport L → Type 0) (s : State L) 
       → (f : FinishedCall L) × In f s.finished × (f.hart ≡ h) × (f.number ≡ x.number) × (f.reply ≡ reply)
   -- each finished call was started and gave its reply
   pub started : (f : FinishedCall L) → In f s.finished → Was (record { number = f.start; event = Start f.hart f.call; came = Started })
-  pub ended : (f : FinishedCall L) → In f s.finished → (y : L.M.Outside) × Was (record { number = f.number; event = Step f.hart y; came = DidEnd f.reply })
+  pub ended : (f : FinishedCall L) → In f s.finished
+      → (y : L.M.Outside) × Was (record { number = f.number; event = Step f.hart y; came = DidEnd f.reply })
   -- each call under way was started
   pub under_way : (h : ℕ) (r : Run L) → s.running h ≡ Some r → Was (record { number = r.start; event = Start h r.call; came = Started })

@@ -162,7 +162,8 @@ impl Open {
     ) -> Stepped<Open, (u8, Key), Kind>
         requires may { OfNext (may hart) (asks (open_of self)) register.old }
         requires fits { OpenFits hart self }
-        ensures moves { advance kind_of (exec hart (said_in result register.new)) (open_of self) register.old ≡ moved_to open_of (λ r. r.0) result register.new }
+        ensures moves { advance kind_of (exec hart (said_in result register.new)) (open_of self) register.old
+            ≡ moved_to open_of (λ r. r.0) result register.new }
         ensures honest { OfNext (λ op c. honest hart op c (said_in result register.new)) (asks (open_of self)) register.old }
         ensures fits { Left (OpenFits hart) (λ r. r.1 ≡ hart) result }
         ensures still { Still open_of result self register.old register.new }
@@ -236,7 +237,8 @@ impl Machine {
     pub fn step<D: Device>(self, hart: u8, register: &mut Register<D>) -> Stepped<Machine, u8, Kind>
         requires may { OfNext (may hart) (asks (machine_of self)) register.old }
         requires fits { MachineFits hart self }
-        ensures moves { advance kind_of (exec hart (said_in result register.new)) (machine_of self) register.old ≡ moved_to machine_of (λ x. x) result register.new }
+        ensures moves { advance kind_of (exec hart (said_in result register.new)) (machine_of self) register.old
+            ≡ moved_to machine_of (λ x. x) result register.new }
         ensures honest { OfNext (λ op c. honest hart op c (said_in result register.new)) (asks (machine_of self)) register.old }
         ensures fits { Left (MachineFits hart) (λ r. Unit {0}) result }
         ensures still { Still machine_of result self register.old register.new }
@@ -345,7 +347,9 @@ fn put_back(calls: &mut [Option<Machine>; 8], hart: u8, call: Option<Machine>)
 fn start(doing: Option<Machine>, hart: u8, call: Call) -> (Option<Machine>, Outcome)
     requires eight { hart < 8 }
     requires fits { HartFits hart doing }
-    ensures makes { (busy : ℕ → Bool) (c : Cell) (b : Bool) → hart_start swaps code hart (call_of call) busy c b (program_at machine_of doing) ≡ record { came = outcome_of result.1; left = program_at machine_of result.0; shared = c; stopped = b } }
+    ensures makes { (busy : ℕ → Bool) (c : Cell) (b : Bool)
+        → hart_start swaps code hart (call_of call) busy c b (program_at machine_of doing)
+        ≡ record { came = outcome_of result.1; left = program_at machine_of result.0; shared = c; stopped = b } }
     ensures fits { HartFits hart result.0 }
 {
     match doing {
@@ -369,7 +373,8 @@ fn step<D: Device>(
 ) -> (Option<Machine>, Outcome, bool)
     requires may { stopped ≡ false → MayOf swaps code hart register.old (program_at machine_of doing) }
     requires fits { HartFits hart doing }
-    ensures makes { hart_step swaps code hart (said result.1 register.new) register.old stopped (program_at machine_of doing) ≡ record { came = outcome_of result.1; left = program_at machine_of result.0; shared = register.new; stopped = result.2 } }
+    ensures makes { hart_step swaps code hart (said result.1 register.new) register.old stopped (program_at machine_of doing)
+        ≡ record { came = outcome_of result.1; left = program_at machine_of result.0; shared = register.new; stopped = result.2 } }
     ensures honest { PlainHonestStep swaps code hart (said result.1 register.new) register.old stopped (program_at machine_of doing) }
     ensures fits { HartFits hart result.0 }
 {
@@ -450,7 +455,8 @@ impl<D: Device> World<D> {
 
     /// Begins a call.
     pub fn start(&mut self, hart: u8, call: Call) -> Outcome
-        ensures makes { plain_makes swaps code (StartOf hart (call_of call)) (plain_of self.old) ≡ record { came = outcome_of result; after = plain_of self.new } }
+        ensures makes { plain_makes swaps code (StartOf hart (call_of call)) (plain_of self.old)
+            ≡ record { came = outcome_of result; after = plain_of self.new } }
     {
         let calls = &self.calls;
         if hart as usize >= calls.len() {
@@ -464,7 +470,8 @@ impl<D: Device> World<D> {
 
     /// One operation of a hart's call.
     pub fn step(&mut self, hart: u8) -> Outcome
-        ensures makes { plain_makes swaps code (StepOf hart (said result self.new.shared)) (plain_of self.old) ≡ record { came = outcome_of result; after = plain_of self.new } }
+        ensures makes { plain_makes swaps code (StepOf hart (said result self.new.shared)) (plain_of self.old)
+            ≡ record { came = outcome_of result; after = plain_of self.new } }
         ensures honest { PlainHonest swaps code (StepOf hart (said result self.new.shared)) (plain_of self.old) }
     {
         let calls = &self.calls;
@@ -480,7 +487,8 @@ impl<D: Device> World<D> {
 
     /// One event.
     pub fn event(&mut self, event: Event) -> Outcome
-        ensures makes { plain_makes swaps code (with_answer (event_of event) (said result self.new.shared)) (plain_of self.old) ≡ record { came = outcome_of result; after = plain_of self.new } }
+        ensures makes { plain_makes swaps code (with_answer (event_of event) (said result self.new.shared)) (plain_of self.old)
+            ≡ record { came = outcome_of result; after = plain_of self.new } }
         ensures honest { PlainHonest swaps code (with_answer (event_of event) (said result self.new.shared)) (plain_of self.old) }
     {
         match event {
@@ -512,8 +520,12 @@ pub fn run<D: Device>(
     alloc: Global,
     events: &[Event],
 ) -> Result<Vec<Outcome>, AllocError>
-    ensures came { IfOk result (λ v. (s : State swaps) → erase swaps code s ≡ plain_of world.old → CameTo swaps code s (events_of events.now) (outcomes_of v.items) (plain_of world.new)) }
-    ensures shown { IfOk result (λ v. (w : cell.World) → cell.Inv w → ((h : ℕ) → cell.own_of h w ≡ None) → erase swaps code (fresh swaps w) ≡ plain_of world.old → Shown swaps code w (events_of events.now) (outcomes_of v.items) (plain_of world.new)) }
+    ensures came { IfOk result
+        (λ v. (s : State swaps) → erase swaps code s ≡ plain_of world.old
+        → CameTo swaps code s (events_of events.now) (outcomes_of v.items) (plain_of world.new)) }
+    ensures shown { IfOk result
+        (λ v. (w : cell.World) → cell.Inv w → ((h : ℕ) → cell.own_of h w ≡ None) → erase swaps code (fresh swaps w) ≡ plain_of world.old
+        → Shown swaps code w (events_of events.now) (outcomes_of v.items) (plain_of world.new)) }
     ensures err { IfErr result (λ e. world.new ≡ world.old) }
 {
     let mut came = Vec::with_capacity(alloc, events.len())?;
@@ -534,7 +546,8 @@ pub fn show<D: Device>(
     alloc: Global,
     events: &[Event],
 ) -> Result<(World<D>, Vec<Outcome>), D>
-    ensures shown { IfOk result (λ r. Shown swaps code (rest (D.number device) (D.failures device)) (events_of events.now) (outcomes_of r.1.items) (plain_of r.0)) }
+    ensures shown { IfOk result
+        (λ r. Shown swaps code (rest (D.number device) (D.failures device)) (events_of events.now) (outcomes_of r.1.items) (plain_of r.0)) }
     ensures err { IfErr result (λ d. D.number d ≡ D.number device) }
 {
     let mut world = World::new(device)?;

@@ -10,7 +10,8 @@ ghost use Rattle.atomic_programs.specs.Cell as cell;
 /// Over every list of events, from any world that holds and where every hart is idle, the cell's replies are explained by
 /// one list of steps.
 pub fn cell_explained()
-    ensures { (w : cell.World) (events : List (Event cell.Call cell.Outside)) → cell.Inv w → ((h : ℕ) → cell.own_of h w ≡ None) → AllHonest cell.swaps events (fresh cell.swaps w) → IsExplained cell.swaps w.value (run cell.swaps events (fresh cell.swaps w)) }
+    ensures { (w : cell.World) (events : List (Event cell.Call cell.Outside)) → cell.Inv w → ((h : ℕ) → cell.own_of h w ≡ None)
+        → AllHonest cell.swaps events (fresh cell.swaps w) → IsExplained cell.swaps w.value (run cell.swaps events (fresh cell.swaps w)) }
 {}
 
 /// A step that waits, a refused start and a step in a stopped world change nothing; a stopped world stays stopped, and
@@ -22,13 +23,15 @@ pub fn cell_steady()
 /// The calls that have finished or are under way are just those that the events with their outcomes show: each reply that was
 /// given is a finished call's, and each of these was started and gave its reply.
 pub fn cell_traced()
-    ensures { (w : cell.World) (events : List (Event cell.Call cell.Outside)) → IsTraced cell.swaps (λ x. In x (happened cell.swaps events (fresh cell.swaps w))) (run cell.swaps events (fresh cell.swaps w)) }
+    ensures { (w : cell.World) (events : List (Event cell.Call cell.Outside))
+        → IsTraced cell.swaps (λ x. In x (happened cell.swaps events (fresh cell.swaps w))) (run cell.swaps events (fresh cell.swaps w)) }
 {}
 
 /// What each event places leads from the number before it to the one after it, and at most one step of it is the event's own
 /// hart's.
 pub fn cell_leads()
-    ensures { (s : State cell.swaps) (e : Event cell.Call cell.Outside) → Sound cell.swaps s → IsHonest cell.swaps e s → Leads cell.swaps (hart_of e) s (next cell.swaps e s) }
+    ensures { (s : State cell.swaps) (e : Event cell.Call cell.Outside) → Sound cell.swaps s → IsHonest cell.swaps e s
+        → Leads cell.swaps (hart_of e) s (next cell.swaps e s) }
 {}
 
 /// There are worlds that hold and where every hart is idle: any byte, on a device that has failed so often.
@@ -39,12 +42,28 @@ pub fn cell_rests(count: u8, faults: u32)
 
 /// Two calls overlap: one waits for the other, both finish, and the list has their steps in the order of the number.
 pub fn cell_finishes()
-    ensures outcomes { outcomes cell.swaps (Start 0 (cell.Swap 7) ∷ Step 0 cell.Passes ∷ Start 1 cell.Look ∷ Step 1 cell.Passes ∷ Step 0 cell.Passes ∷ Step 0 cell.Passes ∷ Step 0 cell.Passes ∷ Step 1 cell.Passes ∷ Step 1 cell.Passes ∷ Step 1 cell.Passes ∷ Step 1 cell.Passes ∷ []) (fresh cell.swaps (cell.rest 5 0)) ≡ Started ∷ DidRun (cell.Take, tt) ∷ Started ∷ DidWait ∷ DidRun (cell.Fetch, 5) ∷ DidRun (cell.Store 7, tt) ∷ DidEnd 5 ∷ DidRun (cell.Take, tt) ∷ DidRun (cell.Fetch, 7) ∷ DidEnd 7 ∷ WasIdle ∷ [] }
-    ensures history { history cell.swaps (run cell.swaps (Start 0 (cell.Swap 7) ∷ Step 0 cell.Passes ∷ Start 1 cell.Look ∷ Step 1 cell.Passes ∷ Step 0 cell.Passes ∷ Step 0 cell.Passes ∷ Step 0 cell.Passes ∷ Step 1 cell.Passes ∷ Step 1 cell.Passes ∷ Step 1 cell.Passes ∷ []) (fresh cell.swaps (cell.rest 5 0))) ≡ record { number = 5; hart = 0; call = 0; step = cell.Swapped 7 5 } ∷ record { number = 8; hart = 1; call = 2; step = cell.Saw 7 } ∷ [] }
+    ensures outcomes { outcomes cell.swaps
+        (Start 0 (cell.Swap 7) ∷ Step 0 cell.Passes ∷ Start 1 cell.Look ∷ Step 1 cell.Passes ∷ Step 0 cell.Passes ∷ Step 0 cell.Passes
+        ∷ Step 0 cell.Passes ∷ Step 1 cell.Passes ∷ Step 1 cell.Passes ∷ Step 1 cell.Passes ∷ Step 1 cell.Passes ∷ [])
+        (fresh cell.swaps (cell.rest 5 0))
+        ≡ Started ∷ DidRun (cell.Take, tt) ∷ Started ∷ DidWait ∷ DidRun (cell.Fetch, 5) ∷ DidRun (cell.Store 7, tt) ∷ DidEnd 5
+        ∷ DidRun (cell.Take, tt) ∷ DidRun (cell.Fetch, 7) ∷ DidEnd 7 ∷ WasIdle ∷ [] }
+    ensures history { history cell.swaps
+        (run cell.swaps (Start 0 (cell.Swap 7) ∷ Step 0 cell.Passes ∷ Start 1 cell.Look ∷ Step 1 cell.Passes ∷ Step 0 cell.Passes
+        ∷ Step 0 cell.Passes ∷ Step 0 cell.Passes ∷ Step 1 cell.Passes ∷ Step 1 cell.Passes ∷ Step 1 cell.Passes ∷ [])
+        (fresh cell.swaps (cell.rest 5 0)))
+        ≡ record { number = 5; hart = 0; call = 0; step = cell.Swapped 7 5 } ∷ record { number = 8; hart = 1; call = 2; step = cell.Saw 7 }
+        ∷ [] }
 {}
 
 /// The device fails in a store, which stops the world: each later step says so, and starts are taken or refused as before.
 pub fn cell_stops()
-    ensures outcomes { outcomes cell.swaps (Start 0 (cell.Swap 7) ∷ Step 0 cell.Passes ∷ Step 0 cell.Passes ∷ Step 0 (cell.Fails 7) ∷ Step 0 cell.Passes ∷ Start 0 cell.Look ∷ Start 1 cell.Look ∷ Start 8 cell.Look ∷ Step 1 cell.Passes ∷ Step 2 cell.Passes ∷ []) (fresh cell.swaps (cell.rest 5 0)) ≡ Started ∷ DidRun (cell.Take, tt) ∷ DidRun (cell.Fetch, 5) ∷ DidStop ∷ WasStopped ∷ Refused cell.Busy ∷ Started ∷ Refused cell.NoSuchHart ∷ WasStopped ∷ WasIdle ∷ [] }
-    ensures honest { AllHonest cell.swaps (Start 0 (cell.Swap 7) ∷ Step 0 cell.Passes ∷ Step 0 cell.Passes ∷ Step 0 (cell.Fails 7) ∷ Step 0 cell.Passes ∷ Start 0 cell.Look ∷ Start 1 cell.Look ∷ Start 8 cell.Look ∷ Step 1 cell.Passes ∷ Step 2 cell.Passes ∷ []) (fresh cell.swaps (cell.rest 5 0)) }
+    ensures outcomes { outcomes cell.swaps
+        (Start 0 (cell.Swap 7) ∷ Step 0 cell.Passes ∷ Step 0 cell.Passes ∷ Step 0 (cell.Fails 7) ∷ Step 0 cell.Passes ∷ Start 0 cell.Look
+        ∷ Start 1 cell.Look ∷ Start 8 cell.Look ∷ Step 1 cell.Passes ∷ Step 2 cell.Passes ∷ []) (fresh cell.swaps (cell.rest 5 0))
+        ≡ Started ∷ DidRun (cell.Take, tt) ∷ DidRun (cell.Fetch, 5) ∷ DidStop ∷ WasStopped ∷ Refused cell.Busy ∷ Started
+        ∷ Refused cell.NoSuchHart ∷ WasStopped ∷ WasIdle ∷ [] }
+    ensures honest { AllHonest cell.swaps
+        (Start 0 (cell.Swap 7) ∷ Step 0 cell.Passes ∷ Step 0 cell.Passes ∷ Step 0 (cell.Fails 7) ∷ Step 0 cell.Passes ∷ Start 0 cell.Look
+        ∷ Start 1 cell.Look ∷ Start 8 cell.Look ∷ Step 1 cell.Passes ∷ Step 2 cell.Passes ∷ []) (fresh cell.swaps (cell.rest 5 0)) }
 {}

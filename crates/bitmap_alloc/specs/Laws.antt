@@ -31,14 +31,17 @@ recorded answer n (Do op m k) = recording op ++ recorded answer (n + 1) (k (answ
 abbrev pub fetched : Oracle → ℕ → ℕ → List ℕ
 fetched answer n b = unwrap_or (answer n (Get b)) (answer (n + 1) (Read b))
 
--- No bit below the size is clear and nothing is recorded; or the first clear bit is found, and recorded are the bitmap with it set, and the block with zeros.
+-- No bit below the size is clear and nothing is recorded; or the first clear bit is found, and recorded are the bitmap with it set, and
+-- the block with zeros.
 abbrev pub Takes : (at size : ℕ) → List ℕ → List (ℕ × List ℕ) → Option ℕ → Type 0
 Takes at size bitmap changes None = ((k : ℕ) → k < size → bit_of bitmap k ≡ true) × (changes ≡ [])
-Takes at size bitmap changes (Some b) = (b < size) × (bit_of bitmap b ≡ false) × ((k : ℕ) → k < b → bit_of bitmap k ≡ true) × (changes ≡ (at, with_bit b bitmap) ∷ (b, zeros) ∷ [])
+Takes at size bitmap changes (Some b) = (b < size) × (bit_of bitmap b ≡ false) × ((k : ℕ) → k < b → bit_of bitmap k ≡ true)
+    × (changes ≡ (at, with_bit b bitmap) ∷ (b, zeros) ∷ [])
 
 -- so a block is taken
 abbrev pub TakesTheFirst : Type 0
-TakesTheFirst = (answer : Oracle) (at size : ℕ) → Takes at size (fetched answer 0 at) (recorded answer 0 (take_block at size)) (outcome answer 0 (take_block at size))
+TakesTheFirst = (answer : Oracle) (at size : ℕ)
+    → Takes at size (fetched answer 0 at) (recorded answer 0 (take_block at size)) (outcome answer 0 (take_block at size))
 
 -- a block is given back by the bitmap alone
 abbrev pub FreesByTheBitmap : Type 0
@@ -49,4 +52,5 @@ abbrev pub SetsOneBit : Type 0
 SetsOneBit = (bitmap : List ℕ) (b c : ℕ) → b < 8 * length bitmap → bit_of (with_bit b bitmap) c ≡ (if c == b then true else bit_of bitmap c)
 
 abbrev pub ClearsOneBit : Type 0
-ClearsOneBit = (bitmap : List ℕ) (b c : ℕ) → b < 8 * length bitmap → bit_of (without_bit b bitmap) c ≡ (if c == b then false else bit_of bitmap c)
+ClearsOneBit =
+    (bitmap : List ℕ) (b c : ℕ) → b < 8 * length bitmap → bit_of (without_bit b bitmap) c ≡ (if c == b then false else bit_of bitmap c)

@@ -34,7 +34,8 @@ take_asked (Zero b p) = ops.Record p
 
 abbrev pub TakeReady : TakeBlock → Hand → Type 0
 TakeReady (Bitmap size f) h = FetchReady f h × (size ≤ bits_per_block) × IsSome h.txn
-TakeReady (Mark found p) h = MatchOption (buffer_at p h) ⊥ (λ g. IsSome g.value.content) × IfSome found (λ b. b < bits_per_block) × IsSome h.txn
+TakeReady (Mark found p) h =
+    MatchOption (buffer_at p h) ⊥ (λ g. IsSome g.value.content) × IfSome found (λ b. b < bits_per_block) × IsSome h.txn
 TakeReady (Block b f) h = FetchReady f h × (fetch_block f ≡ b) × IsSome h.txn
 TakeReady (Zero b p) h = MatchOption (buffer_at p h) ⊥ (λ g. IsSome g.value.content × (g.value.block ≡ b)) × IsSome h.txn
 

@@ -20,4 +20,5 @@ left_after (Some (suc n)) = Some n
 
 -- the bytes that a write leaves: where it fails the old block stands, or the new one
 abbrev pub bytes_after : {E : Type 0} → Result (Unit {0}) E → OneFault → ℕ → List ℕ → List ℕ
-bytes_after result d b block = if is_err result then (if d.done then with_block d.bytes b block else d.bytes) else with_block d.bytes b block
+bytes_after result d b block =
+    if is_err result then (if d.done then with_block d.bytes b block else d.bytes) else with_block d.bytes b block

@@ -106,9 +106,16 @@ impl Device for Once {
     fn write(&mut self, b: u32, from: &[u8; BLOCK_LEN]) -> Result<(), Fault>
         requires { b < length (blocks_of self.old.bytes) }
         ensures fails { IsErr result ↔ (self.old.left ≡ Some 0) }
-        ensures after { self.new ≡ record { bytes = bytes_after result self.old b from.now; left = left_after self.old.left; done = self.old.done; faults = faults_after result self.old.faults } }
+        ensures after { self.new ≡ record {
+          bytes = bytes_after result self.old b from.now;
+          left = left_after self.old.left;
+          done = self.old.done;
+          faults = faults_after result self.old.faults;
+        } }
         ensures written { OnOk result (blocks_of self.new.bytes ≡ slice_set (blocks_of self.old.bytes) b from.now) }
-        ensures failed { OnErr result (blocks_of self.new.bytes ≡ (if self.old.done then slice_set (blocks_of self.old.bytes) b from.now else blocks_of self.old.bytes)) }
+        ensures failed { OnErr result
+            (blocks_of self.new.bytes
+            ≡ (if self.old.done then slice_set (blocks_of self.old.bytes) b from.now else blocks_of self.old.bytes)) }
         ensures rest { rest_of self.new.bytes ≡ rest_of self.old.bytes }
     {
         match self.pass() {

@@ -20,7 +20,8 @@ get_new hart b seats (Some s) = (change_first is_free (as_new hart b) seats, Hel
 -- by the buffer that has the block
 abbrev pub get_by : ℕ → ℕ → List SeatState → Option SeatState → List SeatState × Got
 get_by hart b seats None = get_new hart b seats (find is_free seats)
-get_by hart b seats (Some s) = if is_out s then (seats, Waits) else (with_seat b (with_holder hart) seats, Held (guard_of hart b s s.content))
+get_by hart b seats (Some s) =
+    if is_out s then (seats, Waits) else (with_seat b (with_holder hart) seats, Held (guard_of hart b s s.content))
 
 -- the block's buffer where one has it, and it waits where that is out; else the least recently given back one of those
 -- that are neither out nor pinned

@@ -13,7 +13,8 @@ first_or (n ∷ ns) b = n
 -- these numbers are linked to one another in their order, and the last one to b
 abbrev pub IsPath : List ℕ → List ℕ → List ℕ → ℕ → Type 0
 IsPath next previous [] b = Unit {0}
-IsPath next previous (n ∷ ns) b = (slice_index next n ≡ first_or ns b) × (slice_index previous (first_or ns b) ≡ n) × IsPath next previous ns b
+IsPath next previous (n ∷ ns) b =
+    (slice_index next n ≡ first_or ns b) × (slice_index previous (first_or ns b) ≡ n) × IsPath next previous ns b
 
 -- so many numbers, as they stand behind one
 unfoldable pub follow : List ℕ → ℕ → ℕ → List ℕ

@@ -311,7 +311,8 @@ fn keep_in(seats: &mut Vec<Seat>, chains: &Chains, guard: &Guard<Buffer>)
     requires valid { IsSome guard.now.value.content }
     requires chained { IsChained seats.old.items chains.now }
     requires once { count_of (has_block guard.now.value.block) seats.old.items ≤ 1 }
-    ensures { IfSome guard.now.value.content (λ bytes. seats.new.items ≡ with_seat guard.now.value.block (with_content bytes) seats.old.items) }
+    ensures { IfSome guard.now.value.content
+        (λ bytes. seats.new.items ≡ with_seat guard.now.value.block (with_content bytes) seats.old.items) }
 {
     let buffer = guard.value();
     let i = chains.find(seats, buffer.block()).unwrap();

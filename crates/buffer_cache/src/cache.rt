@@ -228,7 +228,8 @@ impl<D: Device> Cache<D> {
         ensures err { OnErr result ((D.contents self.new.device ≡ D.contents self.old.device)
             ⊎ (D.contents self.new.device
             ≡ slice_set (D.contents self.old.device) guard.now.value.block (seen D.contents self.old guard.now.value.block))) }
-        ensures home { OnOk result (block_at (D.contents self.new.device) guard.now.value.block ≡ seen D.contents self.new guard.now.value.block) }
+        ensures home { OnOk result
+            (block_at (D.contents self.new.device) guard.now.value.block ≡ seen D.contents self.new guard.now.value.block) }
         ensures faults { D.failures self.new.device ≡ faults_after result (D.failures self.old.device) }
         ensures seats { self.new.seats ≡ self.old.seats }
         ensures seen { (k : ℕ) → seen D.contents self.new k ≡ seen D.contents self.old k }

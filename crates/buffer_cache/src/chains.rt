@@ -76,7 +76,8 @@ impl Chains {
     /// Moves a buffer to the chain of the block that it has from now on.
     pub fn move_to(&mut self, number: u8, b: u32)
         requires { number < buffer_count }
-        ensures { (blocks : List (Option ℕ)) → number < length blocks → IsGrouped blocks self.old → IsGrouped (slice_set blocks number (Some b)) self.new }
+        ensures { (blocks : List (Option ℕ)) → number < length blocks → IsGrouped blocks self.old
+            → IsGrouped (slice_set blocks number (Some b)) self.new }
     {
         unlink(&mut self.next, &mut self.previous, number);
         link_behind(&mut self.next, &mut self.previous, chain_of(b), number);

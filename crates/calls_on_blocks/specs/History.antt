@@ -50,14 +50,17 @@ first disk failures = record { real = record { blocks = mounted disk failures; c
 pub record RunsOn (disk : List (List ℕ)) (failures : ℕ) (events : List (Event Call Outside)) : Type 0 where
   pub mountable : IsMountable disk
   pub honest : AllHonest (block_calls (sizes_of disk)) events (fresh (block_calls (sizes_of disk)) (first disk failures))
-  pub clean : (block_calls (sizes_of disk)).M.Clean (run (block_calls (sizes_of disk)) events (fresh (block_calls (sizes_of disk)) (first disk failures))).world
+  pub clean : (block_calls (sizes_of disk)).M.Clean
+      (run (block_calls (sizes_of disk)) events (fresh (block_calls (sizes_of disk)) (first disk failures))).world
 
 -- As long as no path climbs, their replies are explained by one list of tree steps, from the image's tree.
 abbrev pub MountsHaveOneHistory : Type 0
 MountsHaveOneHistory =
-    (disk : List (List ℕ)) (failures : ℕ) (events : List (Event Call Outside)) → RunsOn disk failures events → NoneClimbs events → HasOneHistory (block_moves (sizes_of disk)) (tree_in disk) (first disk failures) events
+    (disk : List (List ℕ)) (failures : ℕ) (events : List (Event Call Outside)) → RunsOn disk failures events → NoneClimbs events
+    → HasOneHistory (block_moves (sizes_of disk)) (tree_in disk) (first disk failures) events
 
 -- And where one hart alone makes calls, for any paths.
 abbrev pub OneHartHasOneHistory : Type 0
 OneHartHasOneHistory =
-    (disk : List (List ℕ)) (failures h : ℕ) (events : List (Event Call Outside)) → RunsOn disk failures events → Alone h events → HasOneHistory (block_moves (sizes_of disk)) (tree_in disk) (first disk failures) events
+    (disk : List (List ℕ)) (failures h : ℕ) (events : List (Event Call Outside)) → RunsOn disk failures events → Alone h events
+    → HasOneHistory (block_moves (sizes_of disk)) (tree_in disk) (first disk failures) events

@@ -80,7 +80,9 @@ has_file h t = any_below descriptor_count (λ fd. is_some (file_named h fd t))
 -- why a hart can't be the child: there is no such hart; it is the caller, has a call, or is another one's child; it has descriptors
 abbrev pub child_refusal : ℕ → ℕ → (ℕ → Bool) → SharedState → Option Refusal
 child_refusal h child busy s =
-    if nat_lt child hart_count then (if (child == h) || (busy child || reserved busy s.children child) then Some Busy else (if has_file child s.state.tables then Some NotEmptyHart else None)) else Some NoSuchHart
+    if nat_lt child hart_count
+    then (if (child == h) || (busy child || reserved busy s.children child) then Some Busy
+    else (if has_file child s.state.tables then Some NotEmptyHart else None)) else Some NoSuchHart
 
 abbrev pub others_refusal : ℕ → Call → (ℕ → Bool) → SharedState → Option Refusal
 others_refusal h (Inherit child) busy s = child_refusal h child busy s
@@ -90,7 +92,8 @@ others_refusal h call busy s = None
 
 -- why hart h's call doesn't begin: a child starts nothing; then what is wrong with the call, and last what the other harts do
 abbrev pub start_refusal : ℕ → Call → (ℕ → Bool) → SharedState → Option Refusal
-start_refusal h call busy s = or_else (if reserved busy s.children h then Some Busy else None) (or_else (refusal_for call) (others_refusal h call busy s))
+start_refusal h call busy s =
+    or_else (if reserved busy s.children h then Some Busy else None) (or_else (refusal_for call) (others_refusal h call busy s))
 
 abbrev pub begun_by : {S : Type 0} → S → Option Refusal → Began Refusal S
 begun_by s None = Begins s

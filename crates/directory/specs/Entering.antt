@@ -30,7 +30,8 @@ entered_by slot w = Ret (record { inode = w.inode; room = if w.upto == dirent_le
 -- the bytes of an entry go into a slot, where a directory may have so many
 abbrev pub enter_in : {M : Type 0} → Super → (n : ℕ) → Dinode → List ℕ → ℕ → Prog Op Answer M EnteredState
 enter_in sizes n d bytes slot =
-    if nat_lt slot most_slots then bind (write_part sizes n d (dirent_len * slot) bytes) (entered_by slot) else Ret (record { inode = d; room = NoSlot })
+    if nat_lt slot most_slots then bind (write_part sizes n d (dirent_len * slot) bytes) (entered_by slot)
+    else Ret (record { inode = d; room = NoSlot })
 
 abbrev pub enter_at : {M : Type 0} → Super → (n : ℕ) → Dinode → List ℕ → Option Found → Prog Op Answer M EnteredState
 enter_at sizes n d bytes found = enter_in sizes n d bytes (slot_for d found)
@@ -39,6 +40,7 @@ enter_at sizes n d bytes found = enter_in sizes n d bytes (slot_for d found)
 abbrev pub enter_bytes : {M : Type 0} → Super → (n : ℕ) → Dinode → List ℕ → Prog Op Answer M EnteredState
 enter_bytes sizes n d bytes = bind (search Unused d) (enter_at sizes n d bytes)
 
--- Into directory n goes inode m by this name: in the first free slot, else in a new last one, where the directory may have one more and a block is there or free.
+-- Into directory n goes inode m by this name: in the first free slot, else in a new last one, where the directory may have one more and a
+-- block is there or free.
 abbrev pub enter : {M : Type 0} → Super → (n : ℕ) → Dinode → (m : ℕ) → List ℕ → Prog Op Answer M EnteredState
 enter sizes n d m name = enter_bytes sizes n d (spell_dirent (Used m name))

@@ -15,7 +15,8 @@ use Rattle.directory.specs.Programs.{Aim, Named, Unused, Entry, block_count, slo
 
 -- the operations show these blocks as the directory's, at any time
 abbrev pub Shows : Oracle → Dinode → (ℕ → List ℕ) → Type 0
-Shows answer d content = (n k : ℕ) → k < block_count d → (let p : P FetchedBlock = fetch_block d k in (outcome answer n p).bytes ≡ content k)
+Shows answer d content =
+    (n k : ℕ) → k < block_count d → (let p : P FetchedBlock = fetch_block d k in (outcome answer n p).bytes ≡ content k)
 
 -- slot s of a directory with these blocks: None where its bytes are no entry
 abbrev pub slot_at : (ℕ → List ℕ) → ℕ → Option Dirent
@@ -48,7 +49,8 @@ FindsTheFirst = (answer : Oracle) (d : Dinode) (content : ℕ → List ℕ) (aim
 
 -- in a directory without links, and in what is no directory, nothing is found, without an operation
 abbrev pub FindsNothingInTheDead : Type 0
-FindsNothingInTheDead = (name : List ℕ) (d : Dinode) → is_live_directory d ≡ false → let p : P (Option Found) = lookup name d in p ≡ Ret None
+FindsNothingInTheDead =
+    (name : List ℕ) (d : Dinode) → is_live_directory d ≡ false → let p : P (Option Found) = lookup name d in p ≡ Ret None
 
 -- a block into which an entry was written has it, and its other slots are as they were
 abbrev pub PutsOneEntry : Type 0

@@ -117,6 +117,7 @@ abbrev pub put_dirent : {M : Type 0} → (inodestart n : ℕ) → Dinode → (s 
 put_dirent inodestart n d s entry f =
     Do (Put f.number (Some (with_dirent (s % dirents_per_block) entry f.bytes))) unmarked (λ _. store_slot inodestart n (with_slot s d))
 
--- An entry goes into slot s of the directory n, whose block is there: a name is entered so, and cleared. The directory's new record is answered.
+-- An entry goes into slot s of the directory n, whose block is there: a name is entered so, and cleared. The directory's new record is
+-- answered.
 abbrev pub put_entry : {M : Type 0} → (inodestart n : ℕ) → Dinode → (s : ℕ) → Dirent → Prog Op Answer M Dinode
 put_entry inodestart n d s entry = bind (fetch_block d (s / dirents_per_block)) (put_dirent inodestart n d s entry)

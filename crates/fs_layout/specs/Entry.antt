@@ -19,7 +19,8 @@ name_of field = take (position_or_len is_zero field) field
 -- a used entry with this number: the name, and then zeros alone
 abbrev pub used_of : ℕ → List ℕ → Option Dirent
 used_of number field =
-    if is_name (name_of field) && list_all is_zero (drop (position_or_len is_zero field) field) then Some (Used number (name_of field)) else None
+    if is_name (name_of field) && list_all is_zero (drop (position_or_len is_zero field) field) then Some (Used number (name_of field))
+    else None
 
 -- a free slot: zeros alone
 abbrev pub free_of : List ℕ → Option Dirent

@@ -23,7 +23,8 @@ MayNext hart p s = OfNext (May hart) (asks p) s
 
 -- the step is the program's next operation
 abbrev pub Moves : {M R A : Type 0} → (M → P A) → (R → A) → ℕ → M → Stepped M R Kind → State → State → Type 0
-Moves program value hart self result old new = advance kind_of (exec hart (said_in result new)) (program self) old ≡ moved_to program value result new
+Moves program value hart self result old new =
+    advance kind_of (exec hart (said_in result new)) (program self) old ≡ moved_to program value result new
 
 -- and what the device answered to it is possible
 abbrev pub Answers : {M R A : Type 0} → (M → P A) → ℕ → M → Stepped M R Kind → State → State → Type 0

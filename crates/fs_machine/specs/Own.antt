@@ -32,4 +32,5 @@ own_of g l =
     }
 
 abbrev pub LeavesOwn : Type 0
-LeavesOwn = (h g : ℕ) (x : Outside) (op : Op) (s : State) → g ≢ h → IsWholeLog s.log → May h op s → Honest h op s x → After (λ t. own_of g t.log ≡ own_of g s.log) (exec h x op s)
+LeavesOwn = (h g : ℕ) (x : Outside) (op : Op) (s : State) → g ≢ h → IsWholeLog s.log → May h op s → Honest h op s x
+    → After (λ t. own_of g t.log ≡ own_of g s.log) (exec h x op s)

@@ -26,7 +26,8 @@ MayJoin h l = (h < hart_count) × (slice_get l.members h ≡ Some None)
 -- what a hart may change of a block's buffer in its hand
 abbrev pub MayRecord : ℕ → ℕ → LogPart → Option (List ℕ) → Type 0
 MayRecord h b l None = Unit {0}
-MayRecord h b l (Some bytes) = IsSome (kept b l.seats) × IsMember l.members h × (l.phase ≢ Halted) × IsHome l.contents l.sizes b × (has l.group b ≡ false → HasRoom l.members h)
+MayRecord h b l (Some bytes) = IsSome (kept b l.seats) × IsMember l.members h × (l.phase ≢ Halted) × IsHome l.contents l.sizes b
+    × (has l.group b ≡ false → HasRoom l.members h)
 
 abbrev pub MayPut : ℕ → ℕ → Option (List ℕ) → LogPart → Type 0
 MayPut h b change l = (holder_of b l.seats ≡ Some h) × IsOutsideLog l.sizes b × MayRecord h b l change
@@ -65,7 +66,8 @@ MayDown h (Freed n) t = HasReference n t × MayDrop n t
 
 -- the child is another hart, without descriptors from here on
 abbrev pub MayGive : ℕ → ℕ → ℕ → TablesState → Type 0
-MayGive h child from t = (h < hart_count) × (child < hart_count) × (child ≢ h) × (next_full from (descriptors_of (slice_get t.desks child)) ≡ None) × MayUp (directory_of (slice_get t.desks h)) t
+MayGive h child from t = (h < hart_count) × (child < hart_count) × (child ≢ h)
+    × (next_full from (descriptors_of (slice_get t.desks child)) ≡ None) × MayUp (directory_of (slice_get t.desks h)) t
 
 abbrev pub MayUpWhom : ℕ → Whom → TablesState → Type 0
 MayUpWhom h (Number n) t = MayUp n t
@@ -75,8 +77,10 @@ unfoldable pub May : ℕ → Op → State → Type 0
 May h Join s = MayJoin h s.log
 May h (JoinToWrite fd) s = MayJoin h s.log
 May h Leave s = IsMember s.log.members h × (s.log.phase ≢ Halted)
-May h (Get b) s = (h < hart_count) × (count_of (is_held_by h) s.log.seats ≤ 1) × IsOutsideLog s.log.sizes b × (holder_of b s.log.seats ≢ Some h)
-May h (Read b) s = (holder_of b s.log.seats ≡ Some h) × IsOutsideLog s.log.sizes b × (kept b s.log.seats ≡ None) × (b < length s.log.contents)
+May h (Get b) s =
+    (h < hart_count) × (count_of (is_held_by h) s.log.seats ≤ 1) × IsOutsideLog s.log.sizes b × (holder_of b s.log.seats ≢ Some h)
+May h (Read b) s =
+    (holder_of b s.log.seats ≡ Some h) × IsOutsideLog s.log.sizes b × (kept b s.log.seats ≡ None) × (b < length s.log.contents)
 May h (Put b change) s = MayPut h b change s.log
 May h Commit s = (h < hart_count) × (count_of (is_held_by h) s.log.seats ≡ 0) × (s.log.phase ≢ Open) × (s.log.phase ≢ Halted)
 May h (Lock n) s = MayLock h n s.tables

@@ -20,5 +20,7 @@ abbrev pub HasNone : {V : Type 0} → ℕ → (ℕ → GuardState V → State �
 HasNone {V} n Own s = (k : ℕ) (held : GuardState V) → Own k held s → k ≢ n
 
 -- all that a machine hasn't got itself, and it doesn't come to have it: neither the machine that is left nor its result
-abbrev pub LeavesApart : {V M R : Type 0} → (ℕ → M → Type 0) → (ℕ → R → Type 0) → (ℕ → GuardState V → State → Type 0) → M → Stepped M R Kind → State → State → Type 0
-LeavesApart {V} IsApart EndsApart Own self result old new = (k : ℕ) (held : GuardState V) → Own k held old → IsApart k self → Own k held new × Left (IsApart k) (EndsApart k) result
+abbrev pub LeavesApart : {V M R : Type 0} → (ℕ → M → Type 0) → (ℕ → R → Type 0) → (ℕ → GuardState V → State → Type 0) → M → Stepped M R Kind
+    → State → State → Type 0
+LeavesApart {V} IsApart EndsApart Own self result old new =
+    (k : ℕ) (held : GuardState V) → Own k held old → IsApart k self → Own k held new × Left (IsApart k) (EndsApart k) result

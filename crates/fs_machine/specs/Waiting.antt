@@ -14,4 +14,5 @@ IsCounted t = (n : ℕ) → owed n t ≤ references_of n t
 
 -- An operation waits only for what another hart has in its hand, or for the log.
 abbrev pub WaitsWhereItMay : Type 0
-WaitsWhereItMay = (h : ℕ) (x : Outside) (op : Op) (s : State) → IsWholeLog s.log → IsSoundTables s.tables → IsCounted s.tables → May h op s → exec h x op s ≡ Waits → MayWait h op s
+WaitsWhereItMay = (h : ℕ) (x : Outside) (op : Op) (s : State) → IsWholeLog s.log → IsSoundTables s.tables → IsCounted s.tables → May h op s
+    → exec h x op s ≡ Waits → MayWait h op s

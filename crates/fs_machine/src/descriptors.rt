@@ -17,7 +17,8 @@ impl<D: Device> Core<D> {
     /// Why a descriptor may not be had for this.
     pub fn check_file(&self, hart: u8, want: Want, fd: u32) -> Option<Refused>
         requires may { May hart (CheckFile want fd) (state_of D.contents D.failures self.now) }
-        ensures { (x : Outside) → exec hart x (CheckFile want fd) (state_of D.contents D.failures self.now) ≡ ItRan result (state_of D.contents D.failures self.now) }
+        ensures { (x : Outside) → exec hart x (CheckFile want fd) (state_of D.contents D.failures self.now)
+            ≡ ItRan result (state_of D.contents D.failures self.now) }
     {
         self.tables.check(hart, want, fd)
     }
@@ -25,7 +26,8 @@ impl<D: Device> Core<D> {
     /// Takes a place for an open file (xv6: `filealloc`). False where each of the hundred is taken.
     pub fn take_place(&mut self, hart: u8) -> bool
         requires may { May hart TakePlace (state_of D.contents D.failures self.old) }
-        ensures ran { (x : Outside) → exec hart x TakePlace (state_of D.contents D.failures self.old) ≡ ItRan result (state_of D.contents D.failures self.new) }
+        ensures ran { (x : Outside)
+            → exec hart x TakePlace (state_of D.contents D.failures self.old) ≡ ItRan result (state_of D.contents D.failures self.new) }
         ensures others { LeavesTied hart (state_of D.contents D.failures self.old) (state_of D.contents D.failures self.new) }
         ensures log { self.new.log ≡ self.old.log }
         ensures rest { LeavesAll (IsOwnInode hart) (state_of D.contents D.failures self.old) (state_of D.contents D.failures self.new) }
@@ -42,7 +44,9 @@ impl<D: Device> Core<D> {
         file: NewFile,
     ) -> Result<u8, Reference>
         requires may { May hart (TakeDescriptor reference file) (state_of D.contents D.failures self.old) }
-        ensures ran { (x : Outside) → exec hart x (TakeDescriptor reference file) (state_of D.contents D.failures self.old) ≡ ItRan (opened_as result) (state_of D.contents D.failures self.new) }
+        ensures ran { (x : Outside)
+            → exec hart x (TakeDescriptor reference file) (state_of D.contents D.failures self.old)
+            ≡ ItRan (opened_as result) (state_of D.contents D.failures self.new) }
         ensures back { IfErr result (λ back. back ≡ reference) }
         ensures others { LeavesTied hart (state_of D.contents D.failures self.old) (state_of D.contents D.failures self.new) }
         ensures log { self.new.log ≡ self.old.log }
@@ -54,7 +58,8 @@ impl<D: Device> Core<D> {
     /// One descriptor more for what this one names, the lowest that is free (xv6: `fdalloc` and `filedup`).
     pub fn double(&mut self, hart: u8, fd: u32) -> Doubled
         requires may { May hart (Double fd) (state_of D.contents D.failures self.old) }
-        ensures ran { (x : Outside) → exec hart x (Double fd) (state_of D.contents D.failures self.old) ≡ ItRan result (state_of D.contents D.failures self.new) }
+        ensures ran { (x : Outside)
+            → exec hart x (Double fd) (state_of D.contents D.failures self.old) ≡ ItRan result (state_of D.contents D.failures self.new) }
         ensures others { LeavesTied hart (state_of D.contents D.failures self.old) (state_of D.contents D.failures self.new) }
         ensures log { self.new.log ≡ self.old.log }
         ensures rest { LeavesAll (IsOwnInode hart) (state_of D.contents D.failures self.old) (state_of D.contents D.failures self.new) }
@@ -66,7 +71,8 @@ impl<D: Device> Core<D> {
     /// `iput`).
     pub fn close(&mut self, hart: u8, fd: u32) -> Shut
         requires may { May hart (Close fd) (state_of D.contents D.failures self.old) }
-        ensures ran { (x : Outside) → exec hart x (Close fd) (state_of D.contents D.failures self.old) ≡ ItRan result (state_of D.contents D.failures self.new) }
+        ensures ran { (x : Outside)
+            → exec hart x (Close fd) (state_of D.contents D.failures self.old) ≡ ItRan result (state_of D.contents D.failures self.new) }
         ensures others { LeavesTied hart (state_of D.contents D.failures self.old) (state_of D.contents D.failures self.new) }
         ensures log { self.new.log ≡ self.old.log }
         ensures rest { LeavesAll (IsOwnInode hart) (state_of D.contents D.failures self.old) (state_of D.contents D.failures self.new) }
@@ -78,7 +84,9 @@ impl<D: Device> Core<D> {
     /// directory becomes the hart's, and the reference to its old one is handed out.
     pub fn give(&mut self, hart: u8, child: u8, from: u32) -> Given
         requires may { May hart (Give child from) (state_of D.contents D.failures self.old) }
-        ensures ran { (x : Outside) → exec hart x (Give child from) (state_of D.contents D.failures self.old) ≡ ItRan result (state_of D.contents D.failures self.new) }
+        ensures ran { (x : Outside)
+            → exec hart x (Give child from) (state_of D.contents D.failures self.old)
+            ≡ ItRan result (state_of D.contents D.failures self.new) }
         ensures past { DESCRIPTORS ≤ from → IsDirectory result }
         ensures others { LeavesTied hart (state_of D.contents D.failures self.old) (state_of D.contents D.failures self.new) }
         ensures log { self.new.log ≡ self.old.log }
@@ -90,6 +98,7 @@ impl<D: Device> Core<D> {
     /// Gives the reply, which changes nothing.
     #[tactic(auto, unfolding(crate::specs::Steps::exec))]
     pub fn reply(&self, hart: u8)
-        ensures { (x : Outside) → exec hart x Reply (state_of D.contents D.failures self.now) ≡ ItRan tt (state_of D.contents D.failures self.now) }
+        ensures { (x : Outside) → exec hart x Reply (state_of D.contents D.failures self.now)
+            ≡ ItRan tt (state_of D.contents D.failures self.now) }
     {}
 }

@@ -21,7 +21,9 @@ impl<D: Device> Core<D> {
     /// Takes the lock of an inode (xv6: the `acquiresleep` of `ilock`). None where it waits.
     pub fn lock(&mut self, hart: u8, reference: &Reference) -> Option<Guard<Inode>>
         requires may { May hart (Lock reference.now) (state_of D.contents D.failures self.old) }
-        ensures ran { (x : Outside) → exec hart x (Lock reference.now) (state_of D.contents D.failures self.old) ≡ locked_as result (state_of D.contents D.failures self.new) }
+        ensures ran { (x : Outside)
+            → exec hart x (Lock reference.now) (state_of D.contents D.failures self.old)
+            ≡ locked_as result (state_of D.contents D.failures self.new) }
         ensures still { IfNone result (self.new ≡ self.old) }
         ensures own { IfSome result (λ guard. IsOwnInode hart reference.now guard (state_of D.contents D.failures self.new)) }
         ensures others { LeavesTied hart (state_of D.contents D.failures self.old) (state_of D.contents D.failures self.new) }
@@ -36,10 +38,13 @@ impl<D: Device> Core<D> {
     pub fn unlock(&mut self, hart: u8, guard: Guard<Inode>)
         requires own { IsOwnInode hart guard.value.number guard (state_of D.contents D.failures self.old) }
         requires may { May hart (Unlock guard.value None) (state_of D.contents D.failures self.old) }
-        ensures ran { (x : Outside) → exec hart x (Unlock guard.value None) (state_of D.contents D.failures self.old) ≡ ItRan tt (state_of D.contents D.failures self.new) }
+        ensures ran { (x : Outside)
+            → exec hart x (Unlock guard.value None) (state_of D.contents D.failures self.old)
+            ≡ ItRan tt (state_of D.contents D.failures self.new) }
         ensures others { LeavesTied hart (state_of D.contents D.failures self.old) (state_of D.contents D.failures self.new) }
         ensures log { self.new.log ≡ self.old.log }
-        ensures rest { LeavesAllBut guard.value.number (IsOwnInode hart) (state_of D.contents D.failures self.old) (state_of D.contents D.failures self.new) }
+        ensures rest { LeavesAllBut guard.value.number (IsOwnInode hart) (state_of D.contents D.failures self.old)
+            (state_of D.contents D.failures self.new) }
     {
         self.tables.unlock(hart, guard);
     }
@@ -48,7 +53,9 @@ impl<D: Device> Core<D> {
     #[tactic(auto, unfolding(crate::specs::Premises::May))]
     pub fn up(&mut self, hart: u8, number: u32) -> Option<Reference>
         requires may { May hart (Up (Number number)) (state_of D.contents D.failures self.old) }
-        ensures ran { (x : Outside) → exec hart x (Up (Number number)) (state_of D.contents D.failures self.old) ≡ ItRan result (state_of D.contents D.failures self.new) }
+        ensures ran { (x : Outside)
+            → exec hart x (Up (Number number)) (state_of D.contents D.failures self.old)
+            ≡ ItRan result (state_of D.contents D.failures self.new) }
         ensures number { IfSome result (λ reference. reference ≡ number) }
         ensures others { LeavesTied hart (state_of D.contents D.failures self.old) (state_of D.contents D.failures self.new) }
         ensures log { self.new.log ≡ self.old.log }
@@ -63,8 +70,11 @@ impl<D: Device> Core<D> {
     pub fn claim(&mut self, hart: u8, guard: Guard<Buffer>, candidates: &[u32]) -> Claim
         requires own { IsOwn hart guard.value.block guard (state_of D.contents D.failures self.old) }
         requires may { May hart (ClaimOp guard.value.block candidates.now) (state_of D.contents D.failures self.old) }
-        ensures ran { (x : Outside) → exec hart x (ClaimOp guard.value.block candidates.now) (state_of D.contents D.failures self.old) ≡ claimed_as result (state_of D.contents D.failures self.new) }
-        ensures kept { IfKept result (λ kept. (kept ≡ guard) × IsOwn hart guard.value.block kept (state_of D.contents D.failures self.new)) }
+        ensures ran { (x : Outside)
+            → exec hart x (ClaimOp guard.value.block candidates.now) (state_of D.contents D.failures self.old)
+            ≡ claimed_as result (state_of D.contents D.failures self.new) }
+        ensures kept { IfKept result
+            (λ kept. (kept ≡ guard) × IsOwn hart guard.value.block kept (state_of D.contents D.failures self.new)) }
         ensures others { LeavesTied hart (state_of D.contents D.failures self.old) (state_of D.contents D.failures self.new) }
         ensures device { self.new.log.cache.device ≡ self.old.log.cache.device }
         ensures rest { LeavesAll (IsOwnInode hart) (state_of D.contents D.failures self.old) (state_of D.contents D.failures self.new) }
@@ -85,8 +95,11 @@ impl<D: Device> Core<D> {
     /// place.
     pub fn drop_reference(&mut self, hart: u8, reference: Reference) -> Dropped
         requires may { May hart (Down (Held reference)) (state_of D.contents D.failures self.old) }
-        ensures ran { (x : Outside) → exec hart x (Down (Held reference)) (state_of D.contents D.failures self.old) ≡ dropped_as result (state_of D.contents D.failures self.new) }
-        ensures own { IfDying result (λ n guard. (n ≡ reference) × IsOwnInode hart reference guard (state_of D.contents D.failures self.new)) }
+        ensures ran { (x : Outside)
+            → exec hart x (Down (Held reference)) (state_of D.contents D.failures self.old)
+            ≡ dropped_as result (state_of D.contents D.failures self.new) }
+        ensures own { IfDying result
+            (λ n guard. (n ≡ reference) × IsOwnInode hart reference guard (state_of D.contents D.failures self.new)) }
         ensures others { LeavesTied hart (state_of D.contents D.failures self.old) (state_of D.contents D.failures self.new) }
         ensures log { self.new.log ≡ self.old.log }
         ensures rest { LeavesAll (IsOwnInode hart) (state_of D.contents D.failures self.old) (state_of D.contents D.failures self.new) }
@@ -99,7 +112,9 @@ impl<D: Device> Core<D> {
     #[tactic(auto, unfolding(crate::specs::Premises::May))]
     pub fn lock_file(&mut self, hart: u8, want: Want, fd: u32) -> LockedFile
         requires may { May hart (LockFile want fd) (state_of D.contents D.failures self.old) }
-        ensures ran { (x : Outside) → exec hart x (LockFile want fd) (state_of D.contents D.failures self.old) ≡ file_locked_as result (state_of D.contents D.failures self.new) }
+        ensures ran { (x : Outside)
+            → exec hart x (LockFile want fd) (state_of D.contents D.failures self.old)
+            ≡ file_locked_as result (state_of D.contents D.failures self.new) }
         ensures still { IfFileWaits result (self.new ≡ self.old) }
         ensures number { IfFileLocked result (λ file _. file.number < 2 ^ 16) }
         ensures own { IfFileLocked result (λ file guard. IsOwnInode hart file.number guard (state_of D.contents D.failures self.new)) }
@@ -124,7 +139,9 @@ impl<D: Device> Core<D> {
     #[tactic(auto, unfolding(crate::specs::Premises::May))]
     pub fn lock_open(&mut self, hart: u8, fd: u32) -> Option<(OpenFile, Guard<Inode>)>
         requires may { May hart (LockOpen fd) (state_of D.contents D.failures self.old) }
-        ensures ran { (x : Outside) → exec hart x (LockOpen fd) (state_of D.contents D.failures self.old) ≡ open_locked_as result (state_of D.contents D.failures self.new) }
+        ensures ran { (x : Outside)
+            → exec hart x (LockOpen fd) (state_of D.contents D.failures self.old)
+            ≡ open_locked_as result (state_of D.contents D.failures self.new) }
         ensures still { IfNone result (self.new ≡ self.old) }
         ensures number { IfSome result (λ locked. locked.0.number < 2 ^ 16) }
         ensures own { IfSome result (λ locked. IsOwnInode hart locked.0.number locked.1 (state_of D.contents D.failures self.new)) }
@@ -148,10 +165,13 @@ impl<D: Device> Core<D> {
         requires hart { hart < HARTS }
         requires own { IsOwnInode hart guard.value.number guard (state_of D.contents D.failures self.old) }
         requires may { May hart (Unlock guard.value (Some (fd, offset))) (state_of D.contents D.failures self.old) }
-        ensures ran { (x : Outside) → exec hart x (Unlock guard.value (Some (fd, offset))) (state_of D.contents D.failures self.old) ≡ ItRan tt (state_of D.contents D.failures self.new) }
+        ensures ran { (x : Outside)
+            → exec hart x (Unlock guard.value (Some (fd, offset))) (state_of D.contents D.failures self.old)
+            ≡ ItRan tt (state_of D.contents D.failures self.new) }
         ensures others { LeavesTied hart (state_of D.contents D.failures self.old) (state_of D.contents D.failures self.new) }
         ensures log { self.new.log ≡ self.old.log }
-        ensures rest { LeavesAllBut guard.value.number (IsOwnInode hart) (state_of D.contents D.failures self.old) (state_of D.contents D.failures self.new) }
+        ensures rest { LeavesAllBut guard.value.number (IsOwnInode hart) (state_of D.contents D.failures self.old)
+            (state_of D.contents D.failures self.new) }
     {
         self.tables.move_offset(hart, fd, offset);
         self.tables.unlock(hart, guard);
@@ -164,10 +184,13 @@ impl<D: Device> Core<D> {
         requires own { IsOwnInode hart guard.value.number guard (state_of D.contents D.failures self.old) }
         requires reference { reference ≡ guard.value.number }
         requires may { May hart (Settle guard.value) (state_of D.contents D.failures self.old) }
-        ensures ran { (x : Outside) → exec hart x (Settle guard.value) (state_of D.contents D.failures self.old) ≡ ItRan result (state_of D.contents D.failures self.new) }
+        ensures ran { (x : Outside)
+            → exec hart x (Settle guard.value) (state_of D.contents D.failures self.old)
+            ≡ ItRan result (state_of D.contents D.failures self.new) }
         ensures others { LeavesTied hart (state_of D.contents D.failures self.old) (state_of D.contents D.failures self.new) }
         ensures log { self.new.log ≡ self.old.log }
-        ensures rest { LeavesAllBut guard.value.number (IsOwnInode hart) (state_of D.contents D.failures self.old) (state_of D.contents D.failures self.new) }
+        ensures rest { LeavesAllBut guard.value.number (IsOwnInode hart) (state_of D.contents D.failures self.old)
+            (state_of D.contents D.failures self.new) }
     {
         self.tables.unlock(hart, guard);
         self.tables.set_directory(hart, reference)
@@ -177,7 +200,9 @@ impl<D: Device> Core<D> {
     #[tactic(auto, unfolding(crate::specs::Premises::May))]
     pub fn up_directory(&mut self, hart: u8) -> Option<Reference>
         requires may { May hart (Up Directory) (state_of D.contents D.failures self.old) }
-        ensures ran { (x : Outside) → exec hart x (Up Directory) (state_of D.contents D.failures self.old) ≡ ItRan result (state_of D.contents D.failures self.new) }
+        ensures ran { (x : Outside)
+            → exec hart x (Up Directory) (state_of D.contents D.failures self.old)
+            ≡ ItRan result (state_of D.contents D.failures self.new) }
         ensures others { LeavesTied hart (state_of D.contents D.failures self.old) (state_of D.contents D.failures self.new) }
         ensures log { self.new.log ≡ self.old.log }
         ensures rest { LeavesAll (IsOwnInode hart) (state_of D.contents D.failures self.old) (state_of D.contents D.failures self.new) }
@@ -190,7 +215,9 @@ impl<D: Device> Core<D> {
     #[tactic(auto, unfolding(crate::specs::Premises::May))]
     pub fn drop_walked(&mut self, hart: u8, reference: Reference) -> Option<Reference>
         requires may { May hart (Down (Walked reference)) (state_of D.contents D.failures self.old) }
-        ensures ran { (x : Outside) → exec hart x (Down (Walked reference)) (state_of D.contents D.failures self.old) ≡ ItRan (kept_as result) (state_of D.contents D.failures self.new) }
+        ensures ran { (x : Outside)
+            → exec hart x (Down (Walked reference)) (state_of D.contents D.failures self.old)
+            ≡ ItRan (kept_as result) (state_of D.contents D.failures self.new) }
         ensures kept { IfSome result (λ kept. kept ≡ reference) }
         ensures others { LeavesTied hart (state_of D.contents D.failures self.old) (state_of D.contents D.failures self.new) }
         ensures log { self.new.log ≡ self.old.log }
@@ -203,7 +230,9 @@ impl<D: Device> Core<D> {
     #[tactic(auto, unfolding(crate::specs::Premises::May))]
     pub fn drop_freed(&mut self, hart: u8, reference: Reference)
         requires may { May hart (Down (Freed reference)) (state_of D.contents D.failures self.old) }
-        ensures ran { (x : Outside) → exec hart x (Down (Freed reference)) (state_of D.contents D.failures self.old) ≡ ItRan Counts (state_of D.contents D.failures self.new) }
+        ensures ran { (x : Outside)
+            → exec hart x (Down (Freed reference)) (state_of D.contents D.failures self.old)
+            ≡ ItRan Counts (state_of D.contents D.failures self.new) }
         ensures others { LeavesTied hart (state_of D.contents D.failures self.old) (state_of D.contents D.failures self.new) }
         ensures log { self.new.log ≡ self.old.log }
         ensures rest { LeavesAll (IsOwnInode hart) (state_of D.contents D.failures self.old) (state_of D.contents D.failures self.new) }

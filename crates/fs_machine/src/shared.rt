@@ -38,7 +38,8 @@ impl<D: Device> Core<D> {
     #[tactic(auto, unfolding(crate::specs::Premises::May, crate::specs::Premises::Honest))]
     pub fn join(&mut self, hart: u8) -> Option<Txn>
         requires may { May hart Join (state_of D.contents D.failures self.old) }
-        ensures ran { (x : Outside) → exec hart x Join (state_of D.contents D.failures self.old) ≡ joined_as result (state_of D.contents D.failures self.new) }
+        ensures ran { (x : Outside)
+            → exec hart x Join (state_of D.contents D.failures self.old) ≡ joined_as result (state_of D.contents D.failures self.new) }
         ensures still { IfNone result (self.new ≡ self.old) }
         ensures txn { IfSome result (λ txn. txn ≡ hart) }
         ensures others { LeavesTied hart (state_of D.contents D.failures self.old) (state_of D.contents D.failures self.new) }
@@ -53,7 +54,9 @@ impl<D: Device> Core<D> {
     #[tactic(auto, unfolding(crate::specs::Premises::May))]
     pub fn join_to_write(&mut self, hart: u8, fd: u32) -> JoinedToWrite
         requires may { May hart (JoinToWrite fd) (state_of D.contents D.failures self.old) }
-        ensures ran { (x : Outside) → exec hart x (JoinToWrite fd) (state_of D.contents D.failures self.old) ≡ joined_to_write_as result (state_of D.contents D.failures self.new) }
+        ensures ran { (x : Outside)
+            → exec hart x (JoinToWrite fd) (state_of D.contents D.failures self.old)
+            ≡ joined_to_write_as result (state_of D.contents D.failures self.new) }
         ensures still { IfJoinWaits result (self.new ≡ self.old) }
         ensures txn { IfJoined result (λ txn. txn ≡ hart) }
         ensures others { LeavesTied hart (state_of D.contents D.failures self.old) (state_of D.contents D.failures self.new) }
@@ -78,7 +81,8 @@ impl<D: Device> Core<D> {
     pub fn leave(&mut self, hart: u8, txn: Txn) -> Left
         requires own { txn ≡ hart }
         requires may { May hart LeaveOp (state_of D.contents D.failures self.old) }
-        ensures ran { (x : Outside) → exec hart x LeaveOp (state_of D.contents D.failures self.old) ≡ ItRan result (state_of D.contents D.failures self.new) }
+        ensures ran { (x : Outside)
+            → exec hart x LeaveOp (state_of D.contents D.failures self.old) ≡ ItRan result (state_of D.contents D.failures self.new) }
         ensures others { LeavesTied hart (state_of D.contents D.failures self.old) (state_of D.contents D.failures self.new) }
         ensures device { self.new.log.cache.device ≡ self.old.log.cache.device }
         ensures tables { self.new.tables ≡ self.old.tables }
@@ -91,7 +95,8 @@ impl<D: Device> Core<D> {
     #[tactic(auto, unfolding(crate::specs::Premises::May, crate::specs::Premises::Honest))]
     pub fn get(&mut self, hart: u8, b: u32) -> Got
         requires may { May hart (Get b) (state_of D.contents D.failures self.old) }
-        ensures ran { (x : Outside) → exec hart x (Get b) (state_of D.contents D.failures self.old) ≡ got_as result (state_of D.contents D.failures self.new) }
+        ensures ran { (x : Outside)
+            → exec hart x (Get b) (state_of D.contents D.failures self.old) ≡ got_as result (state_of D.contents D.failures self.new) }
         ensures still { IfGotNone result (self.new ≡ self.old) }
         ensures own { IfHeld result (λ guard. IsOwn hart b guard (state_of D.contents D.failures self.new)) }
         ensures others { LeavesTied hart (state_of D.contents D.failures self.old) (state_of D.contents D.failures self.new) }
@@ -109,15 +114,18 @@ impl<D: Device> Core<D> {
         requires own { IsOwn hart guard.old.value.block guard.old (state_of D.contents D.failures self.old) }
         requires unread { guard.old.value.content ≡ None }
         requires may { May hart (Read guard.old.value.block) (state_of D.contents D.failures self.old) }
-        ensures ran { exec hart (said_read result (D.contents self.new.log.cache.device)) (Read guard.old.value.block) (state_of D.contents D.failures self.old)
+        ensures ran { exec hart (said_read result (D.contents self.new.log.cache.device)) (Read guard.old.value.block)
+            (state_of D.contents D.failures self.old)
             ≡ read_as result guard.new (state_of D.contents D.failures self.new) }
         ensures own { IsOwn hart guard.old.value.block guard.new (state_of D.contents D.failures self.new) }
         ensures valid { IfReadOk result (IsSome guard.new.value.content) (guard.new ≡ guard.old) }
-        ensures honest { Honest hart (Read guard.old.value.block) (state_of D.contents D.failures self.old) (said_read result (D.contents self.new.log.cache.device)) }
+        ensures honest { Honest hart (Read guard.old.value.block) (state_of D.contents D.failures self.old)
+            (said_read result (D.contents self.new.log.cache.device)) }
         ensures others { LeavesTied hart (state_of D.contents D.failures self.old) (state_of D.contents D.failures self.new) }
         ensures called { D.Called self.old.log.cache.device self.new.log.cache.device }
         ensures tables { self.new.tables ≡ self.old.tables }
-        ensures rest { LeavesAllBut guard.old.value.block (IsOwn hart) (state_of D.contents D.failures self.old) (state_of D.contents D.failures self.new) }
+        ensures rest { LeavesAllBut guard.old.value.block (IsOwn hart) (state_of D.contents D.failures self.old)
+            (state_of D.contents D.failures self.new) }
     {
         self.log.fill(guard)
     }
@@ -127,11 +135,14 @@ impl<D: Device> Core<D> {
     pub fn put_back(&mut self, hart: u8, guard: Guard<Buffer>)
         requires own { IsOwn hart guard.value.block guard (state_of D.contents D.failures self.old) }
         requires may { May hart (Put guard.value.block None) (state_of D.contents D.failures self.old) }
-        ensures ran { (x : Outside) → exec hart x (Put guard.value.block None) (state_of D.contents D.failures self.old) ≡ ItRan tt (state_of D.contents D.failures self.new) }
+        ensures ran { (x : Outside)
+            → exec hart x (Put guard.value.block None) (state_of D.contents D.failures self.old)
+            ≡ ItRan tt (state_of D.contents D.failures self.new) }
         ensures others { LeavesTied hart (state_of D.contents D.failures self.old) (state_of D.contents D.failures self.new) }
         ensures device { self.new.log.cache.device ≡ self.old.log.cache.device }
         ensures tables { self.new.tables ≡ self.old.tables }
-        ensures rest { LeavesAllBut guard.value.block (IsOwn hart) (state_of D.contents D.failures self.old) (state_of D.contents D.failures self.new) }
+        ensures rest { LeavesAllBut guard.value.block (IsOwn hart) (state_of D.contents D.failures self.old)
+            (state_of D.contents D.failures self.new) }
     {
         self.log.release(guard);
     }
@@ -144,12 +155,15 @@ impl<D: Device> Core<D> {
         requires held { IsHeld self.old.log.cache.seats guard }
         requires valid { IsSome guard.value.content }
         requires may { May hart (Put guard.value.block (Some (bytes_of guard))) (state_of D.contents D.failures self.old) }
-        ensures ran { (x : Outside) → exec hart x (Put guard.value.block (Some (bytes_of guard))) (state_of D.contents D.failures self.old) ≡ ItRan tt (state_of D.contents D.failures self.new) }
+        ensures ran { (x : Outside)
+            → exec hart x (Put guard.value.block (Some (bytes_of guard))) (state_of D.contents D.failures self.old)
+            ≡ ItRan tt (state_of D.contents D.failures self.new) }
         ensures kept { txn.new ≡ txn.old }
         ensures others { LeavesTied hart (state_of D.contents D.failures self.old) (state_of D.contents D.failures self.new) }
         ensures device { self.new.log.cache.device ≡ self.old.log.cache.device }
         ensures tables { self.new.tables ≡ self.old.tables }
-        ensures rest { LeavesAllBut guard.value.block (IsOwn hart) (state_of D.contents D.failures self.old) (state_of D.contents D.failures self.new) }
+        ensures rest { LeavesAllBut guard.value.block (IsOwn hart) (state_of D.contents D.failures self.old)
+            (state_of D.contents D.failures self.new) }
     {
         self.log.record(txn, guard);
     }
@@ -158,10 +172,12 @@ impl<D: Device> Core<D> {
     #[tactic(auto, unfolding(crate::specs::Premises::May, crate::specs::Premises::Honest))]
     pub fn commit(&mut self, hart: u8) -> Progress
         requires may { May hart Commit (state_of D.contents D.failures self.old) }
-        ensures ran { exec hart (said_written result (D.contents self.new.log.cache.device)) Commit (state_of D.contents D.failures self.old)
+        ensures ran { exec hart (said_written result (D.contents self.new.log.cache.device)) Commit
+            (state_of D.contents D.failures self.old)
             ≡ committed_as result (state_of D.contents D.failures self.new) }
         ensures still { IfWaits result (self.new ≡ self.old) }
-        ensures honest { Honest hart Commit (state_of D.contents D.failures self.old) (said_written result (D.contents self.new.log.cache.device)) }
+        ensures honest { Honest hart Commit (state_of D.contents D.failures self.old)
+            (said_written result (D.contents self.new.log.cache.device)) }
         ensures others { LeavesTied hart (state_of D.contents D.failures self.old) (state_of D.contents D.failures self.new) }
         ensures called { (result ≢ Progress.Waits) → D.Called self.old.log.cache.device self.new.log.cache.device }
         ensures tables { self.new.tables ≡ self.old.tables }

@@ -13,7 +13,8 @@ fresh_desk = record { descriptors = replicate descriptor_count None; directory =
 abbrev pub fresh : TablesState
 fresh =
     record {
-      entries = slice_set (replicate inode_places (record { number = root; references = 0 })) 0 (record { number = root; references = desk_count });
+      entries = slice_set (replicate inode_places (record { number = root; references = 0 })) 0
+          (record { number = root; references = desk_count });
       locks = row_of 0 (replicate inode_places (record { number = root; content = None }));
       files = replicate file_places Free;
       desks = replicate desk_count fresh_desk;

@@ -16,11 +16,13 @@ PlaceFits k e s = (s.number ≡ k) × InsideFits e s.holder s.inside
 
 -- each lock goes with its place
 unfoldable pub AllPlaced : List Entry → List (SlotState Inode) → Type 0
-AllPlaced entries locks = (k : ℕ) (e : Entry) (s : SlotState Inode) → slice_get entries k ≡ Some e → slice_get locks k ≡ Some s → PlaceFits k e s
+AllPlaced entries locks =
+    (k : ℕ) (e : Entry) (s : SlotState Inode) → slice_get entries k ≡ Some e → slice_get locks k ≡ Some s → PlaceFits k e s
 
 -- an inode has one place at most
 unfoldable pub IsOnce : List Entry → Type 0
-IsOnce entries = (j k : ℕ) (e f : Entry) → slice_get entries j ≡ Some e → slice_get entries k ≡ Some f → 0 < e.references → 0 < f.references → e.number ≡ f.number → j ≡ k
+IsOnce entries = (j k : ℕ) (e f : Entry) → slice_get entries j ≡ Some e → slice_get entries k ≡ Some f → 0 < e.references → 0 < f.references
+    → e.number ≡ f.number → j ≡ k
 
 pub record IsSoundInodes (entries : List Entry) (locks : List (SlotState Inode)) : Type 0 where
   pub places : length entries ≡ inode_places

@@ -56,7 +56,8 @@ impl Tables {
         requires child { child < DESKS }
         requires room { references_of (directory_of (slice_get self.old.desks hart)) self.old + 1 < 2 ^ 32 }
         ensures directory { IsDirectory result }
-        ensures ran { given_directory hart child self.old (place_of (directory_of (slice_get self.old.desks hart)) self.old.entries) ≡ Ran result self.new }
+        ensures ran { given_directory hart child self.old (place_of (directory_of (slice_get self.old.desks hart)) self.old.entries)
+            ≡ Ran result self.new }
         ensures others { LeavesLocked self.old self.new }
     {
         let number = directory_at(&self.desks, hart);

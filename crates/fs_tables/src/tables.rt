@@ -97,7 +97,8 @@ impl Tables {
         requires locked { IsLocked guard self.old }
         ensures ran { self.new ≡ unlock_inode hart guard.value None self.old }
         ensures others { (other : GuardState Inode) → other.hart ≢ hart → IsLocked other self.old → IsLocked other self.new }
-        ensures rest { (other : GuardState Inode) → other.value.number ≢ guard.value.number → IsLocked other self.old → IsLocked other self.new }
+        ensures rest { (other : GuardState Inode) → other.value.number ≢ guard.value.number → IsLocked other self.old
+            → IsLocked other self.new }
         ensures free { holder_of guard.value.number self.new ≡ None }
     {
         self.locks.unlock(guard);
@@ -141,7 +142,8 @@ impl Tables {
         requires some { 0 < references_of reference self.old }
         requires last { references_of reference self.old ≡ 1 → holder_of reference self.old ≡ None }
         ensures ran { drop_inode hart reference self.old ≡ dropped_as result self.new }
-        ensures own { IfDying result (λ n guard. (n ≡ reference) × (guard.hart ≡ hart) × (guard.value.number ≡ reference) × IsLocked guard self.new) }
+        ensures own { IfDying result
+            (λ n guard. (n ≡ reference) × (guard.hart ≡ hart) × (guard.value.number ≡ reference) × IsLocked guard self.new) }
         ensures others { LeavesLocked self.old self.new }
         ensures apart { IfDying result (λ _ _. (guard : GuardState Inode) → IsLocked guard self.old → guard.value.number ≢ reference) }
     {

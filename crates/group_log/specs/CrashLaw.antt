@@ -39,5 +39,6 @@ pub record IsLoggedRun (sizes : Super) (n : ℕ) (seen recovered : ℕ → Block
 
 -- after any events recovery makes what was seen at the leave that began the last commit
 abbrev pub StopsAtACut : Type 0
-StopsAtACut = (sizes : Super) (n : ℕ) (seen recovered : ℕ → Blocks) (runs begins stands : ℕ → Bool) → IsLoggedRun sizes n seen recovered runs begins stands
+StopsAtACut = (sizes : Super) (n : ℕ) (seen recovered : ℕ → Blocks) (runs begins stands : ℕ → Bool)
+    → IsLoggedRun sizes n seen recovered runs begins stands
     → AgreeOutside sizes (seen (commit_cut begins stands n)) (recovered n)

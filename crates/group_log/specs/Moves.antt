@@ -47,7 +47,8 @@ is_running Halted = false
 pub record IsMove {D : Type 0} (contents : D → List (List ℕ)) (begins stands : Bool) (old new : LogState D) : Type 0 where
   pub sizes : new.sizes ≡ old.sizes
   -- the recovered disk becomes what is seen where the head comes to name the group, and else it stays
-  pub becomes : AgreeOutside old.sizes (λ b. if stands then seen_of contents old b else recovered_of contents old b) (recovered_of contents new)
+  pub becomes : AgreeOutside old.sizes (λ b. if stands then seen_of contents old b else recovered_of contents old b)
+      (recovered_of contents new)
   -- the leave that begins a commit changes nothing that is seen, nor does any call while one runs
   pub still : is_under_way new.phase ≡ true → AgreeOutside old.sizes (seen_of contents old) (seen_of contents new)
   pub in_commit : stands ≡ true → is_under_way old.phase ≡ true
@@ -78,7 +79,8 @@ pub record IsCommitMove {D : Type 0} (contents : D → List (List ℕ)) (answer 
   pub halts : IfFailed answer (is_running new.phase ≡ false)
 
 -- The states of a log from a fresh one on, each led to by a call from the one before.
-pub record IsRunOfLog {D : Type 0} (contents : D → List (List ℕ)) (n : ℕ) (states : ℕ → LogState D) (begins stands : ℕ → Bool) : Type 0 where
+pub record IsRunOfLog {D : Type 0} (contents : D → List (List ℕ)) (n : ℕ) (states : ℕ → LogState D)
+    (begins stands : ℕ → Bool) : Type 0 where
   pub fresh : AgreeOutside (states 0).sizes (seen_of contents (states 0)) (recovered_of contents (states 0))
   pub idle : (states 0).phase ≡ Open
   pub calls : (i : ℕ) → i < n → IsMove contents (begins i) (stands i) (states i) (states (i + 1))
@@ -86,7 +88,8 @@ pub record IsRunOfLog {D : Type 0} (contents : D → List (List ℕ)) (n : ℕ) 
 -- these are a run that the crash law speaks of
 abbrev pub LogsAreLoggedRuns : {D : Type 0} → (D → List (List ℕ)) → Type 0
 LogsAreLoggedRuns {D} contents = (n : ℕ) (states : ℕ → LogState D) (begins stands : ℕ → Bool) → IsRunOfLog contents n states begins stands
-    → IsLoggedRun (states 0).sizes n (λ i. seen_of contents (states i)) (λ i. recovered_of contents (states i)) (λ i. is_under_way (states i).phase) begins stands
+    → IsLoggedRun (states 0).sizes n (λ i. seen_of contents (states i)) (λ i. recovered_of contents (states i))
+    (λ i. is_under_way (states i).phase) begins stands
 
 -- after any calls recovery makes what was seen at the leave that began the last commit whose head has stood
 abbrev pub LogsStopAtACut : {D : Type 0} → (D → List (List ℕ)) → Type 0
@@ -95,5 +98,6 @@ LogsStopAtACut {D} contents = (n : ℕ) (states : ℕ → LogState D) (begins st
 
 -- calls that neither begin a commit nor write, and then one that may write, are together as one
 abbrev pub MovesCompose : {D : Type 0} → (D → List (List ℕ)) → Type 0
-MovesCompose {D} contents = (stands : Bool) (first mid last : LogState D) → IsMove contents false false first mid → IsMove contents false stands mid last
+MovesCompose {D} contents =
+    (stands : Bool) (first mid last : LogState D) → IsMove contents false false first mid → IsMove contents false stands mid last
     → IsMove contents false stands first last

@@ -27,6 +27,7 @@ abbrev pub slots_with : List ℕ → ℕ → List ℕ → ℕ → List ℕ
 slots_with group b slots slot = if has group b then slots else slots ++ slot ∷ []
 
 -- what holds of every log, with the slots beside its group
-pub record IsSlottedLog (disk : List (List ℕ)) (seats : List SeatState) (sizes : Super) (group slots : List ℕ) (members : List (Option ℕ)) (phase : Phase) : Type 0 where
+pub record IsSlottedLog (disk : List (List ℕ)) (seats : List SeatState) (sizes : Super) (group slots : List ℕ) (members : List (Option ℕ))
+    (phase : Phase) : Type 0 where
   pub log : IsSoundLog disk seats sizes group members phase
   pub placed : HasSlots seats group slots phase

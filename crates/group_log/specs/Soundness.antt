@@ -48,7 +48,8 @@ pub record IsHome (disk : List (List ℕ)) (sizes : Super) (b : ℕ) : Type 0 wh
 
 -- where the blocks are seen so: outside the log, those that the group hasn't from its n-th block on stand on the disk as they are seen
 abbrev pub CleanFrom : Super → List (List ℕ) → (ℕ → List ℕ) → List ℕ → ℕ → Type 0
-CleanFrom sizes disk see group n = (b : ℕ) → IsOutsideLog sizes b → ((k : ℕ) → n ≤ k → k < length group → slice_index group k ≢ b) → block_at disk b ≡ see b
+CleanFrom sizes disk see group n =
+    (b : ℕ) → IsOutsideLog sizes b → ((k : ℕ) → n ≤ k → k < length group → slice_index group k ≢ b) → block_at disk b ≡ see b
 
 -- the log has copies of the group's first n blocks as they are seen
 abbrev pub HasCopies : Super → List (List ℕ) → (ℕ → List ℕ) → List ℕ → ℕ → Type 0
@@ -56,8 +57,10 @@ HasCopies sizes disk see group n = (k : ℕ) → k < n → block_at disk (sizes.
 
 abbrev pub DiskFits : Super → List (List ℕ) → (ℕ → List ℕ) → List ℕ → Phase → Type 0
 DiskFits sizes disk see group Open = (logged disk ≡ []) × CleanFrom sizes disk see group 0
-DiskFits sizes disk see group (Staging i) = (i ≤ length group) × (logged disk ≡ []) × CleanFrom sizes disk see group 0 × HasCopies sizes disk see group i
-DiskFits sizes disk see group (Installing i) = (i ≤ length group) × (logged disk ≡ group) × CleanFrom sizes disk see group i × HasCopies sizes disk see group (length group)
+DiskFits sizes disk see group (Staging i) =
+    (i ≤ length group) × (logged disk ≡ []) × CleanFrom sizes disk see group 0 × HasCopies sizes disk see group i
+DiskFits sizes disk see group (Installing i) =
+    (i ≤ length group) × (logged disk ≡ group) × CleanFrom sizes disk see group i × HasCopies sizes disk see group (length group)
 DiskFits sizes disk see group Halted = (logged disk ≡ []) ⊎ (logged disk ≡ group)
 
 -- no buffer has a block of the log; the group's blocks from the n-th on are pinned, and no others
@@ -79,7 +82,8 @@ IsQuiet (Staging i) members = joined members ≡ 0
 IsQuiet (Installing i) members = joined members ≡ 0
 IsQuiet Halted members = Unit {0}
 
-pub record IsSoundLog (disk : List (List ℕ)) (seats : List SeatState) (sizes : Super) (group : List ℕ) (members : List (Option ℕ)) (phase : Phase) : Type 0 where
+pub record IsSoundLog (disk : List (List ℕ)) (seats : List SeatState) (sizes : Super) (group : List ℕ) (members : List (Option ℕ))
+    (phase : Phase) : Type 0 where
   pub place : IsPlaced disk sizes
   pub room : length group + rooms members ≤ limit_of sizes
   pub eight : length members ≡ PLACES

@@ -44,7 +44,8 @@ abbrev pub IsMarked : Marks → ℕ → Type 0
 IsMarked m k = (k ≡ m.cut) ⊎ (m.doubt ≡ Some k)
 
 -- After n events, with these entries. The blocks are what the entries make of a disk: that is what Image says.
-pub record IsKept {D E : Type 0} (contents : D → List (List ℕ)) (number : E → ℕ) (sizes : Super) (Image : List E → Blocks → Type 0) (n : ℕ) (list : List E) (l : LogState D) (m : Marks) : Type 0 where
+pub record IsKept {D E : Type 0} (contents : D → List (List ℕ)) (number : E → ℕ) (sizes : Super) (Image : List E → Blocks → Type 0) (n : ℕ)
+    (list : List E) (l : LogState D) (m : Marks) : Type 0 where
   pub same : l.sizes ≡ sizes
   pub numbers : AllByRecursion (λ e. number e < n) list
   pub order : m.cut ≤ m.begun
@@ -82,11 +83,14 @@ pub record AreWhole (n : ℕ) (m : Marks) (since : ℕ → Option ℕ) (ended : 
 abbrev pub Does : {D : Type 0} → (D → List (List ℕ)) → ℕ → LogState D → LogState D → Marks → Marks → Type 0
 Does contents n l l' m m' =
     (IsMove contents false false l l' × (m' ≡ m))
-    ⊎ (((r : Left) × IsMove contents (begins_at r) false l l' × (is_running l.phase ≡ true) × (is_running l'.phase ≡ true) × (m' ≡ after_leave n r m))
-    ⊎ ((r : Progress) × IsCommitMove contents r l l' × (is_running l.phase ≡ true) × (m' ≡ after_write (is_point (length l.group) l.phase) r m)))
+    ⊎ (((r : Left) × IsMove contents (begins_at r) false l l' × (is_running l.phase ≡ true) × (is_running l'.phase ≡ true)
+    × (m' ≡ after_leave n r m))
+    ⊎ ((r : Progress) × IsCommitMove contents r l l' × (is_running l.phase ≡ true)
+    × (m' ≡ after_write (is_point (length l.group) l.phase) r m)))
 
 -- The states of a machine over a log, after 0 events and on, up to n: the entries so far, the log, the marks.
-pub record IsStory {D E : Type 0} (contents : D → List (List ℕ)) (number : E → ℕ) (sizes : Super) (Image : List E → Blocks → Type 0) (n : ℕ) (lists : ℕ → List E) (logs : ℕ → LogState D) (marks : ℕ → Marks) : Type 0 where
+pub record IsStory {D E : Type 0} (contents : D → List (List ℕ)) (number : E → ℕ) (sizes : Super) (Image : List E → Blocks → Type 0) (n : ℕ)
+    (lists : ℕ → List E) (logs : ℕ → LogState D) (marks : ℕ → Marks) : Type 0 where
   pub same : (logs 0).sizes ≡ sizes
   pub idle : (logs 0).phase ≡ Open
   pub empty : lists 0 ≡ []
@@ -101,7 +105,8 @@ pub record IsStory {D E : Type 0} (contents : D → List (List ℕ)) (number : E
 abbrev pub Turns : ℕ → (ℕ → Option ℕ) → (ℕ → Option ℕ) → List Span → List Span → Type 0
 Turns n since since' ended ended' =
     ((ended' ≡ ended) × ((h from : ℕ) → since' h ≡ Some from → (from ≡ n) ⊎ (since h ≡ Some from)))
-    ⊎ ((hart : ℕ) × (from : ℕ) × (since hart ≡ Some from) × (ended' ≡ record { from = from; to = n } ∷ ended) × ((h k : ℕ) → since' h ≡ Some k → since h ≡ Some k))
+    ⊎ ((hart : ℕ) × (from : ℕ) × (since hart ≡ Some from) × (ended' ≡ record { from = from; to = n } ∷ ended)
+    × ((h k : ℕ) → since' h ≡ Some k → since h ≡ Some k))
 
 -- The transactions of a machine over a log, after each of its events: those that run, by hart, and those that have ended.
 pub record IsSpanned {D : Type 0} (n : ℕ) (logs : ℕ → LogState D) (since : ℕ → ℕ → Option ℕ) (ended : ℕ → List Span) : Type 0 where
@@ -120,7 +125,8 @@ pub record IsMarkedRun {D : Type 0} (contents : D → List (List ℕ)) (n : ℕ)
   pub unmarked : marks 0 ≡ no_marks
   pub does : (i : ℕ) → i < n → Does contents i (logs i) (logs (i + 1)) (marks i) (marks (i + 1))
 
--- After any event recovery makes what was seen after the first k of them, where a mark says k; and as long as the log isn't halted it is the cut.
+-- After any event recovery makes what was seen after the first k of them, where a mark says k; and as long as the log isn't halted it is
+-- the cut.
 pub record IsMarkedStop {D : Type 0} (contents : D → List (List ℕ)) (logs : ℕ → LogState D) (i : ℕ) (m : Marks) : Type 0 where
   pub k : ℕ
   pub marked : IsMarked m k
@@ -132,11 +138,13 @@ abbrev pub MarksTellStops : {D : Type 0} → (D → List (List ℕ)) → Type 0
 MarksTellStops {D} contents = (n : ℕ) (logs : ℕ → LogState D) (marks : ℕ → Marks) → IsMarkedRun contents n logs marks
     → (i : ℕ) → i ≤ n → IsMarkedStop contents logs i (marks i)
 
--- Event i is a leave that began a commit. Once the log has come to a settled phase behind it, the cut has that leave, then and later: so it is
+-- Event i is a leave that began a commit. Once the log has come to a settled phase behind it, the cut has that leave, then and later: so
+-- it is
 -- when its hart replies.
 abbrev pub CutsHaveReplies : {D : Type 0} → (D → List (List ℕ)) → Type 0
 CutsHaveReplies {D} contents = (n : ℕ) (logs : ℕ → LogState D) (marks : ℕ → Marks) → IsMarkedRun contents n logs marks
-    → (i later more : ℕ) → (marks (i + 1)).begun ≡ i + 1 → i + 1 + later + more ≤ n → is_settled (logs (i + 1 + later)).phase ≡ true → i < (marks (i + 1 + later + more)).cut
+    → (i later more : ℕ) → (marks (i + 1)).begun ≡ i + 1 → i + 1 + later + more ≤ n → is_settled (logs (i + 1 + later)).phase ≡ true
+    → i < (marks (i + 1 + later + more)).cut
 
 -- a mark stands within no transaction that has ended, and those that run began behind it
 abbrev pub NoneIsMarkedInPart : {D : Type 0} → (D → List (List ℕ)) → Type 0

@@ -56,7 +56,8 @@ pub(crate) fn copy_to_log<D: Device>(
     ensures waits { (result ≡ Written.Waits) ↔ IsSome (holder_of recorded.block cache.old.seats) }
     ensures same { (result ≡ Written.Waits) → cache.new ≡ cache.old }
     ensures called { (result ≢ Written.Waits) → D.Called cache.old.device cache.new.device }
-    ensures writes { Writes (D.contents cache.old.device) at (seen D.contents cache.old recorded.block) result (D.contents cache.new.device) }
+    ensures writes { Writes (D.contents cache.old.device) at (seen D.contents cache.old recorded.block) result
+        (D.contents cache.new.device) }
     ensures faults { D.failures cache.new.device ≡ faults_of result (D.failures cache.old.device) }
     ensures seats { cache.new.seats
         ≡ by_outcome result cache.old.seats (given_back recorded.block cache.old.seats) (given_back recorded.block cache.old.seats) }
@@ -100,7 +101,8 @@ pub(crate) fn copy_home<D: Device>(cache: &mut Cache<D>, hart: u8, recorded: Rec
     ensures waits { (result ≡ Written.Waits) ↔ IsSome (holder_of recorded.block cache.old.seats) }
     ensures same { (result ≡ Written.Waits) → cache.new ≡ cache.old }
     ensures called { (result ≢ Written.Waits) → D.Called cache.old.device cache.new.device }
-    ensures writes { Writes (D.contents cache.old.device) recorded.block (seen D.contents cache.old recorded.block) result (D.contents cache.new.device) }
+    ensures writes { Writes (D.contents cache.old.device) recorded.block (seen D.contents cache.old recorded.block) result
+        (D.contents cache.new.device) }
     ensures faults { D.failures cache.new.device ≡ faults_of result (D.failures cache.old.device) }
     ensures seats { cache.new.seats
         ≡ by_outcome result cache.old.seats (given_back recorded.block (with_seat recorded.block (with_pin false) cache.old.seats))

@@ -91,7 +91,8 @@ impl<D: Device> Log<D> {
         ensures device { result.now ≡ self.now.cache.device }
 
         // What always holds of the log and of its cache.
-        ensures sound { IsSoundLog (D.contents self.now.cache.device) self.now.cache.seats self.now.sizes self.now.group self.now.members self.now.phase }
+        ensures sound { IsSoundLog
+            (D.contents self.now.cache.device) self.now.cache.seats self.now.sizes self.now.group self.now.members self.now.phase }
         ensures cache { IsSound (D.contents self.now.cache.device) self.now.cache.seats }
     {
         self.cache.device()
@@ -171,9 +172,11 @@ impl<D: Device> Log<D> {
     pub fn join(&mut self, hart: u8) -> Option<Txn>
         requires hart { hart < HARTS }
         requires idle { slice_get self.old.members hart ≡ Some None }
-        ensures waits { IsNone result ↔ IsTrue (join_waits self.old.phase (length self.old.group) (joined self.old.members) (limit_of self.old.sizes)) }
+        ensures waits { IsNone result
+            ↔ IsTrue (join_waits self.old.phase (length self.old.group) (joined self.old.members) (limit_of self.old.sizes)) }
         ensures same { IfNone result (self.new ≡ self.old) }
-        ensures joins { IfSome result (λ txn. (txn ≡ hart) × (self.new ≡ record self.old { members = slice_set self.old.members hart (Some 0) })) }
+        ensures joins { IfSome result
+            (λ txn. (txn ≡ hart) × (self.new ≡ record self.old { members = slice_set self.old.members hart (Some 0) })) }
         ensures moves { IsMove D.contents false false self.old self.new }
     {
         let Phase::Open = self.phase else {
@@ -355,7 +358,8 @@ impl<D: Device> Log<D> {
           };
         }) }
         ensures seats { OnOk result (self.new.cache.seats
-            ≡ with_seat guard.old.value.block (with_content (block_at (D.contents self.old.cache.device) guard.old.value.block)) self.old.cache.seats) }
+            ≡ with_seat guard.old.value.block
+            (with_content (block_at (D.contents self.old.cache.device) guard.old.value.block)) self.old.cache.seats) }
         ensures err { OnErr result ((guard.new ≡ guard.old) × (self.new.cache.seats ≡ self.old.cache.seats)) }
         ensures held_on { IsHeld self.new.cache.seats guard.new }
         ensures bytes { IfSome guard.new.value.content (λ bytes. bytes ≡ seen D.contents self.new.cache guard.new.value.block) }

@@ -42,7 +42,8 @@ fetch_place (Get p b) = p
 fetch_place (Read p b) = p
 
 abbrev pub FetchEnds : Fetch → Fetched → Hand → Type 0
-FetchEnds f out h = MatchOption (buffer_at out.place h) ⊥ (λ g. IsSome g.value.content × (g.value.block ≡ out.block)) × (out.block ≡ fetch_block f) × (out.place ≡ fetch_place f)
+FetchEnds f out h = MatchOption (buffer_at out.place h) ⊥ (λ g. IsSome g.value.content × (g.value.block ≡ out.block))
+    × (out.block ≡ fetch_block f) × (out.place ≡ fetch_place f)
 
 -- the block of a buffer, and its bytes
 abbrev pub block_in : Option (GuardState BufferState) → ℕ

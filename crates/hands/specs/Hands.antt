@@ -15,7 +15,19 @@ use Rattle.hands.specs.declared.hand.Seat.TheVariants.{One, Two}
 
 -- nothing
 abbrev pub empty_hand : Hand
-empty_hand = record { txn = None; first = None; second = None; one = None; two = None; to_one = None; to_two = None; aside = None; listed = []; numbers = replicate 16 0; count = 0 }
+empty_hand = record {
+  txn = None;
+  first = None;
+  second = None;
+  one = None;
+  two = None;
+  to_one = None;
+  to_two = None;
+  aside = None;
+  listed = [];
+  numbers = replicate 16 0;
+  count = 0;
+}
 
 -- its numbers to be claimed don't count
 pub record HasNothing (h : Hand) : Type 0 where
@@ -111,7 +123,8 @@ abbrev pub with_bytes : Place → List ℕ → Hand → Hand
 with_bytes p bytes h = with_buffer p (option_map (with_content bytes) (buffer_at p h)) h
 
 -- guards at places: each is the hart's, and no two are of one thing
-pub record AreOwn {K V : Type 0} (at : K → Option (GuardState V)) (name : V → ℕ) (Own : ℕ → GuardState V → State → Type 0) (s : State) : Type 0 where
+pub record AreOwn {K V : Type 0} (at : K → Option (GuardState V)) (name : V → ℕ) (Own : ℕ → GuardState V → State → Type 0)
+    (s : State) : Type 0 where
   pub own : (k : K) (g : GuardState V) → at k ≡ Some g → Own (name g.value) g s
   pub apart : (k l : K) (g f : GuardState V) → at k ≡ Some g → at l ≡ Some f → name g.value ≡ name f.value → k ≡ l
 

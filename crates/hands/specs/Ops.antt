@@ -95,14 +95,16 @@ CanDo Reply h = Unit {0}
 
 -- what its control has done in hand right before: bytes to be recorded stand in the buffer
 abbrev pub Prepared : Op → Hand → Hand → Type 0
-Prepared (Record p) before h = MatchOption (buffer_at p before) ⊥ (λ g. IsSome g.value.content) × ((bytes : List ℕ) × (h ≡ with_bytes p bytes before))
+Prepared (Record p) before h =
+    MatchOption (buffer_at p before) ⊥ (λ g. IsSome g.value.content) × ((bytes : List ℕ) × (h ≡ with_bytes p bytes before))
 Prepared op before h = h ≡ before
 
 -- ---- what is in hand after it
 
 -- an inode that is to be freed is loaded
 abbrev pub IsDown : Seat → Answer → Hand → Hand → Type 0
-IsDown k (Is true) before h = (g : GuardState Inode) × (h ≡ with_inode k (Some g) before) × (g.value.number ≡ number_at k before) × IsSome g.value.content
+IsDown k (Is true) before h =
+    (g : GuardState Inode) × (h ≡ with_inode k (Some g) before) × (g.value.number ≡ number_at k before) × IsSome g.value.content
 IsDown k (Is false) before h = h ≡ with_reference k None before
 IsDown k a before h = ⊥
 
@@ -111,7 +113,8 @@ IsJoined (Number n) before h = (t : ℕ) × (h ≡ with_txn (Some t) before)
 IsJoined a before h = h ≡ before
 
 abbrev pub IsLocked : Seat → Answer → Hand → Hand → Type 0
-IsLocked k (File f) before h = (g : GuardState Inode) × (h ≡ with_inode k (Some g) before) × (g.value.number ≡ f.number) × (f.number < 2 ^ 16)
+IsLocked k (File f) before h =
+    (g : GuardState Inode) × (h ≡ with_inode k (Some g) before) × (g.value.number ≡ f.number) × (f.number < 2 ^ 16)
 IsLocked k (Refused why) before h = h ≡ before
 IsLocked k a before h = ⊥
 
@@ -150,7 +153,8 @@ IsAfter Join before a h = (t : ℕ) × (h ≡ with_txn (Some t) before)
 IsAfter Leave before a h = h ≡ with_txn None before
 IsAfter Commit before a h = h ≡ before
 IsAfter (Get p b) before a h = (g : GuardState BufferState) × (h ≡ with_buffer p (Some g) before) × (g.value.block ≡ b)
-IsAfter (Read p) before a h = (g : GuardState BufferState) × (h ≡ with_buffer p (Some g) before) × (g.value.block ≡ block_at p before) × IsSome g.value.content
+IsAfter (Read p) before a h =
+    (g : GuardState BufferState) × (h ≡ with_buffer p (Some g) before) × (g.value.block ≡ block_at p before) × IsSome g.value.content
 IsAfter (Give p) before a h = h ≡ with_buffer p None before
 IsAfter (Record p) before a h = h ≡ with_buffer p None before
 IsAfter (Lock k) before a h = (g : GuardState Inode) × (h ≡ with_inode k (Some g) before) × (g.value.number ≡ number_at k before)
@@ -165,7 +169,8 @@ IsAfter (UnlockMoving k fd offset) before a h = h ≡ with_inode k None before
 IsAfter (Settle k) before a h = (n : ℕ) × (h ≡ with_reference k (Some n) (with_inode k None before))
 IsAfter (UpDirectory k) before a h = (r : Option ℕ) × (h ≡ with_reference k r before)
 IsAfter (DownWalked k) before a h = IsKept k a before h
-IsAfter (LockListed k) before a h = (g : GuardState Inode) × (h ≡ with_inode k (Some g) (with_first k before)) × (g.value.number ≡ first_listed before)
+IsAfter (LockListed k) before a h =
+    (g : GuardState Inode) × (h ≡ with_inode k (Some g) (with_first k before)) × (g.value.number ≡ first_listed before)
 IsAfter (DownFreed k) before a h = h ≡ with_reference k None before
 IsAfter (CheckFile w fd) before a h = h ≡ before
 IsAfter TakePlace before a h = h ≡ before

@@ -42,7 +42,8 @@ IfStays Stopped P Q = P
 module _ {D : Type 0} (contents : D → List (List ℕ)) (failures : D → ℕ) (Called : D → D → Type 0) where
   -- the operation was made, or it waits and nothing has changed, or it stopped the world and nothing has changed in hand
   pub record Performs (hart : ℕ) (op : Op) (before after : Hand) (told : Answer) (did : Did) (old new : Core D) : Type 0 where
-    pub ran : exec hart (said did (state_of contents failures new)) (op_in before op) (state_of contents failures old) ≡ did_as op after (op_in before op) told did (state_of contents failures new)
+    pub ran : exec hart (said did (state_of contents failures new)) (op_in before op) (state_of contents failures old)
+        ≡ did_as op after (op_in before op) told did (state_of contents failures new)
     pub kind : IfRan did (λ kind. kind_of (op_in before op) (answer_in op told after (op_in before op)) ≡ kind)
     pub honest : Honest hart (op_in before op) (state_of contents failures old) (said did (state_of contents failures new))
     pub still : IfStays did (after ≡ before) (new ≡ old)

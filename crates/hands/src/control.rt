@@ -51,7 +51,8 @@ pub trait Control: Drop {
     fn next(&mut self, answer: &Answer, hand: &mut Hand) -> Option<Self::Out>
         requires came { (before : HandState) × Ready self.old before × IsAfter (asked self.old) before answer.now hand.old }
         ensures goes { (before : HandState) → Ready self.old before → IsAfter (asked self.old) before answer.now hand.old
-            → Goes (left self.old before) (answer_in (asked self.old) answer.now hand.old) (left_after left (value self.new) result self.new hand.new) }
+            → Goes (left self.old before) (answer_in (asked self.old) answer.now hand.old)
+            (left_after left (value self.new) result self.new hand.new) }
         ensures ready { IfNone result (Ready self.new hand.new) }
         ensures ends { IfSome result (λ out. Ends out hand.new) }
         ensures hand { bare hand.new ≡ bare hand.old };
@@ -94,12 +95,14 @@ pub trait Part: Drop {
     fn next(&mut self, answer: &Answer, hand: &Hand) -> Option<Self::Out>
         requires came { (before : HandState) × Ready self.old before × IsAfter (asked self.old) before answer.now hand.now }
         ensures goes { (before : HandState) → Ready self.old before → IsAfter (asked self.old) before answer.now hand.now
-            → Goes (left self.old before) (answer_in (asked self.old) answer.now hand.now) (left_after left value result self.new hand.now) }
+            → Goes (left self.old before) (answer_in (asked self.old) answer.now hand.now)
+            (left_after left value result self.new hand.now) }
         ensures ready { IfNone result (Ready self.new hand.now) }
         ensures ends { IfSome result (λ out. Ends self.old out hand.now) }
         ensures place { IfNone result (place self.new ≡ place self.old) }
         ensures about { IfNone result (about self.new ≡ about self.old) }
-        ensures beside { (before : HandState) → IsAfter (asked self.old) before answer.now hand.now → with_buffer (place self.old) None hand.now ≡ with_buffer (place self.old) None before };
+        ensures beside { (before : HandState) → IsAfter (asked self.old) before answer.now hand.now
+            → with_buffer (place self.old) None hand.now ≡ with_buffer (place self.old) None before };
 }
 
 /// A control within others, that tells what it may change in hand.
@@ -139,7 +142,8 @@ pub trait Routine: Drop {
     fn next(&mut self, answer: &Answer, hand: &mut Hand) -> Option<Self::Out>
         requires came { (before : HandState) × Ready self.old before × IsAfter (asked self.old) before answer.now hand.old }
         ensures goes { (before : HandState) → Ready self.old before → IsAfter (asked self.old) before answer.now hand.old
-            → Goes (left self.old before) (answer_in (asked self.old) answer.now hand.old) (left_after left value result self.new hand.new) }
+            → Goes (left self.old before) (answer_in (asked self.old) answer.now hand.old)
+            (left_after left value result self.new hand.new) }
         ensures ready { IfNone result (Ready self.new hand.new) }
         ensures ends { IfSome result (λ out. Ends self.old out hand.new) }
         ensures about { IfNone result (about self.new ≡ about self.old) }
@@ -163,7 +167,8 @@ impl<C: Control> Machine<C> {
         requires may { MayNext hart (C.left self.old.control self.old.hand) (state_of D.contents D.failures core.old) }
         requires fits { HandFits hart (state_of D.contents D.failures core.old) self.old.hand }
         requires ready { C.Ready self.old.control self.old.hand }
-        ensures steps { StepsAt D.contents D.failures D.Called (λ m. C.left m.control m.hand) (λ out. C.value self.new.control out self.new.hand) (λ _ _ m. C.Ready m.control m.hand) (λ out. C.Ends out self.new.hand)
+        ensures steps { StepsAt D.contents D.failures D.Called (λ m. C.left m.control m.hand)
+            (λ out. C.value self.new.control out self.new.hand) (λ _ _ m. C.Ready m.control m.hand) (λ out. C.Ends out self.new.hand)
             self.new hart self.old self.new result core.old core.new }
         ensures fits { HandFits hart (state_of D.contents D.failures core.new) self.new.hand }
     {

@@ -46,12 +46,14 @@ impl Control for Finish {
     fn next(&mut self, answer: &Answer, hand: &mut Hand) -> Option<()>
         requires came { (before : HandState) × FinishReady self.old before × IsAfter (finish_asked self.old) before answer.now hand.old }
         ensures goes { (before : HandState) → FinishReady self.old before → IsAfter (finish_asked self.old) before answer.now hand.old
-            → Goes (finish_left self.old before) (answer_in (finish_asked self.old) answer.now hand.old) (left_after finish_left (λ _ _. tt) result self.new hand.new) }
+            → Goes (finish_left self.old before) (answer_in (finish_asked self.old) answer.now hand.old)
+            (left_after finish_left (λ _ _. tt) result self.new hand.new) }
         ensures ready { IfNone result (FinishReady self.new hand.new) }
         ensures ends { IfSome result (λ _. hand.new.txn ≡ None) }
         ensures hand { bare hand.new ≡ bare hand.old }
         ensures same { hand.new ≡ hand.old }
-        ensures rest { (before : HandState) → FinishReady self.old before → IsAfter (finish_asked self.old) before answer.now hand.old → with_txn None hand.old ≡ with_txn None before }
+        ensures rest { (before : HandState) → FinishReady self.old before → IsAfter (finish_asked self.old) before answer.now hand.old
+            → with_txn None hand.old ≡ with_txn None before }
     {
         match *self {
             Finish::Leave => {

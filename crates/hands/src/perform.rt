@@ -23,7 +23,8 @@ impl Hand {
         requires fits { HandFits hart (state_of D.contents D.failures core.old) self.old }
         requires can { CanDo Op.Join self.old }
         requires may { May hart (op_in self.old Op.Join) (state_of D.contents D.failures core.old) }
-        ensures { (told : AnswerState) → Performs D.contents D.failures D.Called hart Op.Join self.old self.new told result core.old core.new }
+        ensures { (told : AnswerState)
+            → Performs D.contents D.failures D.Called hart Op.Join self.old self.new told result core.old core.new }
     {
         match core.join(hart) {
             None => Did::Waits,
@@ -92,7 +93,8 @@ impl Hand {
         requires fits { HandFits hart (state_of D.contents D.failures core.old) self.old }
         requires can { CanDo (Op.Get place b) self.old }
         requires may { May hart (op_in self.old (Op.Get place b)) (state_of D.contents D.failures core.old) }
-        ensures { (told : AnswerState) → Performs D.contents D.failures D.Called hart (Op.Get place b) self.old self.new told result core.old core.new }
+        ensures { (told : AnswerState)
+            → Performs D.contents D.failures D.Called hart (Op.Get place b) self.old self.new told result core.old core.new }
     {
         match core.get(hart, b) {
             Got::Waits => Did::Waits,
@@ -108,7 +110,8 @@ impl Hand {
         requires fits { HandFits hart (state_of D.contents D.failures core.old) self.old }
         requires can { CanDo (Op.Read place) self.old }
         requires may { May hart (op_in self.old (Op.Read place)) (state_of D.contents D.failures core.old) }
-        ensures { (told : AnswerState) → Performs D.contents D.failures D.Called hart (Op.Read place) self.old self.new told result core.old core.new }
+        ensures { (told : AnswerState)
+            → Performs D.contents D.failures D.Called hart (Op.Read place) self.old self.new told result core.old core.new }
     {
         match self.take_buffer(place) {
             None => unreachable!(),
@@ -130,7 +133,8 @@ impl Hand {
         requires fits { HandFits hart (state_of D.contents D.failures core.old) self.old }
         requires can { CanDo (Op.Give place) self.old }
         requires may { May hart (op_in self.old (Op.Give place)) (state_of D.contents D.failures core.old) }
-        ensures { (told : AnswerState) → Performs D.contents D.failures D.Called hart (Op.Give place) self.old self.new told result core.old core.new }
+        ensures { (told : AnswerState)
+            → Performs D.contents D.failures D.Called hart (Op.Give place) self.old self.new told result core.old core.new }
     {
         match self.take_buffer(place) {
             None => unreachable!(),
@@ -143,10 +147,12 @@ impl Hand {
 
     // Gives it back, recorded with the bytes that were prepared in it.
     pub(crate) fn record<D: Device>(&mut self, hart: u8, core: &mut Core<D>, place: Place) -> Did
-        requires fits { (before : HandState) × HandFits hart (state_of D.contents D.failures core.old) before × Prepared (Op.Record place) before self.old }
+        requires fits { (before : HandState) × HandFits hart (state_of D.contents D.failures core.old) before
+            × Prepared (Op.Record place) before self.old }
         requires can { CanDo (Op.Record place) self.old }
         requires may { May hart (op_in self.old (Op.Record place)) (state_of D.contents D.failures core.old) }
-        ensures { (told : AnswerState) → Performs D.contents D.failures D.Called hart (Op.Record place) self.old self.new told result core.old core.new }
+        ensures { (told : AnswerState)
+            → Performs D.contents D.failures D.Called hart (Op.Record place) self.old self.new told result core.old core.new }
     {
         match self.take_buffer(place) {
             None => unreachable!(),
@@ -165,7 +171,8 @@ impl Hand {
         requires fits { HandFits hart (state_of D.contents D.failures core.old) self.old }
         requires can { CanDo (Op.Lock seat) self.old }
         requires may { May hart (op_in self.old (Op.Lock seat)) (state_of D.contents D.failures core.old) }
-        ensures { (told : AnswerState) → Performs D.contents D.failures D.Called hart (Op.Lock seat) self.old self.new told result core.old core.new }
+        ensures { (told : AnswerState)
+            → Performs D.contents D.failures D.Called hart (Op.Lock seat) self.old self.new told result core.old core.new }
     {
         match self.reference(seat) {
             None => unreachable!(),
@@ -184,7 +191,8 @@ impl Hand {
         requires fits { HandFits hart (state_of D.contents D.failures core.old) self.old }
         requires can { CanDo (Op.Unlock seat) self.old }
         requires may { May hart (op_in self.old (Op.Unlock seat)) (state_of D.contents D.failures core.old) }
-        ensures { (told : AnswerState) → Performs D.contents D.failures D.Called hart (Op.Unlock seat) self.old self.new told result core.old core.new }
+        ensures { (told : AnswerState)
+            → Performs D.contents D.failures D.Called hart (Op.Unlock seat) self.old self.new told result core.old core.new }
     {
         match self.take_inode(seat) {
             None => unreachable!(),
@@ -206,7 +214,8 @@ impl Hand {
         requires fits { HandFits hart (state_of D.contents D.failures core.old) self.old }
         requires can { CanDo (Op.Up seat number) self.old }
         requires may { May hart (op_in self.old (Op.Up seat number)) (state_of D.contents D.failures core.old) }
-        ensures { (told : AnswerState) → Performs D.contents D.failures D.Called hart (Op.Up seat number) self.old self.new told result core.old core.new }
+        ensures { (told : AnswerState)
+            → Performs D.contents D.failures D.Called hart (Op.Up seat number) self.old self.new told result core.old core.new }
     {
         match core.up(hart, number) {
             None => {}
@@ -220,7 +229,8 @@ impl Hand {
         requires fits { HandFits hart (state_of D.contents D.failures core.old) self.old }
         requires can { CanDo (Op.UpAside number) self.old }
         requires may { May hart (op_in self.old (Op.UpAside number)) (state_of D.contents D.failures core.old) }
-        ensures { (told : AnswerState) → Performs D.contents D.failures D.Called hart (Op.UpAside number) self.old self.new told result core.old core.new }
+        ensures { (told : AnswerState)
+            → Performs D.contents D.failures D.Called hart (Op.UpAside number) self.old self.new told result core.old core.new }
     {
         match core.up(hart, number) {
             None => {}
@@ -299,7 +309,8 @@ impl Hand {
         requires fits { HandFits hart (state_of D.contents D.failures core.old) self.old }
         requires can { CanDo (Op.LockFile seat want fd) self.old }
         requires may { May hart (op_in self.old (Op.LockFile seat want fd)) (state_of D.contents D.failures core.old) }
-        ensures { Performs D.contents D.failures D.Called hart (Op.LockFile seat want fd) self.old self.new told.new result core.old core.new }
+        ensures { Performs D.contents D.failures D.Called hart
+            (Op.LockFile seat want fd) self.old self.new told.new result core.old core.new }
     {
         match core.lock_file(hart, want, fd) {
             LockedFile::Waits => Did::Waits,
@@ -352,7 +363,9 @@ impl Hand {
         requires fits { HandFits hart (state_of D.contents D.failures core.old) self.old }
         requires can { CanDo (Op.UnlockMoving seat fd offset) self.old }
         requires may { May hart (op_in self.old (Op.UnlockMoving seat fd offset)) (state_of D.contents D.failures core.old) }
-        ensures { (told : AnswerState) → Performs D.contents D.failures D.Called hart (Op.UnlockMoving seat fd offset) self.old self.new told result core.old core.new }
+        ensures { (told : AnswerState)
+            → Performs D.contents D.failures D.Called hart
+            (Op.UnlockMoving seat fd offset) self.old self.new told result core.old core.new }
     {
         match self.take_inode(seat) {
             None => unreachable!(),
@@ -368,7 +381,8 @@ impl Hand {
         requires fits { HandFits hart (state_of D.contents D.failures core.old) self.old }
         requires can { CanDo (Op.Settle seat) self.old }
         requires may { May hart (op_in self.old (Op.Settle seat)) (state_of D.contents D.failures core.old) }
-        ensures { (told : AnswerState) → Performs D.contents D.failures D.Called hart (Op.Settle seat) self.old self.new told result core.old core.new }
+        ensures { (told : AnswerState)
+            → Performs D.contents D.failures D.Called hart (Op.Settle seat) self.old self.new told result core.old core.new }
     {
         match self.take_inode(seat) {
             None => unreachable!(),
@@ -393,7 +407,8 @@ impl Hand {
         requires fits { HandFits hart (state_of D.contents D.failures core.old) self.old }
         requires can { CanDo (Op.UpDirectory seat) self.old }
         requires may { May hart (op_in self.old (Op.UpDirectory seat)) (state_of D.contents D.failures core.old) }
-        ensures { (told : AnswerState) → Performs D.contents D.failures D.Called hart (Op.UpDirectory seat) self.old self.new told result core.old core.new }
+        ensures { (told : AnswerState)
+            → Performs D.contents D.failures D.Called hart (Op.UpDirectory seat) self.old self.new told result core.old core.new }
     {
         match core.up_directory(hart) {
             None => {}
@@ -439,7 +454,8 @@ impl Hand {
         requires fits { HandFits hart (state_of D.contents D.failures core.old) self.old }
         requires can { CanDo (Op.LockListed seat) self.old }
         requires may { May hart (op_in self.old (Op.LockListed seat)) (state_of D.contents D.failures core.old) }
-        ensures { (told : AnswerState) → Performs D.contents D.failures D.Called hart (Op.LockListed seat) self.old self.new told result core.old core.new }
+        ensures { (told : AnswerState)
+            → Performs D.contents D.failures D.Called hart (Op.LockListed seat) self.old self.new told result core.old core.new }
     {
         match self.listed.first() {
             None => unreachable!(),
@@ -459,7 +475,8 @@ impl Hand {
         requires fits { HandFits hart (state_of D.contents D.failures core.old) self.old }
         requires can { CanDo (Op.DownFreed seat) self.old }
         requires may { May hart (op_in self.old (Op.DownFreed seat)) (state_of D.contents D.failures core.old) }
-        ensures { (told : AnswerState) → Performs D.contents D.failures D.Called hart (Op.DownFreed seat) self.old self.new told result core.old core.new }
+        ensures { (told : AnswerState)
+            → Performs D.contents D.failures D.Called hart (Op.DownFreed seat) self.old self.new told result core.old core.new }
     {
         match self.take_reference(seat) {
             None => unreachable!(),
@@ -525,7 +542,8 @@ impl Hand {
         requires fits { HandFits hart (state_of D.contents D.failures core.old) self.old }
         requires can { CanDo (Op.TakeDescriptor seat file) self.old }
         requires may { May hart (op_in self.old (Op.TakeDescriptor seat file)) (state_of D.contents D.failures core.old) }
-        ensures { Performs D.contents D.failures D.Called hart (Op.TakeDescriptor seat file) self.old self.new told.new result core.old core.new }
+        ensures { Performs D.contents D.failures D.Called hart
+            (Op.TakeDescriptor seat file) self.old self.new told.new result core.old core.new }
     {
         match self.take_reference(seat) {
             None => unreachable!(),
@@ -616,7 +634,8 @@ impl Hand {
         requires fits { HandFits hart (state_of D.contents D.failures core.old) self.old }
         requires can { CanDo (Op.GiveTo seat child from) self.old }
         requires may { May hart (op_in self.old (Op.GiveTo seat child from)) (state_of D.contents D.failures core.old) }
-        ensures { Performs D.contents D.failures D.Called hart (Op.GiveTo seat child from) self.old self.new told.new result core.old core.new }
+        ensures { Performs D.contents D.failures D.Called hart
+            (Op.GiveTo seat child from) self.old self.new told.new result core.old core.new }
     {
         match core.give(hart, child, from) {
             Given::Descriptor(fd, more) => {
@@ -674,7 +693,8 @@ impl Hand {
     pub(crate) fn reply<D: Device>(&mut self, hart: u8, core: &mut Core<D>) -> Did
         requires fits { HandFits hart (state_of D.contents D.failures core.old) self.old }
         requires may { May hart (op_in self.old Op.Reply) (state_of D.contents D.failures core.old) }
-        ensures { (told : AnswerState) → Performs D.contents D.failures D.Called hart Op.Reply self.old self.new told result core.old core.new }
+        ensures { (told : AnswerState)
+            → Performs D.contents D.failures D.Called hart Op.Reply self.old self.new told result core.old core.new }
     {
         core.reply(hart);
         Did::Ran(Kind::Reply)
@@ -690,7 +710,8 @@ impl Hand {
         told: &mut Answer,
     ) -> Did
         requires eight { hart < HARTS }
-        requires fits { (before : HandState) × HandFits hart (state_of D.contents D.failures core.old) before × Prepared op before self.old }
+        requires fits { (before : HandState) × HandFits hart (state_of D.contents D.failures core.old) before
+            × Prepared op before self.old }
         requires can { CanDo op self.old }
         requires may { May hart (op_in self.old op) (state_of D.contents D.failures core.old) }
         ensures { Performs D.contents D.failures D.Called hart op self.old self.new told.new result core.old core.new }

@@ -51,7 +51,8 @@ fn bytes_of(rt: &HostRuntime, file: &File) -> io::Result<Vec<u8>>
     Ok(bytes)
 }
 
-/// Reads the file of an image, as far as an image can use it: what stands behind that isn't had in memory. A regular file above 4 GiB is too
+/// Reads the file of an image, as far as an image can use it: what stands behind that isn't had in memory. A regular file above 4 GiB is
+/// too
 /// large, and so is anything else that has more than an image uses, as a device without end.
 pub fn read_image(rt: &HostRuntime, path: &str) -> Result<ImageFile, ImageRefused>
     ensures { IfOk result (λ image. length image.bytes.items ≤ 8387585) }

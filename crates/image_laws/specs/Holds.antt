@@ -1,4 +1,5 @@
--- What a disk holds of the nodes of a running file system, inode by inode. The blocks are read as recovery leaves them, so with an empty log as
+-- What a disk holds of the nodes of a running file system, inode by inode. The blocks are read as recovery leaves them, so with an empty
+-- log as
 -- they stand.
 --   nodes   by number: the live ones, and the dead ones (count 0) that something still refers to
 --   owner   by block: the inode that names it, 0 for none

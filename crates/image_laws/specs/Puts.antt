@@ -45,7 +45,8 @@ pub record IsBytesPut (disk new : List (List ℕ)) (d : Dinode) (k at : ℕ) (wr
   pub block : IsPut disk new (block_number (numbers_of disk d) k)
   pub some_bytes : 0 < length written
   pub room : at + length written ≤ block_len
-  pub bytes : recovered new (block_number (numbers_of disk d) k) ≡ overwrite (recovered disk (block_number (numbers_of disk d) k)) at written
+  pub bytes : recovered new (block_number (numbers_of disk d) k)
+      ≡ overwrite (recovered disk (block_number (numbers_of disk d) k)) at written
 
 -- an entry is put into slot s of directory d
 pub record IsSlotPut (disk new : List (List ℕ)) (d : Dinode) (s : ℕ) (entry : Dirent) : Type 0 where
@@ -54,13 +55,15 @@ pub record IsSlotPut (disk new : List (List ℕ)) (d : Dinode) (s : ℕ) (entry 
   pub spelled : IsDirent entry
   pub room : dirent_len * (s % dirents_per_block) ≤ length (recovered disk (block_number (numbers_of disk d) (s / dirents_per_block)))
   pub written : recovered new (block_number (numbers_of disk d) (s / dirents_per_block))
-      ≡ overwrite (recovered disk (block_number (numbers_of disk d) (s / dirents_per_block))) (dirent_len * (s % dirents_per_block)) (spell_dirent entry)
+      ≡ overwrite (recovered disk (block_number (numbers_of disk d) (s / dirents_per_block))) (dirent_len * (s % dirents_per_block))
+      (spell_dirent entry)
 
 -- a number is put at a place of the indirect block of inode d
 pub record IsNumberPut (disk new : List (List ℕ)) (d : Dinode) (place b : ℕ) : Type 0 where
   pub some : slice_index d.addrs direct ≢ 0
   pub block : IsPut disk new (slice_index d.addrs direct)
-  pub numbers : numbers_in (recovered new (slice_index d.addrs direct)) ≡ slice_set (numbers_in (recovered disk (slice_index d.addrs direct))) place b
+  pub numbers : numbers_in (recovered new (slice_index d.addrs direct))
+      ≡ slice_set (numbers_in (recovered disk (slice_index d.addrs direct))) place b
 
 -- ---- what a put leaves
 
@@ -113,7 +116,8 @@ pub record IsTaken (disk new : List (List ℕ)) (owner : ℕ → ℕ) (i b : ℕ
   pub left : LeavesOthers disk new owner (put owner b i) i
   pub laid : (d : Dinode) (v : Node) → IsLaidOut disk owner i d v → IsLaidOut new (put owner b i) i d v
   pub spare : (d : Dinode) (v : Node) → IsLaidOut disk owner i d v → IsSpare new (put owner b i) i d b
-  pub named : (d : Dinode) (v : Node) → IsLaidOut disk owner i d v → NamesOwned disk owner i (numbers_of disk d) → NamesOwned new (put owner b i) i (b ∷ numbers_of new d)
+  pub named : (d : Dinode) (v : Node) → IsLaidOut disk owner i d v → NamesOwned disk owner i (numbers_of disk d)
+      → NamesOwned new (put owner b i) i (b ∷ numbers_of new d)
 
 -- Block b of inode i has become free.
 pub record IsGivenBack (disk new : List (List ℕ)) (owner : ℕ → ℕ) (i b : ℕ) : Type 0 where

@@ -21,7 +21,8 @@ HasOwners disk owner = (b : ℕ) → IsData (sizes_of disk) b → owner b < (siz
 abbrev pub IsInRange : List (List ℕ) → Nodes → Type 0
 IsInRange disk nodes = (i : ℕ) (v : Node) → nodes i ≡ Some v → (1 ≤ i) × (i < (sizes_of disk).ninodes)
 
-pub record IsRunning (disk : List (List ℕ)) (nodes : Nodes) (owner : ℕ → ℕ) (left : ℕ → Bool) (changing : ℕ → Option ℕ) (joined : ℕ → Bool) : Type 0 where
+pub record IsRunning (disk : List (List ℕ)) (nodes : Nodes) (owner : ℕ → ℕ) (left : ℕ → Bool) (changing : ℕ → Option ℕ)
+    (joined : ℕ → Bool) : Type 0 where
   -- the superblock and the log's head are good
   pub front : UpToLog disk
   pub whole : HasWholeBlocks disk

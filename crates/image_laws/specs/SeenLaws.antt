@@ -18,11 +18,14 @@ SeenPutsArePuts =
 -- What changes nothing that is seen outside the log leaves the seen disk: a read, a buffer given back, a step of a commit.
 abbrev pub SeenDisksStay : Type 0
 SeenDisksStay =
-    (sizes : Super) (see now : ℕ → List ℕ) (n : ℕ) → AreSeen sizes see n → AreSeenAlike sizes see now n → AreSeen sizes now n × (seen_blocks sizes now n ≡ seen_blocks sizes see n)
+    (sizes : Super) (see now : ℕ → List ℕ) (n : ℕ) → AreSeen sizes see n → AreSeenAlike sizes see now n
+    → AreSeen sizes now n × (seen_blocks sizes now n ≡ seen_blocks sizes see n)
 
 -- A disk that recovery would leave as it is seen is a well-formed image just where the seen disk is one, and of the same tree.
 abbrev pub RecoveredDisksAreImages : Type 0
 RecoveredDisksAreImages =
     (sizes : Super) (see : ℕ → List ℕ) (disk : List (List ℕ)) → AreSeen sizes see (length disk) → IsRecoveredSo sizes see disk
-    → (IsWellFormed (seen_blocks sizes see (length disk)) → IsWellFormed disk × (tree_in disk ≡ tree_in (seen_blocks sizes see (length disk))))
-    × (IsWellFormed disk → IsWellFormed (seen_blocks sizes see (length disk)) × (tree_in (seen_blocks sizes see (length disk)) ≡ tree_in disk))
+    → (IsWellFormed (seen_blocks sizes see (length disk))
+    → IsWellFormed disk × (tree_in disk ≡ tree_in (seen_blocks sizes see (length disk))))
+    × (IsWellFormed disk → IsWellFormed (seen_blocks sizes see (length disk))
+    × (tree_in (seen_blocks sizes see (length disk)) ≡ tree_in disk))

@@ -54,7 +54,8 @@ proper_in disk d = filter (λ n. up disk n == d) (further_in disk d)
 abbrev pub parent_of : List (List ℕ) → ℕ → List ℕ
 parent_of disk d = filter (λ n. not (n == d)) (up disk d ∷ [])
 
--- ---- how often inode i is named: by slots of live directories; by those past the first two; by those in its own ".."; as the ".." of others
+-- ---- how often inode i is named: by slots of live directories; by those past the first two; by those in its own ".."; as the ".." of
+-- others
 
 abbrev pub names_of : List (List ℕ) → ℕ → ℕ
 names_of disk i = times i (gathered (named_in disk) (last disk))

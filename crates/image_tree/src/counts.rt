@@ -42,7 +42,9 @@ fn has_good_count<D: Device>(
     requires low { 1 ≤ i }
     requires bound { i < layout.now.sizes.ninodes }
     ensures good { IfOk result (λ good. IsTrue good
-        ↔ (is_node (D.contents device.old) i ≡ true → IsGoodCount (inode_of (D.contents device.old) i) (names_of (D.contents device.old) i) (further_names_of (D.contents device.old) i) (children_of (D.contents device.old) i))) }
+        ↔ (is_node (D.contents device.old) i ≡ true
+        → IsGoodCount (inode_of (D.contents device.old) i) (names_of (D.contents device.old) i) (further_names_of (D.contents device.old) i)
+        (children_of (D.contents device.old) i))) }
     ensures device { OnlyReads D.contents D.failures (faults_after result) device.old device.new }
     ensures calls { ComesByCalls D.Called device.old device.new }
 {

@@ -173,7 +173,8 @@ fn has_good_slots_at<D: Device>(
     requires numbers { HasGoodNumbers (D.contents device.old) }
     requires table { IsNodeTable (D.contents device.old) nodes.now }
     ensures good { IfOk result (λ good. IsTrue good
-        ↔ (is_live_directory (D.contents device.old) i ≡ true → AreGoodSlots (is_node (D.contents device.old)) i (slots_in (D.contents device.old) i))) }
+        ↔ (is_live_directory (D.contents device.old) i ≡ true
+        → AreGoodSlots (is_node (D.contents device.old)) i (slots_in (D.contents device.old) i))) }
     ensures err { IfErr result (JudgesFault (D.contents device.old)) }
     ensures device { OnlyReads D.contents D.failures (faults_with result) device.old device.new }
     ensures calls { ComesByCalls D.Called device.old device.new }

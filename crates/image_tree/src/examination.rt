@@ -24,7 +24,8 @@ use std::alloc::Global;
 
 /// The checks of what inodes say alone, and of the blocks that they name.
 fn examine_blocks<D: Device>(alloc: Global, device: &mut D) -> Result<Layout, MountFault>
-    ensures judges { JudgesWith (λ layout. IsLayout (D.contents device.old) layout × UpToOnce (D.contents device.old)) (D.contents device.old) result }
+    ensures judges { JudgesWith (λ layout. IsLayout (D.contents device.old) layout × UpToOnce (D.contents device.old))
+        (D.contents device.old) result }
     ensures device { OnlyReads D.contents D.failures (faults_with result) device.old device.new }
     ensures calls { ComesByCalls D.Called device.old device.new }
 {
@@ -46,7 +47,8 @@ fn examine_blocks<D: Device>(alloc: Global, device: &mut D) -> Result<Layout, Mo
 
 /// The checks up to those of the slots of directories.
 fn examine_slots<D: Device>(alloc: Global, device: &mut D) -> Result<Layout, MountFault>
-    ensures judges { JudgesWith (λ layout. IsLayout (D.contents device.old) layout × UpToSlots (D.contents device.old)) (D.contents device.old) result }
+    ensures judges { JudgesWith (λ layout. IsLayout (D.contents device.old) layout × UpToSlots (D.contents device.old))
+        (D.contents device.old) result }
     ensures device { OnlyReads D.contents D.failures (faults_with result) device.old device.new }
     ensures calls { ComesByCalls D.Called device.old device.new }
 {
@@ -65,7 +67,8 @@ fn examine_slots<D: Device>(alloc: Global, device: &mut D) -> Result<Layout, Mou
 
 /// All checks, in their order. Where none fails it tells where the parts of the image lie.
 pub fn examine_layout<D: Device>(alloc: Global, device: &mut D) -> Result<Layout, MountFault>
-    ensures judges { JudgesWith (λ layout. IsLayout (D.contents device.old) layout × IsWellFormed (D.contents device.old)) (D.contents device.old) result }
+    ensures judges { JudgesWith (λ layout. IsLayout (D.contents device.old) layout × IsWellFormed (D.contents device.old))
+        (D.contents device.old) result }
     ensures device { OnlyReads D.contents D.failures (faults_with result) device.old device.new }
     ensures calls { ComesByCalls D.Called device.old device.new }
 {
@@ -83,7 +86,8 @@ pub fn examine_layout<D: Device>(alloc: Global, device: &mut D) -> Result<Layout
 /// Examines an image as recovery would leave it, and reads alone. A damage is the first check that fails, in the order in
 /// which `Damage` has them; memory that is refused and a device that fails end the examination wherever it is.
 pub fn examine<D: Device>(alloc: Global, device: &mut D) -> Result<Shape, MountFault>
-    ensures judges { JudgesWith (λ shape. IsWellFormed (D.contents device.old) × (shape ≡ shape_of (D.contents device.old))) (D.contents device.old) result }
+    ensures judges { JudgesWith (λ shape. IsWellFormed (D.contents device.old) × (shape ≡ shape_of (D.contents device.old)))
+        (D.contents device.old) result }
     ensures device { OnlyReads D.contents D.failures (faults_with result) device.old device.new }
     ensures calls { ComesByCalls D.Called device.old device.new }
 {

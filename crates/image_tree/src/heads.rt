@@ -33,7 +33,8 @@ fn is_good(s: &Super) -> bool
 
 fn find_super<D: Device>(device: &mut D) -> Result<Super, MountFault>
     requires { UpToShort (D.contents device.old) }
-    ensures judges { JudgesWith (λ s. (s ≡ sizes_of (D.contents device.old)) × HasSuper (D.contents device.old)) (D.contents device.old) result }
+    ensures judges { JudgesWith (λ s. (s ≡ sizes_of (D.contents device.old)) × HasSuper (D.contents device.old))
+        (D.contents device.old) result }
     ensures memory { result ≢ Err MountFault.NoMemory }
     ensures device { OnlyReads D.contents D.failures (faults_with result) device.old device.new }
     ensures calls { ComesByCalls D.Called device.old device.new }
@@ -74,7 +75,8 @@ fn are_between(numbers: &[u32], low: u32, high: u32) -> bool
 fn find_log<D: Device>(device: &mut D, sizes: &Super) -> Result<LogHead, MountFault>
     requires sizes { sizes.now ≡ sizes_of (D.contents device.old) }
     requires passed { UpToSize (D.contents device.old) }
-    ensures judges { JudgesWith (λ head. (head.blocks.items ≡ logged (D.contents device.old)) × HasGoodLog (D.contents device.old)) (D.contents device.old) result }
+    ensures judges { JudgesWith (λ head. (head.blocks.items ≡ logged (D.contents device.old)) × HasGoodLog (D.contents device.old))
+        (D.contents device.old) result }
     ensures memory { result ≢ Err MountFault.NoMemory }
     ensures device { OnlyReads D.contents D.failures (faults_with result) device.old device.new }
     ensures calls { ComesByCalls D.Called device.old device.new }

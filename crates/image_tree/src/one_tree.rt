@@ -20,7 +20,8 @@ fn are_named(ups: &[u16], further: &[u16], proper: &[u16]) -> bool
     requires further { length further.now ≡ length ups.now }
     requires proper { length proper.now ≡ length ups.now }
     ensures { IsTrue result
-        ↔ ((i : ℕ) → 2 ≤ i → i < length ups.now → slice_index ups.now i ≢ 0 → (slice_index further.now i ≡ 1) × (slice_index proper.now i ≡ 1)) }
+        ↔ ((i : ℕ) → 2 ≤ i → i < length ups.now → slice_index ups.now i ≢ 0
+        → (slice_index further.now i ≡ 1) × (slice_index proper.now i ≡ 1)) }
 {
     for i in 2..ups.len() {
         if ups[i] != 0 && (further[i] != 1 || proper[i] != 1) {

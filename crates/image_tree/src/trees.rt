@@ -163,7 +163,8 @@ fn load_nodes<D: Device>(
 /// The tree that an image holds as recovery would leave it: its live nodes with their contents. The image is examined
 /// first, with the answers of [`examine`](crate::examine).
 pub fn tree_of<D: Device>(alloc: Global, device: &mut D) -> Result<Tree, MountFault>
-    ensures judges { JudgesWith (λ tree. IsWellFormed (D.contents device.old) × (tree ≡ tree_in (D.contents device.old))) (D.contents device.old) result }
+    ensures judges { JudgesWith (λ tree. IsWellFormed (D.contents device.old) × (tree ≡ tree_in (D.contents device.old)))
+        (D.contents device.old) result }
     ensures device { OnlyReads D.contents D.failures (faults_with result) device.old device.new }
     ensures calls { ComesByCalls D.Called device.old device.new }
 {

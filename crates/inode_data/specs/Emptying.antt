@@ -42,7 +42,8 @@ own_rest e from v = free_numbers e.sizes.bmapstart (drop from (take direct (reco
 
 -- those in the indirect block from this place on, and the rest
 abbrev pub listed_rest : Emptying → ℕ → Inode → Option (GuardState BufferState) → P Dinode
-listed_rest e from v table = free_numbers e.sizes.bmapstart (drop from (numbers_in (bytes_in table))) (free_table e.sizes.bmapstart (block_in table) (record_rest e v))
+listed_rest e from v table = free_numbers e.sizes.bmapstart (drop from (numbers_in (bytes_in table)))
+    (free_table e.sizes.bmapstart (block_in table) (record_rest e v))
 
 abbrev pub truncate_left : Truncate → Hand → P Dinode
 truncate_left (Own e i m) h = bind (free_left m h) (λ _. own_rest e (i + 1) (inode_in e.seat h))

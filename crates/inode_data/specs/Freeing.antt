@@ -16,7 +16,8 @@ use Rattle.inode_data.specs.Addresses.{table_of}
 -- each of these numbers that isn't 0 is that of a block, which is given back, the first one first
 abbrev pub free_numbers : {M A : Type 0} → (bitmap : ℕ) → List ℕ → Prog Op Answer M A → Prog Op Answer M A
 free_numbers bitmap [] after = after
-free_numbers bitmap (b ∷ bs) after = if b == 0 then free_numbers bitmap bs after else bind (free_block bitmap b) (λ _. free_numbers bitmap bs after)
+free_numbers bitmap (b ∷ bs) after =
+    if b == 0 then free_numbers bitmap bs after else bind (free_block bitmap b) (λ _. free_numbers bitmap bs after)
 
 -- the indirect block goes back as it was, and is given back itself
 abbrev pub free_table : {M A : Type 0} → (bitmap table : ℕ) → Prog Op Answer M A → Prog Op Answer M A
@@ -43,7 +44,8 @@ store_record sizes n d = bind (store sizes.inodestart n d) (λ _. Ret d)
 
 -- All blocks of inode n are given back, and its record is stored without them: what stands on the disk then.
 abbrev pub truncate : {M : Type 0} → Super → ℕ → Dinode → Prog Op Answer M Dinode
-truncate sizes n d = free_numbers sizes.bmapstart (take direct d.addrs) (free_indirect sizes.bmapstart (table_of d) (store_record sizes n (without_content d)))
+truncate sizes n d = free_numbers sizes.bmapstart (take direct d.addrs)
+    (free_indirect sizes.bmapstart (table_of d) (store_record sizes n (without_content d)))
 
 -- ---- an inode freed
 
@@ -64,6 +66,7 @@ after_drop sizes n Counts = Ret tt
 after_drop sizes n Keeps = Ret tt
 after_drop sizes n (Dies m content) = free_inode sizes n (record_of (record { number = n; content = content }))
 
--- A reference is dropped outside a walk. Where it is the last one to a dead inode, the inode's lock is taken in its place, and the inode is freed.
+-- A reference is dropped outside a walk. Where it is the last one to a dead inode, the inode's lock is taken in its place, and the inode
+-- is freed.
 abbrev pub drop_reference : {M : Type 0} → Super → ℕ → Prog Op Answer M (Unit {0})
 drop_reference sizes n = Do (Down (Held n)) unmarked (after_drop sizes n)

@@ -34,4 +34,5 @@ front_blocks seen d (suc k) = front_blocks seen d k ++ content_block seen d k
 abbrev pub ReadsTheContent : Type 0
 ReadsTheContent = (answer : Oracle) (seen : ℕ → List ℕ) (d : Dinode) (offset n k : ℕ) (memory : List ℕ)
     → Shows answer seen → end_of d offset n ≤ block_len * k
-    → outcome answer 0 (read_from d offset n memory) ≡ filled_with (record { count = 0; bytes = memory }) (drop offset (take (end_of d offset n) (front_blocks seen d k)))
+    → outcome answer 0 (read_from d offset n memory)
+    ≡ filled_with (record { count = 0; bytes = memory }) (drop offset (take (end_of d offset n) (front_blocks seen d k)))

@@ -31,7 +31,8 @@ read_rest d r = read_blocks r.left d (next_block r.from) r.upto
 
 abbrev pub read_left : Dinode → List ℕ → ReadPart → Hand → P FilledMemory
 read_left d bytes (Fetching r m) h = bind (block_left m h) (read_part (read_rest d r) r.from r.upto (filled_in r bytes))
-read_left d bytes (Giving r) h = Do (steps.Put (block_at First h) None) unmarked (λ _. read_blocks r.left d r.from r.upto (filled_in r bytes))
+read_left d bytes (Giving r) h =
+    Do (steps.Put (block_at First h) None) unmarked (λ _. read_blocks r.left d r.from r.upto (filled_in r bytes))
 
 abbrev pub read_asked : ReadPart → Op
 read_asked (Fetching r m) = block_asked m

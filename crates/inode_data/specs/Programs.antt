@@ -62,7 +62,8 @@ abbrev pub filled_with : FilledMemory → List ℕ → FilledMemory
 filled_with m part = record { count = m.count + length part; bytes = overwrite m.bytes m.count part }
 
 -- the block is given back as it was, and its part was read
-abbrev pub read_part : {M : Type 0} → (FilledMemory → Prog Op Answer M FilledMemory) → (from upto : ℕ) → FilledMemory → FetchedBlock → Prog Op Answer M FilledMemory
+abbrev pub read_part : {M : Type 0} → (FilledMemory → Prog Op Answer M FilledMemory) → (from upto : ℕ) → FilledMemory → FetchedBlock
+    → Prog Op Answer M FilledMemory
 read_part more from upto m f = Do (Put f.number None) unmarked (λ _. more (filled_with m (part_of from upto f.bytes)))
 
 -- the parts of so many blocks, one after the other
@@ -76,4 +77,5 @@ end_of d offset n = min (offset + n) (min d.size most_bytes)
 
 -- So many bytes from an offset on, at most to the size, are read into this memory.
 abbrev pub read_from : {M : Type 0} → Dinode → (offset n : ℕ) → List ℕ → Prog Op Answer M FilledMemory
-read_from d offset n bytes = read_blocks (blocks_between offset (end_of d offset n)) d offset (end_of d offset n) (record { count = 0; bytes = bytes })
+read_from d offset n bytes =
+    read_blocks (blocks_between offset (end_of d offset n)) d offset (end_of d offset n) (record { count = 0; bytes = bytes })

@@ -58,7 +58,8 @@ with_table sizes i d None = located d None
 with_table sizes i d (Some table) = bind (fetch table) (look_up sizes i (with_address direct table d) table)
 
 abbrev pub locate_at : {M : Type 0} → Super → Dinode → Address → Prog Op Answer M Located
-locate_at sizes d (Direct i) = if slice_index d.addrs i == 0 then bind (take_one sizes) (name_direct i d) else located d (Some (slice_index d.addrs i))
+locate_at sizes d (Direct i) =
+    if slice_index d.addrs i == 0 then bind (take_one sizes) (name_direct i d) else located d (Some (slice_index d.addrs i))
 locate_at sizes d (InTable i) = if table_of d == 0 then bind (take_one sizes) (with_table sizes i d) else locate_in_table sizes i d
 
 -- Block k of a content: where it is missing it is taken, and an indirect block just before the block that needs it.
@@ -85,18 +86,21 @@ abbrev pub put_part : {M : Type 0} → Prog Op Answer M WriteResult → ℕ → 
 put_part more b at bytes block = Do (Put b (Some (with_part at bytes block))) unmarked (λ _. more)
 
 -- the part of the next block is written, where there is one; else the writing ends before it
-abbrev pub write_in : {M : Type 0} → (Dinode → Prog Op Answer M WriteResult) → (at : ℕ) → List ℕ → Dinode → Option ℕ → Prog Op Answer M WriteResult
+abbrev pub write_in : {M : Type 0} → (Dinode → Prog Op Answer M WriteResult) → (at : ℕ) → List ℕ → Dinode → Option ℕ
+    → Prog Op Answer M WriteResult
 write_in more at bytes d None = Ret (record { inode = d; upto = at })
 write_in more at bytes d (Some b) = bind (fetch b) (put_part (more d) b at bytes)
 
-abbrev pub write_located : {M : Type 0} → (Dinode → Prog Op Answer M WriteResult) → (at : ℕ) → List ℕ → Located → Prog Op Answer M WriteResult
+abbrev pub write_located : {M : Type 0} → (Dinode → Prog Op Answer M WriteResult) → (at : ℕ) → List ℕ → Located
+    → Prog Op Answer M WriteResult
 write_located more at bytes l = write_in more at bytes l.inode l.number
 
 -- these bytes go into so many blocks from an offset on, in order
 unfoldable pub write_blocks : {M : Type 0} → ℕ → Super → (at : ℕ) → List ℕ → Dinode → Prog Op Answer M WriteResult
 write_blocks zero sizes at bytes d = Ret (record { inode = d; upto = at })
 write_blocks (suc n) sizes at bytes d =
-    bind (locate sizes d (at / block_len)) (write_located (write_blocks n sizes (at + length (front_of at bytes)) (drop (length (front_of at bytes)) bytes)) at bytes)
+    bind (locate sizes d (at / block_len))
+    (write_located (write_blocks n sizes (at + length (front_of at bytes)) (drop (length (front_of at bytes)) bytes)) at bytes)
 
 -- the inode's record after bytes were written up to an offset
 abbrev pub grown : WriteResult → Dinode
@@ -105,6 +109,8 @@ grown w = record w.inode { size = max w.inode.size w.upto }
 abbrev pub store_written : {M : Type 0} → Super → ℕ → WriteResult → Prog Op Answer M WriteResult
 store_written sizes n w = bind (store sizes.inodestart n (grown w)) (λ _. Ret (record { inode = grown w; upto = w.upto }))
 
--- The bytes are written from an offset on; where a block is missing and none is free, those before it alone. The inode is stored at the end.
+-- The bytes are written from an offset on; where a block is missing and none is free, those before it alone. The inode is stored at the
+-- end.
 abbrev pub write_part : {M : Type 0} → Super → ℕ → Dinode → (offset : ℕ) → List ℕ → Prog Op Answer M WriteResult
-write_part sizes n d offset bytes = bind (write_blocks (blocks_between offset (offset + length bytes)) sizes offset bytes d) (store_written sizes n)
+write_part sizes n d offset bytes =
+    bind (write_blocks (blocks_between offset (offset + length bytes)) sizes offset bytes d) (store_written sizes n)

@@ -32,7 +32,8 @@ impl FreeInode {
         ensures program { freeing_left result hand.new ≡ free_record sizes.now (number_in seat hand.old) (record_in seat hand.old) }
         ensures ready { FreeingReady result hand.new }
         ensures about { freeing_of result ≡ record { seat = seat; sizes = sizes.now } }
-        ensures beside { beside_emptying (record { seat = seat; sizes = sizes.now }) hand.new ≡ beside_emptying (record { seat = seat; sizes = sizes.now }) hand.old }
+        ensures beside { beside_emptying (record { seat = seat; sizes = sizes.now }) hand.new
+            ≡ beside_emptying (record { seat = seat; sizes = sizes.now }) hand.old }
         ensures hand { bare hand.new ≡ bare hand.old }
     {
         FreeInode::Truncating(Truncate::begin(hand, seat, sizes))
@@ -95,7 +96,8 @@ impl Routine for FreeInode {
 fn store_free(emptying: Emptying, hand: &mut Hand) -> FreeInode
     requires emptying { IsEmptying emptying hand.old }
     requires free { HasNoBuffer hand.old }
-    ensures program { freeing_left result hand.new ≡ store_free emptying.sizes (number_in emptying.seat hand.old) (record_in emptying.seat hand.old) }
+    ensures program { freeing_left result hand.new
+        ≡ store_free emptying.sizes (number_in emptying.seat hand.old) (record_in emptying.seat hand.old) }
     ensures ready { FreeingReady result hand.new }
     ensures about { freeing_of result ≡ emptying }
     ensures beside { beside_emptying emptying hand.new ≡ beside_emptying emptying hand.old }

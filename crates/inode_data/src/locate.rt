@@ -136,13 +136,15 @@ impl Control for Locate {
     fn next(&mut self, answer: &Answer, hand: &mut Hand) -> Option<Located>
         requires came { (before : HandState) × LocateReady self.old before × IsAfter (locate_asked self.old) before answer.now hand.old }
         ensures goes { (before : HandState) → LocateReady self.old before → IsAfter (locate_asked self.old) before answer.now hand.old
-            → Goes (locate_left self.old before) (answer_in (locate_asked self.old) answer.now hand.old) (left_after locate_left (λ l _. l) result self.new hand.new) }
+            → Goes (locate_left self.old before) (answer_in (locate_asked self.old) answer.now hand.old)
+            (left_after locate_left (λ l _. l) result self.new hand.new) }
         ensures ready { IfNone result (LocateReady self.new hand.new) }
         ensures ends { IfSome result (λ _. Unit {0}) }
         ensures hand { bare hand.new ≡ bare hand.old }
         ensures same { hand.new ≡ hand.old }
         ensures over { IfSome result (λ _. (hand.old.first ≡ None) × (hand.old.second ≡ None)) }
-        ensures beside { (before : HandState) → LocateReady self.old before → IsAfter (locate_asked self.old) before answer.now hand.old → Leaves before hand.old }
+        ensures beside { (before : HandState) → LocateReady self.old before → IsAfter (locate_asked self.old) before answer.now hand.old
+            → Leaves before hand.old }
     {
         match &mut self.stage {
             Stage::Direct(i, take) => {

@@ -51,7 +51,8 @@ impl ReadPart {
             ≡ read_from inode.now offset count bytes }
         ensures ready { (bytes : List ℕ) (h : HandState) → NoBuffers h → count ≤ length bytes
             → IfBegun (λ m. ReadReady bytes m h) (λ _. Unit {0}) result }
-        ensures count { IfBegun (λ m. read_count m ≡ end_of inode.now offset count - offset) (λ n. n ≡ end_of inode.now offset count - offset) result }
+        ensures count { IfBegun (λ m. read_count m ≡ end_of inode.now offset count - offset)
+            (λ n. n ≡ end_of inode.now offset count - offset) result }
     {
         let from = offset as usize;
         let upto = (from + count as usize).min((inode.size as usize).min(BLOCK_LEN * MOST_BLOCKS));
@@ -87,15 +88,18 @@ impl ReadPart {
         answer: &Answer,
         hand: &Hand,
     ) -> Option<usize>
-        requires came { (before : HandState) × ReadReady memory.old self.old before × IsAfter (read_asked self.old) before answer.now hand.now }
-        ensures goes { (before : HandState) → ReadReady memory.old self.old before → IsAfter (read_asked self.old) before answer.now hand.now
+        requires came { (before : HandState) × ReadReady memory.old self.old before
+            × IsAfter (read_asked self.old) before answer.now hand.now }
+        ensures goes { (before : HandState) → ReadReady memory.old self.old before
+            → IsAfter (read_asked self.old) before answer.now hand.now
             → Goes (read_left inode.now memory.old self.old before) (answer_in (read_asked self.old) answer.now hand.now)
             (left_after (read_left inode.now memory.new) (λ n _. filled_to n memory.new) result self.new hand.now) }
         ensures ready { IfNone result (ReadReady memory.new self.new hand.now) }
         ensures over { IfSome result (λ _. NoBuffers hand.now) }
         ensures still { IfNone result (read_count self.new ≡ read_count self.old) }
         ensures count { IfSome result (λ n. (n ≡ read_count self.old) × (n ≤ length memory.new)) }
-        ensures beside { (before : HandState) → ReadReady memory.old self.old before → IsAfter (read_asked self.old) before answer.now hand.now
+        ensures beside { (before : HandState) → ReadReady memory.old self.old before
+            → IsAfter (read_asked self.old) before answer.now hand.now
             → Leaves before hand.now }
     {
         match self {

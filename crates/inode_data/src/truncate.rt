@@ -59,7 +59,8 @@ impl Truncate {
         ensures program { truncate_left result hand.new ≡ truncate sizes.now (number_in seat hand.old) (record_in seat hand.old) }
         ensures ready { TruncateReady result hand.new }
         ensures about { emptying_of result ≡ record { seat = seat; sizes = sizes.now } }
-        ensures beside { beside_emptying (record { seat = seat; sizes = sizes.now }) hand.new ≡ beside_emptying (record { seat = seat; sizes = sizes.now }) hand.old }
+        ensures beside { beside_emptying (record { seat = seat; sizes = sizes.now }) hand.new
+            ≡ beside_emptying (record { seat = seat; sizes = sizes.now }) hand.old }
         ensures hand { bare hand.new ≡ bare hand.old }
     {
         let emptying = Emptying {

@@ -102,8 +102,10 @@ impl WritePart {
     /// How it goes on.
     #[tactic(auto, using(hands::proofs::Going::goes_bind, hands::proofs::Goings::fetched_goes))]
     pub fn next(&mut self, bytes: &[u8], answer: &Answer, hand: &mut Hand) -> Option<Written>
-        requires came { (before : HandState) × WriteReady bytes.now self.old before × IsAfter (write_asked self.old) before answer.now hand.old }
-        ensures goes { (before : HandState) → WriteReady bytes.now self.old before → IsAfter (write_asked self.old) before answer.now hand.old
+        requires came { (before : HandState) × WriteReady bytes.now self.old before
+            × IsAfter (write_asked self.old) before answer.now hand.old }
+        ensures goes { (before : HandState) → WriteReady bytes.now self.old before
+            → IsAfter (write_asked self.old) before answer.now hand.old
             → Goes (write_left bytes.now self.old before) (answer_in (write_asked self.old) answer.now hand.old)
             (left_after (write_left bytes.now) (λ r _. written_as r) result self.new hand.new) }
         ensures ready { IfNone result (WriteReady bytes.now self.new hand.new) }

@@ -37,7 +37,8 @@ with_bitmap s = record s { bitmap = true }
 abbrev pub with_contents : ℕ → Spent → Spent
 with_contents k s = record s { contents = s.contents + k }
 
--- After an operation. A new inode's number isn't known before; a name may want a block and the table of such, a piece's bytes four and the table.
+-- After an operation. A new inode's number isn't known before; a name may want a block and the table of such, a piece's bytes four and the
+-- table.
 abbrev pub spent_after : Op → Spent → Spent
 spent_after Join s = unspent
 spent_after (JoinFile fd) s = unspent

@@ -63,7 +63,8 @@ refused_read fd count (LocksIt n offset) = None
 
 abbrev pub read_on : ℕ → List ℕ → LockResult → P Reply
 read_on fd buffer (NotLocked c) = Ret (failed (calls.Read fd buffer) c)
-read_on fd buffer (LocksIt n offset) = Do (ReadFile fd n offset (length buffer)) (λ b. own_step (steps.Read fd (length buffer))) (λ b. say (read_reply fd buffer b))
+read_on fd buffer (LocksIt n offset) =
+    Do (ReadFile fd n offset (length buffer)) (λ b. own_step (steps.Read fd (length buffer))) (λ b. say (read_reply fd buffer b))
 
 abbrev pub read_program : ℕ → List ℕ → P Reply
 read_program fd buffer = Do (LockFile fd) (refused_read fd (length buffer)) (read_on fd buffer)

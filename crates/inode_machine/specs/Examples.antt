@@ -56,11 +56,16 @@ abbrev pub OpenFinishes : Type 0
 OpenFinishes = Finishes opens (opened_root ∷ [])
 
 abbrev pub StatFinishes : Type 0
-StatFinishes = Finishes (opens ++ makes 0 (calls.Fstat 0) 3) (record { answer = answers.Stat (record { device = 1; inode = 1; kind = types.Directory; nlink = 1; size = 1024 }); call = calls.Fstat 0 } ∷ opened_root ∷ [])
+StatFinishes = Finishes (opens ++ makes 0 (calls.Fstat 0) 3)
+    (record {
+      answer = answers.Stat (record { device = 1; inode = 1; kind = types.Directory; nlink = 1; size = 1024 });
+      call = calls.Fstat 0;
+    } ∷ opened_root ∷ [])
 
 -- the first entry's number
 abbrev pub ReadFinishes : Type 0
-ReadFinishes = Finishes (opens ++ makes 0 (calls.Read 0 (7 ∷ 7 ∷ [])) 3) (record { answer = answers.Count 2; call = calls.Read 0 (1 ∷ 0 ∷ []) } ∷ opened_root ∷ [])
+ReadFinishes = Finishes (opens ++ makes 0 (calls.Read 0 (7 ∷ 7 ∷ [])) 3)
+    (record { answer = answers.Count 2; call = calls.Read 0 (1 ∷ 0 ∷ []) } ∷ opened_root ∷ [])
 
 abbrev pub doubled : Reply
 doubled = record { answer = answers.Fd 1; call = calls.Dup 0 }
@@ -70,7 +75,8 @@ DupFinishes = Finishes (opens ++ makes 0 (calls.Dup 0) 2) (doubled ∷ opened_ro
 
 -- one of two descriptors, and the last one, with which the open file goes
 abbrev pub CloseFinishes : Type 0
-CloseFinishes = Finishes (opens ++ makes 0 (calls.Dup 0) 2 ++ makes 0 (calls.Close 0) 2 ++ makes 0 (calls.Close 1) 5) (done (calls.Close 1) ∷ done (calls.Close 0) ∷ doubled ∷ opened_root ∷ [])
+CloseFinishes = Finishes (opens ++ makes 0 (calls.Dup 0) 2 ++ makes 0 (calls.Close 0) 2 ++ makes 0 (calls.Close 1) 5)
+    (done (calls.Close 1) ∷ done (calls.Close 0) ∷ doubled ∷ opened_root ∷ [])
 
 -- A directory is made, as inode 2.
 
@@ -105,7 +111,8 @@ abbrev pub CreateFinishes : Type 0
 CreateFinishes = Finishes makes_a (made_a ∷ [])
 
 abbrev pub WriteFinishes : Type 0
-WriteFinishes = Finishes (makes_a ++ makes 0 (calls.Write 0 (codes "A")) 5) (record { answer = answers.Count 1; call = calls.Write 0 (codes "A") } ∷ made_a ∷ [])
+WriteFinishes = Finishes (makes_a ++ makes 0 (calls.Write 0 (codes "A")) 5)
+    (record { answer = answers.Count 1; call = calls.Write 0 (codes "A") } ∷ made_a ∷ [])
 
 -- A file is linked: it has two names then.
 
@@ -116,7 +123,9 @@ abbrev pub links_ab : List (Event Call Outside)
 links_ab = makes_a ++ makes 0 link_ab 19
 
 abbrev pub LinkFinishes : Type 0
-LinkFinishes = Finishes (links_ab ++ makes 0 (calls.Fstat 0) 3) (record { answer = answers.Stat (record { device = 1; inode = 2; kind = types.File; nlink = 2; size = 0 }); call = calls.Fstat 0 } ∷ done link_ab ∷ made_a ∷ [])
+LinkFinishes = Finishes (links_ab ++ makes 0 (calls.Fstat 0) 3)
+    (record { answer = answers.Stat (record { device = 1; inode = 2; kind = types.File; nlink = 2; size = 0 }); call = calls.Fstat 0 }
+    ∷ done link_ab ∷ made_a ∷ [])
 
 abbrev pub refused : Call → Cause → Reply
 refused c k = record { answer = answers.Failed k; call = c }
@@ -127,7 +136,8 @@ one_link = record { answer = answers.Stat (record { device = 1; inode = 2; kind 
 
 -- a call that is refused once the count is raised, of so many steps
 abbrev pub LinkRefused : List ℕ → Cause → ℕ → Type 0
-LinkRefused new k n = Finishes (makes_a ++ makes 0 (calls.Link (codes "/a") new) n ++ makes 0 (calls.Fstat 0) 3) (one_link ∷ refused (calls.Link (codes "/a") new) k ∷ made_a ∷ [])
+LinkRefused new k n = Finishes (makes_a ++ makes 0 (calls.Link (codes "/a") new) n ++ makes 0 (calls.Fstat 0) 3)
+    (one_link ∷ refused (calls.Link (codes "/a") new) k ∷ made_a ∷ [])
 
 -- the new name is there already; its directory isn't; its path has no last name
 abbrev pub LinkToTaken : Type 0
@@ -144,7 +154,8 @@ abbrev pub LinkOfNothing : Type 0
 LinkOfNothing = Finishes (makes 0 (calls.Link (codes "/x") (codes "/b")) 7) (refused (calls.Link (codes "/x") (codes "/b")) NoEntry ∷ [])
 
 abbrev pub LinkOfDirectory : Type 0
-LinkOfDirectory = Finishes (makes 0 (calls.Link (codes "/") (codes "/b")) 7) (refused (calls.Link (codes "/") (codes "/b")) IsDirectory ∷ [])
+LinkOfDirectory =
+    Finishes (makes 0 (calls.Link (codes "/") (codes "/b")) 7) (refused (calls.Link (codes "/") (codes "/b")) IsDirectory ∷ [])
 
 -- Hart 0 hands the open root on: both read on from one offset, and the child starts calls again.
 abbrev pub inherits : List (Event Call Outside)
@@ -154,7 +165,8 @@ abbrev pub read_by : List ℕ → Reply
 read_by bytes = record { answer = answers.Count 2; call = calls.Read 0 bytes }
 
 abbrev pub InheritFinishes : Type 0
-InheritFinishes = Finishes (inherits ++ makes 0 (calls.Read 0 (7 ∷ 7 ∷ [])) 3 ++ makes 1 (calls.Read 0 (7 ∷ 7 ∷ [])) 3) (read_by (46 ∷ 0 ∷ []) ∷ read_by (1 ∷ 0 ∷ []) ∷ done (calls.Inherit 1) ∷ opened_root ∷ [])
+InheritFinishes = Finishes (inherits ++ makes 0 (calls.Read 0 (7 ∷ 7 ∷ [])) 3 ++ makes 1 (calls.Read 0 (7 ∷ 7 ∷ [])) 3)
+    (read_by (46 ∷ 0 ∷ []) ∷ read_by (1 ∷ 0 ∷ []) ∷ done (calls.Inherit 1) ∷ opened_root ∷ [])
 
 -- Without descriptors the directory alone is handed on: the child opens it.
 abbrev pub open_here : Call
@@ -162,8 +174,10 @@ open_here = calls.Open [] 0
 
 abbrev pub InheritMoves : Type 0
 InheritMoves =
-    Finishes (makes_d ++ makes 0 (calls.Chdir (codes "/d")) 11 ++ makes 0 (calls.Inherit 1) 5 ++ makes 1 open_here 8 ++ makes 1 (calls.Fstat 0) 3)
-    (record { answer = answers.Stat (record { device = 1; inode = 2; kind = types.Directory; nlink = 1; size = 32 }); call = calls.Fstat 0 } ∷ record { answer = answers.Fd 0; call = open_here } ∷ done (calls.Inherit 1) ∷ done (calls.Chdir (codes "/d")) ∷ done make_d ∷ [])
+    Finishes (makes_d ++ makes 0 (calls.Chdir (codes "/d")) 11 ++ makes 0 (calls.Inherit 1) 5 ++ makes 1 open_here 8
+    ++ makes 1 (calls.Fstat 0) 3)
+    (record { answer = answers.Stat (record { device = 1; inode = 2; kind = types.Directory; nlink = 1; size = 32 }); call = calls.Fstat 0 }
+    ∷ record { answer = answers.Fd 0; call = open_here } ∷ done (calls.Inherit 1) ∷ done (calls.Chdir (codes "/d")) ∷ done make_d ∷ [])
 
 -- Where the child was the last one in a removed directory, that is freed.
 abbrev pub InheritFrees : Type 0
@@ -171,7 +185,8 @@ InheritFrees =
     Finishes (makes_d ++ makes 1 (calls.Chdir (codes "/d")) 11 ++ makes 0 (calls.Unlink (codes "/d")) 16 ++ makes 0 (calls.Inherit 1) 8)
     (done (calls.Inherit 1) ∷ done (calls.Unlink (codes "/d")) ∷ done (calls.Chdir (codes "/d")) ∷ done make_d ∷ [])
 
--- Starts that are refused: of no hart; of a child that is none, or is the caller, or has descriptors; of a path that is too long, or has a zero; of a child
+-- Starts that are refused: of no hart; of a child that is none, or is the caller, or has descriptors; of a path that is too long, or has a
+-- zero; of a child
 -- while another hands its own to it, and of it by a third one; of a child that has a call.
 abbrev pub refusals : List (Came covered_calls) → List Refusal
 refusals [] = []
@@ -186,13 +201,17 @@ refusals (WasStopped ∷ cs) = refusals cs
 
 -- 128 bytes
 abbrev pub long_path : List ℕ
-long_path = codes "/aaaaaaaaaaaaaaaaaaaaaaaaaaaaaaaaaaaaaaaaaaaaaaaaaaaaaaaaaaaaaaaaaaaaaaaaaaaaaaaaaaaaaaaaaaaaaaaaaaaaaaaaaaaaaaaaaaaaaaaaaaaaaaa"
+long_path =
+    codes "/aaaaaaaaaaaaaaaaaaaaaaaaaaaaaaaaaaaaaaaaaaaaaaaaaaaaaaaaaaaaaaaaaaaaaaaaaaaaaaaaaaaaaaaaaaaaaaaaaaaaaaaaaaaaaaaaaaaaaaaaaaaaaaa"
 
 abbrev pub refused_starts : List (Event Call Outside)
-refused_starts = Start 8 (calls.Dup 0) ∷ Start 1 (calls.Inherit 8) ∷ Start 1 (calls.Inherit 1) ∷ Start 1 (calls.Inherit 0) ∷ Start 1 (calls.Chdir long_path) ∷ Start 1 (calls.Link (codes "/a") (47 ∷ 0 ∷ [])) ∷ Start 0 (calls.Inherit 1) ∷ Start 1 (calls.Dup 0) ∷ Start 2 (calls.Inherit 1) ∷ Start 2 (calls.Inherit 0) ∷ []
+refused_starts = Start 8 (calls.Dup 0) ∷ Start 1 (calls.Inherit 8) ∷ Start 1 (calls.Inherit 1) ∷ Start 1 (calls.Inherit 0)
+    ∷ Start 1 (calls.Chdir long_path) ∷ Start 1 (calls.Link (codes "/a") (47 ∷ 0 ∷ [])) ∷ Start 0 (calls.Inherit 1) ∷ Start 1 (calls.Dup 0)
+    ∷ Start 2 (calls.Inherit 1) ∷ Start 2 (calls.Inherit 0) ∷ []
 
 abbrev pub StartsRefused : Type 0
-StartsRefused = refusals (outcomes covered_calls (opens ++ refused_starts) first) ≡ NoSuchHart ∷ NoSuchHart ∷ Busy ∷ NotEmptyHart ∷ PathTooLong ∷ ZeroInPath ∷ Busy ∷ Busy ∷ Busy ∷ []
+StartsRefused = refusals (outcomes covered_calls (opens ++ refused_starts) first)
+    ≡ NoSuchHart ∷ NoSuchHart ∷ Busy ∷ NotEmptyHart ∷ PathTooLong ∷ ZeroInPath ∷ Busy ∷ Busy ∷ Busy ∷ []
 
 -- Two harts: hart 1 walks to the directory, hart 0 removes it under it, and hart 1 frees it at its call's end.
 
@@ -203,7 +222,8 @@ abbrev pub removed_under : List (Event Call Outside)
 removed_under = makes_d ++ makes 1 walk_on 6 ++ makes 0 (calls.Unlink (codes "/d")) 16 ++ steps 1 11
 
 abbrev pub WalkerFails : Type 0
-WalkerFails = Finishes removed_under (record { answer = answers.Failed NoEntry; call = walk_on } ∷ done (calls.Unlink (codes "/d")) ∷ done make_d ∷ [])
+WalkerFails = Finishes removed_under
+    (record { answer = answers.Failed NoEntry; call = walk_on } ∷ done (calls.Unlink (codes "/d")) ∷ done make_d ∷ [])
 
 -- No room is found: no inode is free; no block is left for a new directory's entries, and its inode is freed again.
 
@@ -214,12 +234,14 @@ abbrev pub NoInodeLeft : Type 0
 NoInodeLeft = NoRoom (makes 0 make_d 10) (record { answer = answers.Full DiskInodes; call = make_d } ∷ [])
 
 abbrev pub NoBlockLeft : Type 0
-NoBlockLeft = NoRoom (makes 0 make_d 5 ++ Step 0 (Picks 2) ∷ steps 0 2 ++ Step 0 (RoomFor 0) ∷ steps 0 10) (record { answer = answers.Full Blocks; call = make_d } ∷ [])
+NoBlockLeft = NoRoom (makes 0 make_d 5 ++ Step 0 (Picks 2) ∷ steps 0 2 ++ Step 0 (RoomFor 0) ∷ steps 0 10)
+    (record { answer = answers.Full Blocks; call = make_d } ∷ [])
 
 -- No block is left for the new name of a file, which keeps its one link.
 
 abbrev pub NoBlockForName : Type 0
-NoBlockForName = NoRoom (makes_a ++ makes 0 link_ab 13 ++ Step 0 (RoomFor 0) ∷ steps 0 8 ++ makes 0 (calls.Fstat 0) 3) (one_link ∷ record { answer = answers.Full Blocks; call = link_ab } ∷ made_a ∷ [])
+NoBlockForName = NoRoom (makes_a ++ makes 0 link_ab 13 ++ Step 0 (RoomFor 0) ∷ steps 0 8 ++ makes 0 (calls.Fstat 0) 3)
+    (one_link ∷ record { answer = answers.Full Blocks; call = link_ab } ∷ made_a ∷ [])
 
 -- So of a file that an open makes, and for its name; for a new directory's name; for a part of a write past its first byte.
 
@@ -227,17 +249,20 @@ abbrev pub NoInodeForFile : Type 0
 NoInodeForFile = NoRoom (makes 0 make_a 10) (record { answer = answers.Full DiskInodes; call = make_a } ∷ [])
 
 abbrev pub NoBlockForFile : Type 0
-NoBlockForFile = NoRoom (makes 0 make_a 5 ++ Step 0 (Picks 2) ∷ steps 0 2 ++ Step 0 (RoomFor 0) ∷ steps 0 10) (record { answer = answers.Full Blocks; call = make_a } ∷ [])
+NoBlockForFile = NoRoom (makes 0 make_a 5 ++ Step 0 (Picks 2) ∷ steps 0 2 ++ Step 0 (RoomFor 0) ∷ steps 0 10)
+    (record { answer = answers.Full Blocks; call = make_a } ∷ [])
 
 abbrev pub NoBlockForDirectory : Type 0
-NoBlockForDirectory = NoRoom (makes 0 make_d 5 ++ Step 0 (Picks 2) ∷ steps 0 3 ++ Step 0 (RoomFor 0) ∷ steps 0 10) (record { answer = answers.Full Blocks; call = make_d } ∷ [])
+NoBlockForDirectory = NoRoom (makes 0 make_d 5 ++ Step 0 (Picks 2) ∷ steps 0 3 ++ Step 0 (RoomFor 0) ∷ steps 0 10)
+    (record { answer = answers.Full Blocks; call = make_d } ∷ [])
 
 abbrev pub write_ab : Call
 write_ab = calls.Write 0 (codes "AB")
 
 abbrev pub NoBlockForPart : Type 0
 NoBlockForPart = NoRoom (makes_a ++ makes 0 write_ab 2 ++ Step 0 (RoomFor 1) ∷ steps 0 2 ++ makes 0 (calls.Fstat 0) 3)
-    (record { answer = answers.Stat (record { device = 1; inode = 2; kind = types.File; nlink = 1; size = 1 }); call = calls.Fstat 0 } ∷ record { answer = answers.Full Blocks; call = write_ab } ∷ made_a ∷ [])
+    (record { answer = answers.Stat (record { device = 1; inode = 2; kind = types.File; nlink = 1; size = 1 }); call = calls.Fstat 0 }
+    ∷ record { answer = answers.Full Blocks; call = write_ab } ∷ made_a ∷ [])
 
 -- All sixteen descriptors are of the root: there is none for one more, nor to open it again.
 
@@ -250,26 +275,35 @@ doubled_to zero = opened_root ∷ []
 doubled_to (suc n) = record { answer = answers.Fd (suc n); call = calls.Dup 0 } ∷ doubled_to n
 
 abbrev pub NoDescriptorToDouble : Type 0
-NoDescriptorToDouble = NoRoom (opens ++ doubles 15 ++ makes 0 (calls.Dup 0) 2) (record { answer = answers.Full Descriptors; call = calls.Dup 0 } ∷ doubled_to 15)
+NoDescriptorToDouble = NoRoom (opens ++ doubles 15 ++ makes 0 (calls.Dup 0) 2)
+    (record { answer = answers.Full Descriptors; call = calls.Dup 0 } ∷ doubled_to 15)
 
 abbrev pub NoDescriptorToOpen : Type 0
-NoDescriptorToOpen = NoRoom (opens ++ doubles 15 ++ makes 0 open_root 9) (record { answer = answers.Full Descriptors; call = open_root } ∷ doubled_to 15)
+NoDescriptorToOpen =
+    NoRoom (opens ++ doubles 15 ++ makes 0 open_root 9) (record { answer = answers.Full Descriptors; call = open_root } ∷ doubled_to 15)
 
--- A file has all the links that it may have. Of these names the tree has one, so it is none that a run comes to: the program alone is seen here.
+-- A file has all the links that it may have. Of these names the tree has one, so it is none that a run comes to: the program alone is seen
+-- here.
 
 abbrev pub much_linked : Tree
-much_linked = let t : Tree = tree_of (fresh_tree 10) in with_nodes t (put (put t.nodes 1 (Some (with_entry (codes "a") 2 (node_or (t.nodes 1))))) 2 (Some (record { count = count_limit; kind = File [] })))
+much_linked = let t : Tree = tree_of (fresh_tree 10) in
+    with_nodes t (put (put t.nodes 1 (Some (with_entry (codes "a") 2 (node_or (t.nodes 1))))) 2
+    (Some (record { count = count_limit; kind = File [] })))
 
 abbrev pub LinkOfMany : Type 0
-LinkOfMany = replies (run covered_calls (makes 0 link_ab 11) (fresh covered_calls (at_rest much_linked))).finished ≡ refused link_ab TooManyLinks ∷ []
+LinkOfMany = replies (run covered_calls (makes 0 link_ab 11) (fresh covered_calls (at_rest much_linked))).finished
+    ≡ refused link_ab TooManyLinks ∷ []
 
 -- A directory has all the slots that it may have. So many names of one file aren't well formed, so the program alone is seen here, too.
 
 abbrev pub full_root : Tree
-full_root = let t : Tree = tree_of (fresh_tree 10) in with_nodes t (put t.nodes 1 (Some (record { count = 1; kind = Directory (replicate slot_limit (Some (record { name = codes "x"; number = 2 }))) })))
+full_root = let t : Tree = tree_of (fresh_tree 10) in
+    with_nodes t (put t.nodes 1
+    (Some (record { count = 1; kind = Directory (replicate slot_limit (Some (record { name = codes "x"; number = 2 }))) })))
 
 abbrev pub FindsNoSlot : Tree → Call → List (Event Call Outside) → Type 0
-FindsNoSlot t c events = replies (run covered_calls events (fresh covered_calls (at_rest t))).finished ≡ record { answer = answers.Full DirectorySlots; call = c } ∷ []
+FindsNoSlot t c events = replies (run covered_calls events (fresh covered_calls (at_rest t))).finished
+    ≡ record { answer = answers.Full DirectorySlots; call = c } ∷ []
 
 abbrev pub NoSlotForDirectory : Type 0
 NoSlotForDirectory = FindsNoSlot full_root make_d (makes 0 make_d 5 ++ Step 0 (Picks 2) ∷ steps 0 14)
@@ -285,4 +319,6 @@ link_xb = calls.Link (codes "/x") (codes "/b")
 
 -- and the file keeps its one link
 abbrev pub NoSlotForName : Type 0
-NoSlotForName = FindsNoSlot full_of_links link_xb (makes 0 link_xb 22) × ((run covered_calls (makes 0 link_xb 22) (fresh covered_calls (at_rest full_of_links))).world.disk 2 ≡ Some (record { count = 1; kind = File [] }))
+NoSlotForName = FindsNoSlot full_of_links link_xb (makes 0 link_xb 22)
+    × ((run covered_calls (makes 0 link_xb 22) (fresh covered_calls (at_rest full_of_links))).world.disk 2
+    ≡ Some (record { count = 1; kind = File [] }))

@@ -267,7 +267,8 @@ install_if h w f sort (Some s) true = Ran (Some (lowest (w.desks h).fds)) (insta
 
 abbrev pub stat_at : ℕ → World → Option Entry → Did (Option (ℕ × Face)) World
 stat_at h w None = Ran None w
-stat_at h w (Some e) = lock_if h e.file.number (Some (e.file.number, face_or (face_of (w.disk e.file.number)))) w (locked h e.file.number w) (w.lock e.file.number)
+stat_at h w (Some e) = lock_if h e.file.number (Some (e.file.number, face_or (face_of (w.disk e.file.number)))) w (locked h e.file.number w)
+    (w.lock e.file.number)
 
 -- why a descriptor is neither read nor written: it isn't open, it isn't open for that, it is a device
 abbrev pub mode_refusal : Bool → Sort → Option Cause
@@ -299,12 +300,14 @@ offset_of (Some e) = e.file.offset
 abbrev pub lock_at : ℕ → World → Option Entry → Option Cause → Did LockResult World
 lock_at h w e (Some c) = Ran (NotLocked c) w
 lock_at h w None None = Ran (NotLocked BadDescriptor) w
-lock_at h w (Some e) None = lock_if h e.file.number (LocksIt e.file.number e.file.offset) w (locked h e.file.number w) (w.lock e.file.number)
+lock_at h w (Some e) None =
+    lock_if h e.file.number (LocksIt e.file.number e.file.offset) w (locked h e.file.number w) (w.lock e.file.number)
 
 abbrev pub read_at : World → ℕ → ℕ → Option ℕ → Option Entry → Did (List ℕ) World
 read_at w n count s None = Ran [] (unlocked n w (w.alone n))
 read_at w n count s (Some e) =
-    Ran (part_of (w.disk n) e.file.offset count) (with_offset (unlocked n w (w.alone n)) s e (length (part_of (w.disk n) e.file.offset count)))
+    Ran (part_of (w.disk n) e.file.offset count)
+    (with_offset (unlocked n w (w.alone n)) s e (length (part_of (w.disk n) e.file.offset count)))
 
 abbrev pub with_joined : World → ℕ → Bool → World
 with_joined w h b = record w { desks = put w.desks h (record (w.desks h) { joined = b }) }
@@ -372,17 +375,25 @@ with_lent w h i = record w {
 -- the child has all the descriptors that were handed on
 abbrev pub handed : World → ℕ → ℕ → World
 handed w h child = record w {
-  desks = put (put w.desks h (record (w.desks h) { lent = serving child (Some 0) })) child (record (w.desks child) { fds = put (w.desks h).lent descriptor_count None });
+  desks = put (put w.desks h (record (w.desks h) { lent = serving child (Some 0) })) child
+      (record (w.desks child) { fds = put (w.desks h).lent descriptor_count None });
 }
 
 -- a reference is counted to the caller's directory, which is the child's now; the child's old one is the caller's to drop
 abbrev pub moved_in : World → ℕ → ℕ → World
 moved_in w h child =
-    let raised : World = record w { refs = put w.refs (w.desks h).directory (w.refs (w.desks h).directory + 1); harts = with_refs w.harts child (w.desks h).directory ((w.harts child).refs (w.desks h).directory + 1) } in
-    let dropped : World = record raised { harts = with_refs raised.harts child (w.desks child).directory ((raised.harts child).refs (w.desks child).directory - 1) } in
+    let raised : World = record w {
+      refs = put w.refs (w.desks h).directory (w.refs (w.desks h).directory + 1);
+      harts = with_refs w.harts child (w.desks h).directory ((w.harts child).refs (w.desks h).directory + 1);
+    } in
+    let dropped : World = record raised {
+      harts = with_refs raised.harts child (w.desks child).directory
+          ((raised.harts child).refs (w.desks child).directory - 1);
+    } in
     record dropped {
       harts = with_refs dropped.harts h (w.desks child).directory ((w.harts h).refs (w.desks child).directory + 1);
-      desks = put (put w.desks h (record (w.desks h) { lent = serving child (Some 1) })) child (record (w.desks child) { directory = (w.desks h).directory; left = None });
+      desks = put (put w.desks h (record (w.desks h) { lent = serving child (Some 1) })) child
+          (record (w.desks child) { directory = (w.desks h).directory; left = None });
     }
 
 abbrev pub lend_last : World → ℕ → ℕ → Option ℕ → World
@@ -392,10 +403,12 @@ lend_last w h child (Some j) = w
 abbrev pub lend_if : ℕ → World → ℕ → Option ℕ → Did LoanResult World
 lend_if h w child None = Ran (Moved (w.desks child).directory) (moved_in w h child)
 lend_if h w child (Some i) =
-    Ran (Lent i (not (is_nothing (next_used (i + 1) (w.desks h).fds)))) (lend_last (with_lent w h i) h child (next_used (i + 1) (w.desks h).fds))
+    Ran (Lent i (not (is_nothing (next_used (i + 1) (w.desks h).fds))))
+    (lend_last (with_lent w h i) h child (next_used (i + 1) (w.desks h).fds))
 
 abbrev pub released : World → ℕ → ℕ → World
-released w h child = record w { desks = put (put w.desks h (record (w.desks h) { lent = λ i. None })) child (record (w.desks child) { lender = None }) }
+released w h child =
+    record w { desks = put (put w.desks h (record (w.desks h) { lent = λ i. None })) child (record (w.desks child) { lender = None }) }
 
 abbrev pub exec : ℕ → Outside → (op : Op) → World → Did (Answer op) World
 exec h x (Take n looking) w = lock_if h n (seen_in n looking (w.disk n)) w (locked h n w) (w.lock n)

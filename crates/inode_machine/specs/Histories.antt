@@ -57,8 +57,10 @@ pub record Runs (base : TreeData) (w : World) (events : List (Event Call Outside
   pub clean : (run covered_calls events (fresh covered_calls w)).world.clean ≡ true
 
 abbrev pub CallsHaveOneHistory : Type 0
-CallsHaveOneHistory = (base : TreeData) (w : World) (events : List (Event Call Outside)) → Runs base w events → NoneClimbs events → OneHistory base w events
+CallsHaveOneHistory =
+    (base : TreeData) (w : World) (events : List (Event Call Outside)) → Runs base w events → NoneClimbs events → OneHistory base w events
 
 -- The calls of one hart alone have, whether their paths climb or not.
 abbrev pub OneHartHasOneHistory : Type 0
-OneHartHasOneHistory = (base : TreeData) (w : World) (h : ℕ) (events : List (Event Call Outside)) → Runs base w events → Alone h events → OneHistory base w events
+OneHartHasOneHistory = (base : TreeData) (w : World) (h : ℕ) (events : List (Event Call Outside)) → Runs base w events → Alone h events
+    → OneHistory base w events

@@ -94,12 +94,28 @@ acts b h s res par new id = record {
 -- what a path's start is, is counted already, so nothing is left to be
 abbrev pub begun : Tree → ℕ → Action → List Name → ℕ → ℕ → Made
 begun b h s [] new id = record (acts b h s (Some (start_of b h (path_of s))) None new id) { found = None }
-begun b h s (e ∷ es) new id = record { all = b; walk = Some (record { step = s; at = start_of b h (path_of s); next = e; rest = es }); found = None; opened = None; entered = None; left = None; told = None }
+begun b h s (e ∷ es) new id = record {
+  all = b;
+  walk = Some (record { step = s; at = start_of b h (path_of s); next = e; rest = es });
+  found = None;
+  opened = None;
+  entered = None;
+  left = None;
+  told = None;
+}
 
 abbrev pub looked : Tree → ℕ → Walk → List Name → Option ℕ → ℕ → ℕ → Made
 looked b h w [] r new id = acts b h w.step r (Some (w.at, w.next)) new id
 looked b h w (e ∷ es) None new id = acts b h w.step None None new id
-looked b h w (e ∷ es) (Some n) new id = record { all = b; walk = Some (record { step = w.step; at = n; next = e; rest = es }); found = Some n; opened = None; entered = None; left = None; told = None }
+looked b h w (e ∷ es) (Some n) new id = record {
+  all = b;
+  walk = Some (record { step = w.step; at = n; next = e; rest = es });
+  found = Some n;
+  opened = None;
+  entered = None;
+  left = None;
+  told = None;
+}
 
 abbrev pub look_made : Tree → ℕ → Option Walk → ℕ → ℕ → Made
 look_made b h None new id = record { all = b; walk = None; found = None; opened = None; entered = None; left = None; told = None }

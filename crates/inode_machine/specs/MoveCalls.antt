@@ -1,4 +1,5 @@
--- Calls whose steps are moves on the tree, over any machine: what their events show of calls, and that one list of tree steps explains them.
+-- Calls whose steps are moves on the tree, over any machine: what their events show of calls, and that one list of tree steps explains
+-- them.
 use Rattle.std.specs.Prelude.{◌≡◌, ◌⊎◌, ℕ, ◌<◌, Bool, false, List, [], ◌∷◌, Option, None}
 use Rattle.plain_tree.specs.declared.answer.Reply.{Reply}
 use Rattle.plain_tree.specs.declared.call.Call.{Call}
@@ -129,12 +130,15 @@ module _ (m : MoveMachine) where
   shows [] s = []
   shows (e ∷ es) s = shown_by e (makes (theory_of m) e s).came ∷ shows es (next (theory_of m) e s)
 
-  -- what is shown of the machine and its calls: an operation places no move, or one of its own hart; a start is of one of eight harts and leaves the tree; and
+  -- what is shown of the machine and its calls: an operation places no move, or one of its own hart; a start is of one of eight harts and
+  -- leaves the tree; and
   -- a hart that is idle walks nowhere
   pub record IsMoving : Type 0 where
     pub lawful : Lawful (theory_of m)
-    pub one : (h : ℕ) (op : m.Op) (a : m.Answer op) (mark : Option m.Mark) (w : m.World) → (m.places h op a mark w ≡ []) ⊎ ((e : MoveStep) × (m.places h op a mark w ≡ (h, e) ∷ []))
-    pub begins : (h : ℕ) (call : Call) (busy : ℕ → Bool) (w u : m.World) → m.start h call busy w ≡ Begins u → (h < hart_count) × (m.tree u ≡ m.tree w)
+    pub one : (h : ℕ) (op : m.Op) (a : m.Answer op) (mark : Option m.Mark) (w : m.World)
+        → (m.places h op a mark w ≡ []) ⊎ ((e : MoveStep) × (m.places h op a mark w ≡ (h, e) ∷ []))
+    pub begins : (h : ℕ) (call : Call) (busy : ℕ → Bool) (w u : m.World) → m.start h call busy w ≡ Begins u
+        → (h < hart_count) × (m.tree u ≡ m.tree w)
     pub rests : (h : ℕ) (w : m.World) → m.Idle h w → (m.tree w).walk h ≡ None
 
   -- One list of tree steps explains the run's trace, and leads from its first tree to the tree that its world has.

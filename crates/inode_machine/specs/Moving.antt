@@ -37,7 +37,8 @@ lends child (Lent i false) = own_step (steps.Inherit child)
 lends child (Moved old) = own_step (steps.Inherit child)
 
 abbrev pub inherit_end : ℕ → ℕ → P Reply
-inherit_end child old = Do Join unmarked (λ _. drop old (Do Leave unmarked (λ _. Do (Release child) unmarked (λ _. Ret (done (calls.Inherit child))))))
+inherit_end child old =
+    Do Join unmarked (λ _. drop old (Do Leave unmarked (λ _. Do (Release child) unmarked (λ _. Ret (done (calls.Inherit child))))))
 
 abbrev pub lent_directory : ℕ → P Reply
 lent_directory child = Do (LendDirectory child) unmarked (λ old. inherit_end child old)

@@ -59,7 +59,8 @@ unlink_other path d e ns f n =
 
 abbrev pub unlink_found : List ℕ → ℕ → Name → List ℕ → Face → Option ℕ → P Reply
 unlink_found path d e ns f None = give_up d (tail ns (failed (calls.Unlink path) NoEntry))
-unlink_found path d e ns f (Some n) = if n == d then give_up d (tail ns (failed (calls.Unlink path) NoEntry)) else unlink_other path d e ns f n
+unlink_found path d e ns f (Some n) =
+    if n == d then give_up d (tail ns (failed (calls.Unlink path) NoEntry)) else unlink_other path d e ns f n
 
 abbrev pub is_missing : Sight → Bool
 is_missing a = not (is_there a)
@@ -77,7 +78,8 @@ always a = true
 
 abbrev pub unlink_dots : List ℕ → ℕ → List ℕ → P Reply
 unlink_dots path d ns =
-    Do (Take d AtNothing) (looks_where (steps.Unlink path) always) (λ a. give_up d (tail ns (failed (calls.Unlink path) (or_missing DotName (is_live_face a.face)))))
+    Do (Take d AtNothing) (looks_where (steps.Unlink path) always)
+    (λ a. give_up d (tail ns (failed (calls.Unlink path) (or_missing DotName (is_live_face a.face)))))
 
 abbrev pub unlink_in : List ℕ → ℕ → Name → List ℕ → P Reply
 unlink_in path d e ns = if same_name e dot || same_name e dotdot then unlink_dots path d ns else unlink_named path d e ns
@@ -109,7 +111,8 @@ mkdir_other path d e ns f n =
 abbrev pub mkdir_with : List ℕ → ℕ → Name → List ℕ → Face → ClaimResult → P Reply
 mkdir_with path d e ns f NoInode = give_up d (tail ns (full (calls.Mkdir path) DiskInodes))
 mkdir_with path d e ns f NoPlace = give_up d (tail ns (full (calls.Mkdir path) MemInodes))
-mkdir_with path d e ns f (New n) = if n == d then Do (Forget n) unmarked (λ _. give_up d (tail ns (full (calls.Mkdir path) MemInodes))) else mkdir_other path d e ns f n
+mkdir_with path d e ns f (New n) =
+    if n == d then Do (Forget n) unmarked (λ _. give_up d (tail ns (full (calls.Mkdir path) MemInodes))) else mkdir_other path d e ns f n
 
 -- why a directory isn't made: its name is there, or its parent has all its links
 abbrev pub mkdir_refused : Option ℕ → Face → Option Cause
@@ -161,10 +164,12 @@ link_found old new n d e ns None = Do (Enter d e n) enters (named_on old new n d
 abbrev pub link_in : List ℕ → List ℕ → ℕ → ℕ → Name → List ℕ → P Reply
 link_in old new n d e ns =
     Do (Take d (AtName e)) (looks_where (steps.Enter new) is_there) (λ a.
-    if is_live_face a.face then link_found old new n d e ns a.found else give_up d (lower old new n (failed (calls.Link old new) NoEntry) ns))
+    if is_live_face a.face then link_found old new n d e ns a.found
+    else give_up d (lower old new n (failed (calls.Link old new) NoEntry) ns))
 
 abbrev pub link_name : List ℕ → List ℕ → ℕ → List ℕ → List Name → P Reply
-link_name old new n ns [] = Do (Give n) (λ _. makes (Begin (steps.Enter new) 0)) (λ _. lower old new n (failed (calls.Link old new) NoEntry) ns)
+link_name old new n ns [] =
+    Do (Give n) (λ _. makes (Begin (steps.Enter new) 0)) (λ _. lower old new n (failed (calls.Link old new) NoEntry) ns)
 link_name old new n ns (e ∷ es) =
     Do (Give n) unmarked (λ _.
     start (steps.Enter new) new ns (λ d.

@@ -20,7 +20,8 @@ use Rattle.inode_machine.specs.Parts.{P, makes, own_step, mends_if_full, failed,
 
 -- an open file at its beginning
 abbrev pub file_for : ℕ → ℕ → OpenFile
-file_for n flags = record { number = n; offset = 0; readable = not (has flags write_only); writable = has flags write_only || has flags read_write }
+file_for n flags =
+    record { number = n; offset = 0; readable = not (has flags write_only); writable = has flags write_only || has flags read_write }
 
 abbrev pub empties : ℕ → Sort → Bool
 empties flags sort = has flags empty_it && is_file_sort sort
@@ -59,7 +60,8 @@ open_face path flags n ns sort None =
     else open_end path flags n ns fd)
 
 abbrev pub open_at : List ℕ → ℕ → ℕ → List ℕ → P Reply
-open_at path flags n ns = Do (Take n AtNothing) unmarked (λ a. open_face path flags n ns (face_or a.face).sort (open_refusal (flags == 0) (face_or a.face).sort))
+open_at path flags n ns =
+    Do (Take n AtNothing) unmarked (λ a. open_face path flags n ns (face_or a.face).sort (open_refusal (flags == 0) (face_or a.face).sort))
 
 -- without CREATE
 abbrev pub open_old : List ℕ → ℕ → P Reply
@@ -107,7 +109,8 @@ make_other path flags d e ns n =
 abbrev pub make_with : List ℕ → ℕ → ℕ → Name → List ℕ → ClaimResult → P Reply
 make_with path flags d e ns NoInode = give_up d (tail ns (full (calls.Open path flags) DiskInodes))
 make_with path flags d e ns NoPlace = give_up d (tail ns (full (calls.Open path flags) MemInodes))
-make_with path flags d e ns (New n) = if n == d then Do (Forget n) unmarked (λ _. give_up d (tail ns (full (calls.Open path flags) MemInodes))) else make_other path flags d e ns n
+make_with path flags d e ns (New n) = if n == d
+    then Do (Forget n) unmarked (λ _. give_up d (tail ns (full (calls.Open path flags) MemInodes))) else make_other path flags d e ns n
 
 abbrev pub create_found : List ℕ → ℕ → ℕ → Name → List ℕ → Option ℕ → P Reply
 create_found path flags d e ns None = Do (Claim OfFile) mends_unless_new (make_with path flags d e ns)

@@ -48,7 +48,8 @@ say r = Do Say unmarked (λ _. Ret r)
 
 -- A reference is dropped. The last one to an inode without links frees it: its lock is taken in place of the count.
 abbrev pub drop : {A : Type 0} → ℕ → P A → P A
-drop n k = Do (Down n) unmarked (λ last. if last then Do (Free n) (λ _. Some (Frees n)) (λ _. Do (Give n) unmarked (λ _. Do (Forget n) unmarked (λ _. k))) else k)
+drop n k = Do (Down n) unmarked
+    (λ last. if last then Do (Free n) (λ _. Some (Frees n)) (λ _. Do (Give n) unmarked (λ _. Do (Forget n) unmarked (λ _. k))) else k)
 
 abbrev pub give_up : {A : Type 0} → ℕ → P A → P A
 give_up n k = Do (Give n) unmarked (λ _. drop n k)
@@ -56,7 +57,9 @@ give_up n k = Do (Give n) unmarked (λ _. drop n k)
 -- The call's transaction is left; then each inode of its list is freed in one of its own; then comes the reply.
 
 abbrev pub free_listed : {A : Type 0} → ℕ → P A → P A
-free_listed n k = Do Join unmarked (λ _. Do (Take n AtNothing) unmarked (λ _. Do (Free n) (λ _. Some (Frees n)) (λ _. Do (Give n) unmarked (λ _. Do (Forget n) unmarked (λ _. Do Leave unmarked (λ _. k))))))
+free_listed n k = Do Join unmarked
+    (λ _. Do (Take n AtNothing) unmarked
+    (λ _. Do (Free n) (λ _. Some (Frees n)) (λ _. Do (Give n) unmarked (λ _. Do (Forget n) unmarked (λ _. Do Leave unmarked (λ _. k))))))
 
 abbrev pub free_all : {A : Type 0} → List ℕ → P A → P A
 free_all [] k = k
@@ -94,7 +97,8 @@ walk_step d ns go lost (Some j) = Do (Up j) mends_if_full (λ there. leave_direc
 -- from directory d through all these elements
 abbrev pub walk : {A : Type 0} → Action → ℕ → List Name → List ℕ → (ℕ → List ℕ → P A) → (Stop → List ℕ → P A) → P A
 walk s d [] ns found lost = found d ns
-walk s d (e ∷ es) ns found lost = Do (Take d (AtName e)) (looks_or_quits s) (λ a. walk_step d ns (λ j ms. walk s j es ms found lost) lost a.found)
+walk s d (e ∷ es) ns found lost =
+    Do (Take d (AtName e)) (looks_or_quits s) (λ a. walk_step d ns (λ j ms. walk s j es ms found lost) lost a.found)
 
 abbrev pub quits_unless : Action → Bool → Option Mark
 quits_unless s true = None
@@ -109,7 +113,8 @@ see_parent s d ns found lost =
 -- from directory d through all elements but the last
 abbrev pub walk_parent : {A : Type 0} → Action → ℕ → Name → List Name → List ℕ → (ℕ → Name → List ℕ → P A) → (Stop → List ℕ → P A) → P A
 walk_parent s d e [] ns found lost = see_parent s d ns (found d e) lost
-walk_parent s d e (e' ∷ es) ns found lost = Do (Take d (AtName e)) (looks_or_quits s) (λ a. walk_step d ns (λ j ms. walk_parent s j e' es ms found lost) lost a.found)
+walk_parent s d e (e' ∷ es) ns found lost =
+    Do (Take d (AtName e)) (looks_or_quits s) (λ a. walk_step d ns (λ j ms. walk_parent s j e' es ms found lost) lost a.found)
 
 abbrev pub begins_unless_full : Action → Option ℕ → Option Mark
 begins_unless_full s None = Some Mends

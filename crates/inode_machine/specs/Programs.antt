@@ -24,7 +24,8 @@ program (Fstat fd) = stat_program fd
 program (Close fd) = close_program fd
 program (Inherit child) = inherit_program child
 
--- The most steps below. An element is looked up, and what its directory leaves may be freed after the call; what else a call does is a few of the longest
+-- The most steps below. An element is looked up, and what its directory leaves may be freed after the call; what else a call does is a few
+-- of the longest
 -- operations; a write's piece has its commit.
 
 abbrev pub element_cost : ℕ

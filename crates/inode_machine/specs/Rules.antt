@@ -54,7 +54,13 @@ pub record Own : Type 0 where
   pub desk : Desk
 
 abbrev pub own_of : ℕ → World → Own
-own_of h w = record { inodes = λ i. if_kept (w.keeper i) h (view w h i); mine = w.harts h; row = row_of w.all h; ninodes = w.all.ninodes; desk = w.desks h }
+own_of h w = record {
+  inodes = λ i. if_kept (w.keeper i) h (view w h i);
+  mine = w.harts h;
+  row = row_of w.all h;
+  ninodes = w.all.ninodes;
+  desk = w.desks h;
+}
 
 abbrev pub nothing : {A : Type 0} → ℕ → Option A
 nothing i = None
@@ -76,7 +82,8 @@ pub record Rests (O : Own) : Type 0 where
 abbrev pub Idle : ℕ → World → Type 0
 Idle h w = Rests (own_of h w)
 
--- what is open by a descriptor of the hart has the type that it had; and of an inode that it keeps it is the same open file, with its offset
+-- what is open by a descriptor of the hart has the type that it had; and of an inode that it keeps it is the same open file, with its
+-- offset
 abbrev pub KeepsFiles : ℕ → World → World → Type 0
 KeepsFiles h v w =
     (i k : ℕ) (e : Entry) → h < hart_count → i < descriptor_count → (v.desks h).fds i ≡ Some k → v.files k ≡ Some e
@@ -141,7 +148,15 @@ pub record Shop : Type 0 where
   pub tree_files : ℕ → Option OpenFile
 
 abbrev pub shop_of : World → Shop
-shop_of w = record { files = w.files; desks = w.desks; ids = w.ids; slots = w.slots; clean = w.clean; tree_fds = w.all.fds; tree_files = w.all.files }
+shop_of w = record {
+  files = w.files;
+  desks = w.desks;
+  ids = w.ids;
+  slots = w.slots;
+  clean = w.clean;
+  tree_fds = w.all.fds;
+  tree_files = w.all.files;
+}
 
 -- what the tree has opened and the table not yet: nobody else has it, and its offset is 0
 pub record IsOpening (s : Shop) (g i : ℕ) : Type 0 where
@@ -156,7 +171,8 @@ pub record IsOpening (s : Shop) (g i : ℕ) : Type 0 where
 
 pub record IsTied (s : Shop) : Type 0 where
   -- a hart's descriptors are the tree's, but for what it is opening
-  pub fds : (g i : ℕ) → g < hart_count → i < descriptor_count → is_at (s.desks g).opening i ≡ false → s.tree_fds g i ≡ id_at s.ids ((s.desks g).fds i)
+  pub fds : (g i : ℕ) → g < hart_count → i < descriptor_count → is_at (s.desks g).opening i ≡ false
+      → s.tree_fds g i ≡ id_at s.ids ((s.desks g).fds i)
   pub fresh : (g i : ℕ) → g < hart_count → (s.desks g).opening ≡ Some i → IsOpening s g i
   pub used : (g i k : ℕ) → g < hart_count → i < descriptor_count → (s.desks g).fds i ≡ Some k → (e : Entry) × (s.files k ≡ Some e)
   -- what is handed on the hart has still
@@ -197,7 +213,8 @@ pub record References (m : Mine) (d : Desk) : Type 0 where
   pub few : (i : ℕ) → m.refs i ≤ reference_limit
   pub home : 0 < m.refs d.directory
 
--- What a hart has of its lender's by now: no descriptor yet, and its own directory; or the descriptors, and in the tree the lender's directory, to which only
+-- What a hart has of its lender's by now: no descriptor yet, and its own directory; or the descriptors, and in the tree the lender's
+-- directory, to which only
 -- that refers; or its directory too.
 abbrev pub Has : (given : Option ℕ) (fds : ℕ → Option ℕ) (cwd mine lenders : ℕ) → Type 0
 Has None fds cwd mine lenders = ((i : ℕ) → i < descriptor_count → fds i ≡ None) × (cwd ≡ mine)
@@ -242,7 +259,8 @@ pub record Inv (w : World) : Type 0 where
   pub pending : (g i : ℕ) → g < hart_count → (w.harts g).pending ≡ Some i → Found w.keeper w.all.nodes g i
   pub walks : (g : ℕ) (k : Walk) → g < hart_count → (w.harts g).walk ≡ Some k → IsReached w g k.at
   -- while it refers to what it found, and doesn't free it, that has the type that it had
-  pub noted : (g : ℕ) (n : Note) → g < hart_count → (w.desks g).noted ≡ Some n → IsReached w g n.number → w.alone n.number ≡ false → sort_of (w.all.nodes n.number) ≡ n.sort
+  pub noted : (g : ℕ) (n : Note) → g < hart_count → (w.desks g).noted ≡ Some n → IsReached w g n.number → w.alone n.number ≡ false
+      → sort_of (w.all.nodes n.number) ≡ n.sort
   pub directory : (g : ℕ) → g < hart_count → Stands (w.desks g) (w.all.cwd g) w.all.nodes
   -- who has raised a count for a link that is under way is in a transaction
   pub raised : (g : ℕ) → g < hart_count → holds_raised true (w.all.holds g) ≡ true → (w.desks g).joined ≡ true
@@ -287,14 +305,18 @@ Sought AtNothing = Unit {0}
 Sought (AtName e) = IsName e
 Sought AtEntries = Unit {0}
 
--- What an operation asks. Who locks an inode refers to it, and hasn't locked it, and where its lock is free it has a record, and what is looked for in it is a
--- name; who refers to one more has found it in a directory that it keeps; who gives a reference up, to none or to a table, has one besides its current directory's,
+-- What an operation asks. Who locks an inode refers to it, and hasn't locked it, and where its lock is free it has a record, and what is
+-- looked for in it is a
+-- name; who refers to one more has found it in a directory that it keeps; who gives a reference up, to none or to a table, has one besides
+-- its current directory's,
 -- and keeps none that it drops;
 -- who forgets an inode has freed it, and keeps it;
--- who changes an inode has its lock and has joined; who joins, leaves, opens by a descriptor or replies has no lock, and who leaves has raised no count that no
+-- who changes an inode has its lock and has joined; who joins, leaves, opens by a descriptor or replies has no lock, and who leaves has
+-- raised no count that no
 -- name stands for yet; who hands a descriptor on has handed on none
 -- from there, and where it has none hands the directory on at once; who hands that on, or lets a child go, has no descriptor on its way.
--- A record is changed that is there, and of the operation's kind; as much is read as a call may ask for, of the inode that its descriptor has, from where
+-- A record is changed that is there, and of the operation's kind; as much is read as a call may ask for, of the inode that its descriptor
+-- has, from where
 -- its file stands, and a piece is written there to a file; who shuts a descriptor hands none on.
 
 abbrev pub Locks : ℕ → ℕ → World → Type 0
@@ -372,15 +394,18 @@ Asks h Slot w = (w.desks h).hand ≡ None
 Asks h (Install f sort) w = ((w.desks h).hand ≢ None) × (f.offset ≡ 0) × Spares h f.number w
 Asks h (StatFile fd) w = LocksNone h w
 Asks h (LockFile fd) w = LocksNone h w
-Asks h (ReadFile fd n offset count) w = Locks h n w × Reads h fd n w × StandsAt h fd offset w × HasRecord n w (λ v. no_driver v.kind ≡ None) × (count ≤ asked_limit)
+Asks h (ReadFile fd n offset count) w =
+    Locks h n w × Reads h fd n w × StandsAt h fd offset w × HasRecord n w (λ v. no_driver v.kind ≡ None) × (count ≤ asked_limit)
 Asks h (CheckFile fd) w = Unit {0}
 Asks h (JoinFile fd) w = LocksNone h w × ((w.desks h).joined ≡ false)
 Asks h (LockOpen fd n) w = LocksNone h w × Writes h fd n w
-Asks h (WriteFile fd n offset bytes) w = Changes h n w × Writes h fd n w × StandsAt h fd offset w × HasRecord n w (λ v. is_file v.kind ≡ true) × (length bytes ≤ piece_len)
+Asks h (WriteFile fd n offset bytes) w =
+    Changes h n w × Writes h fd n w × StandsAt h fd offset w × HasRecord n w (λ v. is_file v.kind ≡ true) × (length bytes ≤ piece_len)
 Asks h (Double fd) w = Unit {0}
 Asks h (Shut fd) w = LocksNone h w × ((w.desks h).lent ≡ nothing)
 Asks h (Settle n) w = Locks h n w × Spares h n w
-Asks h (Lend child from) w = Serves h child w × (given_of (w.desks h) ≡ None) × ((i : ℕ) → from ≤ i → i < descriptor_count → (w.desks h).lent i ≡ None) × (next_used from (w.desks h).fds ≡ None → from ≡ 0)
+Asks h (Lend child from) w = Serves h child w × (given_of (w.desks h) ≡ None)
+    × ((i : ℕ) → from ≤ i → i < descriptor_count → (w.desks h).lent i ≡ None) × (next_used from (w.desks h).fds ≡ None → from ≡ 0)
 Asks h (LendDirectory child) w = Serves h child w × LendsNone h w
 Asks h (Release child) w = Serves h child w × LendsNone h w
 Asks h Join w = LocksNone h w × ((w.desks h).joined ≡ false)
@@ -391,7 +416,8 @@ Asks h Say w = LocksNone h w × ((w.desks h).joined ≡ false)
 abbrev pub May : ℕ → Op → World → Type 0
 May h op w = ((w.desks h).lender ≡ None) × Asks h op w
 
--- What may lie outside: an inode that is found is free, and one has no place only where all are taken; of a piece a part is left over; all else may be short of
+-- What may lie outside: an inode that is found is free, and one has no place only where all are taken; of a piece a part is left over; all
+-- else may be short of
 -- room at any time.
 
 abbrev pub HonestClaim : World → Outside → Type 0
@@ -409,7 +435,8 @@ Honest h (Claim sort) w x = HonestClaim w x
 Honest h (WriteFile fd n offset bytes) w x = HonestPiece bytes x
 Honest h op w x = Unit {0}
 
--- The most steps below that an operation takes beyond one, with 3 to a touch: get, read, put. A content has 268 blocks, each behind its table.
+-- The most steps below that an operation takes beyond one, with 3 to a touch: get, read, put. A content has 268 blocks, each behind its
+-- table.
 
 abbrev pub load_cost : ℕ
 load_cost = 3

@@ -42,7 +42,8 @@ unfoldable pub opened_for : (ℕ → ℕ → Call) → ℕ → List Reply → Li
 opened_for call zero rs = rs
 opened_for call (suc h) rs = opened_by call h descriptor_count (opened_for call h rs)
 
--- What stands, told in numbers: of each inode its record, the tree's node, its lock, and its references, of all and of each hart; each open file, of the table
+-- What stands, told in numbers: of each inode its record, the tree's node, its lock, and its references, of all and of each hart; each
+-- open file, of the table
 -- and of the tree; and each hart's descriptors, slot in hand and current directory.
 
 abbrev pub number_of : Option ℕ → ℕ
@@ -72,27 +73,34 @@ each zero f = []
 each (suc n) f = f n ++ each n f
 
 abbrev pub told_inode : World → ℕ → List ℕ
-told_inode w i = told_node (w.disk i) ++ told_node (w.all.nodes i) ++ number_of (w.lock i) ∷ w.refs i ∷ each hart_count (λ h. (w.harts h).refs i ∷ [])
+told_inode w i =
+    told_node (w.disk i) ++ told_node (w.all.nodes i) ++ number_of (w.lock i) ∷ w.refs i ∷ each hart_count (λ h. (w.harts h).refs i ∷ [])
 
 abbrev pub told_hart : World → ℕ → List ℕ
-told_hart w h = each descriptor_count (λ i. number_of ((w.desks h).fds i) ∷ number_of (w.all.fds h i) ∷ []) ++ number_of (w.desks h).hand ∷ (w.desks h).directory ∷ w.all.cwd h ∷ []
+told_hart w h = each descriptor_count (λ i. number_of ((w.desks h).fds i) ∷ number_of (w.all.fds h i) ∷ []) ++ number_of (w.desks h).hand
+    ∷ (w.desks h).directory ∷ w.all.cwd h ∷ []
 
 abbrev pub overview : World → List ℕ
-overview w = each w.all.ninodes (told_inode w) ++ each file_count (λ k. told_entry (w.files k)) ++ each (file_count + hart_count) (λ id. told_file (w.all.files id)) ++ each hart_count (told_hart w)
+overview w = each w.all.ninodes (told_inode w) ++ each file_count (λ k. told_entry (w.files k))
+    ++ each (file_count + hart_count) (λ id. told_file (w.all.files id)) ++ each hart_count (told_hart w)
 
--- from a state where each step found room these events give these replies, the newest first, of which some found none; and what stands is as it was
+-- from a state where each step found room these events give these replies, the newest first, of which some found none; and what stands is
+-- as it was
 abbrev pub ChangesNothing : State covered_calls → List (Event Call Outside) → List Reply → Type 0
 ChangesNothing s events rs =
     (s.world.clean ≡ true) × (replies (run covered_calls events s).finished ≡ rs) × ((run covered_calls events s).world.clean ≡ false)
     × (overview (run covered_calls events s).world ≡ overview s.world)
 
--- A file has one byte. Then seven harts open the root a hundred times, and the eighth finds no place for an open file: the file isn't emptied.
+-- A file has one byte. Then seven harts open the root a hundred times, and the eighth finds no place for an open file: the file isn't
+-- emptied.
 
 abbrev pub write_a : Call
 write_a = calls.Write 0 (codes "A")
 
 abbrev pub all_open : State covered_calls
-all_open = run covered_calls (creates_as 7 make_a 5 2 10 ++ makes 7 write_a 5 ++ makes 7 (calls.Close 0) 5 ++ opens_for (λ h i. makes h open_root 8) 6 ++ opens_by (λ h i. makes h open_root 8) 6 4) first
+all_open = run covered_calls
+    (creates_as 7 make_a 5 2 10 ++ makes 7 write_a 5 ++ makes 7 (calls.Close 0) 5 ++ opens_for (λ h i. makes h open_root 8) 6
+    ++ opens_by (λ h i. makes h open_root 8) 6 4) first
 
 abbrev pub all_opened : List Reply
 all_opened = opened_by (λ h i. open_root) 6 4 (opened_for (λ h i. open_root) 6 (done (calls.Close 0) ∷ counted 1 write_a ∷ made_a ∷ []))
@@ -119,7 +127,8 @@ open_b = calls.Open (codes "/b") 0
 
 abbrev pub NoOpenFileForNew : Type 0
 NoOpenFileForNew =
-    replies (run covered_calls (creates_as 7 make_b 5 3 10 ++ makes 0 (calls.Close 0) 5 ++ makes 7 open_b 12 ++ makes 7 stat 3) all_open).finished
+    replies (run covered_calls
+    (creates_as 7 make_b 5 3 10 ++ makes 0 (calls.Close 0) 5 ++ makes 7 open_b 12 ++ makes 7 stat 3) all_open).finished
     ≡ stat_is types.File 3 1 0 ∷ opened open_b 0 ∷ done (calls.Close 0) ∷ full make_b OpenFiles ∷ all_opened
 
 -- A directory is made. Then four harts make 49 files, as inodes 3 to 51, and keep them open: with the root they have all fifty places.
@@ -131,7 +140,8 @@ abbrev pub makes_file : ℕ → ℕ → List (Event Call Outside)
 makes_file h i = creates_as h (make_file h i) 5 (3 + (h * descriptor_count + i)) 10
 
 abbrev pub all_placed : State covered_calls
-all_placed = run covered_calls (creates_as 0 (mkdir (codes "/D")) 5 2 11 ++ opens_for makes_file 3 ++ opens_by makes_file 3 1) (fresh covered_calls (at_rest (tree_of (fresh_tree 60))))
+all_placed = run covered_calls (creates_as 0 (mkdir (codes "/D")) 5 2 11 ++ opens_for makes_file 3 ++ opens_by makes_file 3 1)
+    (fresh covered_calls (at_rest (tree_of (fresh_tree 60))))
 
 -- None is left for the directory, for a new file or for a new directory; and a link's raise is taken back.
 
@@ -146,13 +156,16 @@ link_below = calls.Link (codes "/a") (codes "/D/b")
 
 abbrev pub places_more : List (Event Call Outside)
 places_more =
-    makes 7 open_directory 8 ++ creates_as 7 make_new 5 52 4 ++ creates_as 7 (mkdir (codes "/N")) 5 52 4 ++ makes 7 (calls.Chdir (codes "/D")) 8
+    makes 7 open_directory 8 ++ creates_as 7 make_new 5 52 4 ++ creates_as 7 (mkdir (codes "/N")) 5 52 4
+    ++ makes 7 (calls.Chdir (codes "/D")) 8
     ++ makes 7 (calls.Unlink (codes "/D")) 10 ++ makes 7 link_below 20
 
 abbrev pub places_no_more : List Reply
 places_no_more =
-    full link_below MemInodes ∷ full (calls.Unlink (codes "/D")) MemInodes ∷ full (calls.Chdir (codes "/D")) MemInodes ∷ full (mkdir (codes "/N")) MemInodes
-    ∷ full make_new MemInodes ∷ full open_directory MemInodes ∷ opened_by make_file 3 1 (opened_for make_file 3 (done (mkdir (codes "/D")) ∷ []))
+    full link_below MemInodes ∷ full (calls.Unlink (codes "/D")) MemInodes ∷ full (calls.Chdir (codes "/D")) MemInodes
+    ∷ full (mkdir (codes "/N")) MemInodes
+    ∷ full make_new MemInodes ∷ full open_directory MemInodes
+    ∷ opened_by make_file 3 1 (opened_for make_file 3 (done (mkdir (codes "/D")) ∷ []))
 
 abbrev pub NoPlaceLeft : Type 0
 NoPlaceLeft = ChangesNothing all_placed places_more places_no_more

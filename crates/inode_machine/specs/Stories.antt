@@ -23,7 +23,8 @@ counted n c = record { answer = answers.Count n; call = c }
 
 -- an fstat by descriptor 0, of inode 2 or 1
 abbrev pub stat_is : NodeType → ℕ → ℕ → ℕ → Reply
-stat_is kind n links size = record { answer = answers.Stat (record { device = 1; inode = n; kind = kind; nlink = links; size = size }); call = calls.Fstat 0 }
+stat_is kind n links size =
+    record { answer = answers.Stat (record { device = 1; inode = n; kind = kind; nlink = links; size = size }); call = calls.Fstat 0 }
 
 abbrev pub stat : Call
 stat = calls.Fstat 0
@@ -49,7 +50,8 @@ removed_on_the_way =
     ++ makes 1 (calls.Unlink (codes "/d/f")) 22 ++ makes 1 (calls.Unlink (codes "/d")) 16
 
 abbrev pub removed_replies : List Reply
-removed_replies = done (calls.Unlink (codes "/d")) ∷ done (calls.Unlink (codes "/d/f")) ∷ done (calls.Close 0) ∷ opened make_f 0 ∷ done (mkdir (codes "/d")) ∷ []
+removed_replies = done (calls.Unlink (codes "/d")) ∷ done (calls.Unlink (codes "/d/f")) ∷ done (calls.Close 0) ∷ opened make_f 0
+    ∷ done (mkdir (codes "/d")) ∷ []
 
 abbrev pub WalkFails : Type 0
 WalkFails = Finishes (removed_on_the_way ++ steps 0 12) (failed open_f NoEntry ∷ removed_replies)
@@ -62,14 +64,17 @@ WalkFailsStill =
 
 -- A hart stays in its directory when that is removed: it finds nothing there, not even itself by name, and reads its entries.
 abbrev pub entries_left : List ℕ
-entries_left = 2 ∷ 0 ∷ 46 ∷ 0 ∷ 0 ∷ 0 ∷ 0 ∷ 0 ∷ 0 ∷ 0 ∷ 0 ∷ 0 ∷ 0 ∷ 0 ∷ 0 ∷ 0 ∷ 1 ∷ 0 ∷ 46 ∷ 46 ∷ 0 ∷ 0 ∷ 0 ∷ 0 ∷ 0 ∷ 0 ∷ 0 ∷ 0 ∷ 0 ∷ 0 ∷ 0 ∷ 0 ∷ []
+entries_left =
+    2 ∷ 0 ∷ 46 ∷ 0 ∷ 0 ∷ 0 ∷ 0 ∷ 0 ∷ 0 ∷ 0 ∷ 0 ∷ 0 ∷ 0 ∷ 0 ∷ 0 ∷ 0 ∷ 1 ∷ 0 ∷ 46 ∷ 46 ∷ 0 ∷ 0 ∷ 0 ∷ 0 ∷ 0 ∷ 0 ∷ 0 ∷ 0 ∷ 0 ∷ 0 ∷ 0 ∷ 0 ∷ []
 
 abbrev pub StaysInTheRemoved : Type 0
 StaysInTheRemoved =
     Finishes
     (creates_as 0 (mkdir (codes "/d")) 5 2 11 ++ makes 0 (calls.Chdir (codes "/d")) 11 ++ makes 1 (calls.Unlink (codes "/d")) 16
-    ++ makes 0 (calls.Open (codes "x") 512) 12 ++ makes 0 (calls.Open (codes ".") 0) 8 ++ makes 0 (calls.Open [] 0) 8 ++ makes 0 (calls.Read 0 (entries_left ++ 7 ∷ [])) 3)
-    (counted 32 (calls.Read 0 (entries_left ++ 7 ∷ [])) ∷ opened (calls.Open [] 0) 0 ∷ failed (calls.Open (codes ".") 0) NoEntry ∷ failed (calls.Open (codes "x") 512) NoEntry
+    ++ makes 0 (calls.Open (codes "x") 512) 12 ++ makes 0 (calls.Open (codes ".") 0) 8 ++ makes 0 (calls.Open [] 0) 8
+    ++ makes 0 (calls.Read 0 (entries_left ++ 7 ∷ [])) 3)
+    (counted 32 (calls.Read 0 (entries_left ++ 7 ∷ [])) ∷ opened (calls.Open [] 0) 0 ∷ failed (calls.Open (codes ".") 0) NoEntry
+    ∷ failed (calls.Open (codes "x") 512) NoEntry
     ∷ done (calls.Unlink (codes "/d")) ∷ done (calls.Chdir (codes "/d")) ∷ done (mkdir (codes "/d")) ∷ [])
 
 -- A link has raised the count when hart 1 unlinks the old name: the file stays, with the new one.
@@ -82,9 +87,11 @@ link_fg = calls.Link (codes "/f") (codes "/g")
 abbrev pub LinksWhileUnlinked : Type 0
 LinksWhileUnlinked =
     Finishes
-    (creates_as 1 make_old 5 2 10 ++ makes 1 (calls.Write 0 (codes "A")) 5 ++ makes 0 link_fg 9 ++ makes 1 (calls.Unlink (codes "/f")) 15 ++ steps 0 10
+    (creates_as 1 make_old 5 2 10 ++ makes 1 (calls.Write 0 (codes "A")) 5 ++ makes 0 link_fg 9 ++ makes 1 (calls.Unlink (codes "/f")) 15
+    ++ steps 0 10
     ++ makes 0 (calls.Open (codes "/g") 0) 12 ++ makes 0 stat 3 ++ makes 0 (calls.Read 0 (7 ∷ 7 ∷ [])) 3)
-    (counted 1 (calls.Read 0 (65 ∷ 7 ∷ [])) ∷ stat_is types.File 2 1 1 ∷ opened (calls.Open (codes "/g") 0) 0 ∷ done link_fg ∷ done (calls.Unlink (codes "/f")) ∷ counted 1 (calls.Write 0 (codes "A")) ∷ opened make_old 0 ∷ [])
+    (counted 1 (calls.Read 0 (65 ∷ 7 ∷ [])) ∷ stat_is types.File 2 1 1 ∷ opened (calls.Open (codes "/g") 0) 0 ∷ done link_fg
+    ∷ done (calls.Unlink (codes "/f")) ∷ counted 1 (calls.Write 0 (codes "A")) ∷ opened make_old 0 ∷ [])
 
 -- While a link is under way its raise is seen; refused, it takes it back.
 abbrev pub make_f0 : Call
@@ -95,7 +102,8 @@ make_g0 = calls.Open (codes "/g") 512
 
 abbrev pub RaiseIsSeen : Type 0
 RaiseIsSeen =
-    Finishes (creates_as 1 make_f0 5 2 10 ++ creates_as 1 make_g0 5 3 10 ++ makes 0 link_fg 9 ++ makes 1 stat 3 ++ steps 0 12 ++ makes 1 stat 3)
+    Finishes (creates_as 1 make_f0 5 2 10 ++ creates_as 1 make_g0 5 3 10 ++ makes 0 link_fg 9 ++ makes 1 stat 3 ++ steps 0 12
+    ++ makes 1 stat 3)
     (stat_is types.File 2 1 0 ∷ failed link_fg Exists ∷ stat_is types.File 2 2 0 ∷ opened make_g0 1 ∷ opened make_f0 0 ∷ [])
 
 -- After an inherit both harts read on from one offset: hart 1's part is the second one though it answers first.
@@ -108,13 +116,17 @@ second_entry = 1 ∷ 0 ∷ 46 ∷ 46 ∷ 0 ∷ 0 ∷ 0 ∷ 0 ∷ 0 ∷ 0 ∷ 0 �
 abbrev pub OffsetIsShared : Type 0
 OffsetIsShared =
     Finishes
-    (makes 0 (calls.Open (codes "/") 0) 8 ++ makes 0 (calls.Inherit 1) 6 ++ makes 0 (calls.Read 0 second_entry) 2 ++ makes 1 (calls.Read 0 first_entry) 3 ++ steps 0 1)
-    (counted 16 (calls.Read 0 first_entry) ∷ counted 16 (calls.Read 0 second_entry) ∷ done (calls.Inherit 1) ∷ opened (calls.Open (codes "/") 0) 0 ∷ [])
+    (makes 0 (calls.Open (codes "/") 0) 8 ++ makes 0 (calls.Inherit 1) 6 ++ makes 0 (calls.Read 0 second_entry) 2
+    ++ makes 1 (calls.Read 0 first_entry) 3 ++ steps 0 1)
+    (counted 16 (calls.Read 0 first_entry) ∷ counted 16 (calls.Read 0 second_entry) ∷ done (calls.Inherit 1)
+    ∷ opened (calls.Open (codes "/") 0) 0 ∷ [])
 
 -- A path that climbs resolves though at no moment it names that file: the directory is left before it is removed, and the file made after.
 abbrev pub ClimbsAcross : Type 0
 ClimbsAcross =
     Finishes
-    (creates_as 0 (mkdir (codes "/a")) 5 2 11 ++ creates_as 0 (mkdir (codes "/a/b")) 9 3 11 ++ makes 0 (calls.Chdir (codes "/a/b")) 15 ++ makes 0 (calls.Open (codes "../c") 0) 5
+    (creates_as 0 (mkdir (codes "/a")) 5 2 11 ++ creates_as 0 (mkdir (codes "/a/b")) 9 3 11 ++ makes 0 (calls.Chdir (codes "/a/b")) 15
+    ++ makes 0 (calls.Open (codes "../c") 0) 5
     ++ makes 1 (calls.Unlink (codes "/a/b")) 20 ++ creates_as 1 (calls.Open (codes "/a/c") 512) 9 4 10 ++ steps 0 11)
-    (opened (calls.Open (codes "../c") 0) 0 ∷ opened (calls.Open (codes "/a/c") 512) 0 ∷ done (calls.Unlink (codes "/a/b")) ∷ done (calls.Chdir (codes "/a/b")) ∷ done (mkdir (codes "/a/b")) ∷ done (mkdir (codes "/a")) ∷ [])
+    (opened (calls.Open (codes "../c") 0) 0 ∷ opened (calls.Open (codes "/a/c") 512) 0 ∷ done (calls.Unlink (codes "/a/b"))
+    ∷ done (calls.Chdir (codes "/a/b")) ∷ done (mkdir (codes "/a/b")) ∷ done (mkdir (codes "/a")) ∷ [])

@@ -17,7 +17,8 @@ use Rattle.inode_machine.specs.Exec.{is_nothing, serving}
 use Rattle.inode_machine.specs.Rules.{Inv, Idle, machine, asked_limit}
 use Rattle.inode_machine.specs.Programs.{program, limit}
 
--- why a start is refused: there is no such hart; it has a call, or takes part in another's; a path is too long, or has a zero; too much is to be read or written;
+-- why a start is refused: there is no such hart; it has a call, or takes part in another's; a path is too long, or has a zero; too much is
+-- to be read or written;
 -- a child has descriptors; or the call is none of these
 pub data Refusal : Type 0 where
   NoSuchHart : Refusal
@@ -47,7 +48,10 @@ only_if false why b = Refuses why
 
 -- from now on this hart gets the descriptors of the other, and starts nothing
 abbrev pub serving_world : World → ℕ → ℕ → World
-serving_world w h child = record w { desks = put (put w.desks h (record (w.desks h) { lent = serving child None })) child (record (w.desks child) { lender = Some h }) }
+serving_world w h child = record w {
+  desks = put (put w.desks h (record (w.desks h) { lent = serving child None })) child
+      (record (w.desks child) { lender = Some h });
+}
 
 abbrev pub has_descriptor : Desk → Bool
 has_descriptor d = any_below descriptor_count (λ i. not (is_nothing (d.fds i)))
@@ -86,7 +90,8 @@ are_bytes (b ∷ bs) = nat_lt b 256 && are_bytes bs
 
 -- what is wrong with a path; one that isn't of bytes is none that a call can have
 abbrev pub path_wrong : List ℕ → Option Refusal
-path_wrong path = if nat_lt path_limit (length path) then Some PathTooLong else (if has_zero path then Some ZeroInPath else (if are_bytes path then None else Some NotCovered))
+path_wrong path = if nat_lt path_limit (length path) then Some PathTooLong
+    else (if has_zero path then Some ZeroInPath else (if are_bytes path then None else Some NotCovered))
 
 abbrev pub asks_wrong : ℕ → Option Refusal
 asks_wrong n = if nat_lt asked_limit n then Some TooLong else None
@@ -114,7 +119,8 @@ why_not None = NotCovered
 why_not (Some why) = why
 
 abbrev pub begin_if : Bool → ℕ → Call → (ℕ → Bool) → World → Began Refusal World
-begin_if covered h call busy w = only_if (nat_lt h hart_count) NoSuchHart (only_if (is_nothing (w.desks h).lender) Busy (only_if covered (why_not (call_wrong call)) (begin_call h call busy w)))
+begin_if covered h call busy w = only_if (nat_lt h hart_count) NoSuchHart
+    (only_if (is_nothing (w.desks h).lender) Busy (only_if covered (why_not (call_wrong call)) (begin_call h call busy w)))
 
 -- the machine with those calls alone that are of this kind
 abbrev pub calls_that : (Call → Bool) → Theory
@@ -133,7 +139,9 @@ calls_that kind =
 
 -- Every list of events, of any harts, from a world that holds and where every hart rests, is explained by one list of tree steps.
 abbrev pub AreExplained : (Call → Bool) → Type 0
-AreExplained kind = (w : World) (events : List (Event Call Outside)) → Inv w → ((h : ℕ) → Idle h w) → AllHonest (calls_that kind) events (fresh (calls_that kind) w) → IsExplained (calls_that kind) (stage_of w) (run (calls_that kind) events (fresh (calls_that kind) w))
+AreExplained kind = (w : World) (events : List (Event Call Outside)) → Inv w → ((h : ℕ) → Idle h w)
+    → AllHonest (calls_that kind) events (fresh (calls_that kind) w)
+    → IsExplained (calls_that kind) (stage_of w) (run (calls_that kind) events (fresh (calls_that kind) w))
 
 abbrev pub descriptor_calls : Theory
 descriptor_calls = calls_that on_descriptors
@@ -148,7 +156,8 @@ covered_calls = calls_that is_covered
 abbrev pub CallsAreExplained : Type 0
 CallsAreExplained = AreExplained is_covered
 
--- Whatever has happened, also where a step found no room: the tree before it settles is well formed, what no hart keeps is on disk as the tree has it, and so
+-- Whatever has happened, also where a step found no room: the tree before it settles is well formed, what no hart keeps is on disk as the
+-- tree has it, and so
 -- is what is kept by a hart in no transaction.
 pub record StaysInOrder (w : World) : Type 0 where
   pub well : IsWellFormed w.all
@@ -156,7 +165,8 @@ pub record StaysInOrder (w : World) : Type 0 where
   pub quiet : (i h : ℕ) → w.keeper i ≡ Some h → (w.desks h).joined ≡ false → w.disk i ≡ w.all.nodes i
 
 abbrev pub WorldsStayInOrder : Type 0
-WorldsStayInOrder = (w : World) (events : List (Event Call Outside)) → Inv w → ((h : ℕ) → Idle h w) → AllHonest covered_calls events (fresh covered_calls w) → StaysInOrder (run covered_calls events (fresh covered_calls w)).world
+WorldsStayInOrder = (w : World) (events : List (Event Call Outside)) → Inv w → ((h : ℕ) → Idle h w)
+    → AllHonest covered_calls events (fresh covered_calls w) → StaysInOrder (run covered_calls events (fresh covered_calls w)).world
 
 -- A world at rest on a tree without open files, orphans included.
 
@@ -170,7 +180,18 @@ at_rest t = record {
   refs = λ i. sum_below hart_count (λ g. (resting t g).refs i);
   slots = λ i. 0;
   files = λ k. None;
-  desks = λ h. record { fds = λ i. None; hand = None; joined = false; directory = t.cwd h; lent = λ i. None; lender = None; opening = None; left = None; noted = None; full = false };
+  desks = λ h. record {
+    fds = λ i. None;
+    hand = None;
+    joined = false;
+    directory = t.cwd h;
+    lent = λ i. None;
+    lender = None;
+    opening = None;
+    left = None;
+    noted = None;
+    full = false;
+  };
   ids = λ k. 0;
   clean = true;
   harts = resting t;
@@ -181,7 +202,8 @@ at_rest t = record {
 }
 
 abbrev pub WorldsRest : Type 0
-WorldsRest = (t : Tree) → IsWellFormed t → ((id : ℕ) → t.files id ≡ None) → ((h : ℕ) → t.holds h ≡ None) → ((h i : ℕ) → t.fds h i ≡ None) → Inv (at_rest t) × ((h : ℕ) → Idle h (at_rest t))
+WorldsRest = (t : Tree) → IsWellFormed t → ((id : ℕ) → t.files id ≡ None) → ((h : ℕ) → t.holds h ≡ None) → ((h i : ℕ) → t.fds h i ≡ None)
+    → Inv (at_rest t) × ((h : ℕ) → Idle h (at_rest t))
 
 -- The same, with one open file: hart 0's descriptor 0 has it.
 
@@ -205,4 +227,5 @@ pub record HasOneOpen (t : Tree) (f : OpenFile) (v : Node) : Type 0 where
   pub written : f.writable ≡ true → sort_of_kind v.kind ≢ OfDirectory
 
 abbrev pub WorldsWithAFileRest : Type 0
-WorldsWithAFileRest = (t : Tree) (f : OpenFile) (v : Node) → IsWellFormed t → HasOneOpen t f v → Inv (open_at_rest t f (sort_of_kind v.kind)) × ((h : ℕ) → Idle h (open_at_rest t f (sort_of_kind v.kind)))
+WorldsWithAFileRest = (t : Tree) (f : OpenFile) (v : Node) → IsWellFormed t → HasOneOpen t f v
+    → Inv (open_at_rest t f (sort_of_kind v.kind)) × ((h : ℕ) → Idle h (open_at_rest t f (sort_of_kind v.kind)))

@@ -27,23 +27,27 @@ pub record Note : Type 0 where
 
 -- what a hart has of the tables
 pub record Desk : Type 0 where
-  -- the code's: by descriptor the slot of its open file; a slot taken for a descriptor to come; whether it has joined the transaction; its current directory
+  -- the code's: by descriptor the slot of its open file; a slot taken for a descriptor to come; whether it has joined the transaction; its
+  -- current directory
   pub fds : ℕ → Option ℕ
   pub hand : Option ℕ
   pub joined : Bool
   pub directory : ℕ
-  -- descriptors that it is about to hand to a hart, and past them all which hart that is, and how much it has; and the hart that hands its own to this one,
+  -- descriptors that it is about to hand to a hart, and past them all which hart that is, and how much it has; and the hart that hands its
+  -- own to this one,
   -- which starts nothing until then
   pub lent : ℕ → Option ℕ
   pub lender : Option ℕ
-  -- for the proof: the descriptor that the tree has and the table has not yet, the directory that the tree has left and the hart has not yet, the type of what it found last, and whether its call found no room
+  -- for the proof: the descriptor that the tree has and the table has not yet, the directory that the tree has left and the hart has not
+  -- yet, the type of what it found last, and whether its call found no room
   pub opening : Option ℕ
   pub left : Option ℕ
   pub noted : Option Note
   pub full : Bool
 
 pub record World : Type 0 where
-  -- the code's: each inode's record with its content as the seen blocks say it (None: type 0), inode locks, counts of references, those of open files
+  -- the code's: each inode's record with its content as the seen blocks say it (None: type 0), inode locks, counts of references, those of
+  -- open files
   pub disk : ℕ → Option Node
   pub lock : ℕ → Option ℕ
   pub refs : ℕ → ℕ
@@ -97,7 +101,8 @@ pub data Op : Type 0 where
   -- a descriptor to write to is looked up: for no bytes; to join a transaction
   CheckFile : ℕ → Op
   JoinFile : ℕ → Op
-  -- the lock of the inode behind it is taken: its number, and where the file stands; a piece is written, the offset moves, and the lock is given up
+  -- the lock of the inode behind it is taken: its number, and where the file stands; a piece is written, the offset moves, and the lock is
+  -- given up
   LockOpen : ℕ → ℕ → Op
   WriteFile : ℕ → ℕ → ℕ → List ℕ → Op
   -- one more descriptor for a descriptor's open file; a descriptor is free
@@ -181,15 +186,18 @@ Answer Join = Unit {0}
 Answer Leave = Unit {0}
 Answer Say = Unit {0}
 
--- What lies outside: whether there is a block for each byte asked for, or for so many; and which inode of those without a type is found, or that it has no
+-- What lies outside: whether there is a block for each byte asked for, or for so many; and which inode of those without a type is found,
+-- or that it has no
 -- place in memory.
 pub data Outside : Type 0 where
   Room : Outside
   RoomFor : ℕ → Outside
   Picks : ℕ → Outside
 
--- What an operation is marked with. It makes a move of the tree; it frees an inode's node; a new inode stays without a name, and its node is one of the tree
--- before that settles, as any other that is dead; or it finds no room, and from then on no one list explains the run: nothing was taken in the tree, or what
+-- What an operation is marked with. It makes a move of the tree; it frees an inode's node; a new inode stays without a name, and its node
+-- is one of the tree
+-- before that settles, as any other that is dead; or it finds no room, and from then on no one list explains the run: nothing was taken in
+-- the tree, or what
 -- the call's steps took is given back, or a step acts as far as there was room.
 pub data Mark : Type 0 where
   Makes : Move → Mark

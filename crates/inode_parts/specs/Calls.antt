@@ -57,7 +57,8 @@ IsReading w = ⊥
 
 -- the same read, with other bytes in its buffer
 abbrev pub IsFilled : Whole → Whole → Type 0
-IsFilled (whole.Read fd buf (reading.Part n offset)) (whole.Read gd new (reading.Part k at)) = (gd ≡ fd) × (k ≡ n) × (at ≡ offset) × (length new.items ≡ length buf.items)
+IsFilled (whole.Read fd buf (reading.Part n offset)) (whole.Read gd new (reading.Part k at)) =
+    (gd ≡ fd) × (k ≡ n) × (at ≡ offset) × (length new.items ≡ length buf.items)
 IsFilled w v = ⊥
 
 -- .. or the same call

@@ -19,7 +19,8 @@ use Rattle.inode_parts.specs.declared.note.Notes.{Notes}
 
 -- the inode's lock is in hand, with its record; its block has a number; there is a transaction, and no buffer in hand
 abbrev pub MayChange : Super → ℕ → Hand → Type 0
-MayChange sizes n h = HasLock n h × IsLoadedAt (seat_of_lock n h) h × (inode_block sizes.inodestart n < 2 ^ 32) × IsSome h.txn × HasNoBuffer h
+MayChange sizes n h =
+    HasLock n h × IsLoadedAt (seat_of_lock n h) h × (inode_block sizes.inodestart n < 2 ^ 32) × IsSome h.txn × HasNoBuffer h
 
 -- all in hand but the buffers, and what is loaded of the inode at a seat
 abbrev pub beside_inode : Seat → Hand → Hand

@@ -39,7 +39,8 @@ ClaimReady p h = NewReady p.claim h
 
 -- it began without a buffer, and with no reference at this seat: beside that, a buffer and numbers all is as it was
 abbrev pub ClaimAmid : Hand → ClaimPart → Hand → Type 0
-ClaimAmid start p now = HasFreeSeat start × HasNoBuffer start × (new_seat p.claim ≡ free_seat start) × (beside_new (new_seat p.claim) now ≡ beside_new (new_seat p.claim) start)
+ClaimAmid start p now = HasFreeSeat start × HasNoBuffer start × (new_seat p.claim ≡ free_seat start)
+    × (beside_new (new_seat p.claim) now ≡ beside_new (new_seat p.claim) start)
 
 -- the disk has inodes, and their blocks have numbers
 abbrev pub HasInodeTable : Super → Type 0

@@ -32,7 +32,11 @@ LockBegins sizes h = HasInodeBlocks sizes.inodestart × (h.one ≡ None) × (h.t
 
 abbrev pub file_ends : List ℕ → (fd : ℕ) → Carry → LockedState → Part
 file_ends path fd c (Refuses why) = Ret (record { answer = (path, heard.Locked (locked.Refused (cause_of why))); carry = c })
-file_ends path fd c (Locks f content) = Ret (record { answer = (path, heard.Locked (locked.Locks f.number f.offset)); carry = put c f.number (had_of path (note.Opened fd f.offset) content) })
+file_ends path fd c (Locks f content) = Ret
+    (record {
+      answer = (path, heard.Locked (locked.Locks f.number f.offset));
+      carry = put c f.number (had_of path (note.Opened fd f.offset) content);
+    })
 
 abbrev pub lock_file_left : List ℕ → Notes → LockFilePart → Hand → Part
 lock_file_left path m p h = bind (file_left p.lock h) (file_ends path p.fd (beside_in path m (file_seat p.lock) h))
@@ -50,7 +54,11 @@ LockFileAmid fd start p now = (p.fd ≡ fd) × Comes (file_seat p.lock) start no
 -- ---- to write it
 
 abbrev pub open_ends : List ℕ → (fd : ℕ) → Carry → OpenFile × Dinode → Part
-open_ends path fd c locked = Ret (record { answer = (path, heard.At locked.0.number locked.0.offset); carry = put c locked.0.number (had_of path (note.Opened fd locked.0.offset) (Some locked.1)) })
+open_ends path fd c locked = Ret
+    (record {
+      answer = (path, heard.At locked.0.number locked.0.offset);
+      carry = put c locked.0.number (had_of path (note.Opened fd locked.0.offset) (Some locked.1));
+    })
 
 abbrev pub lock_open_left : List ℕ → Notes → LockOpenPart → Hand → Part
 lock_open_left path m p h = bind (open_left p.lock h) (open_ends path p.fd (beside_in path m (open_seat p.lock) h))

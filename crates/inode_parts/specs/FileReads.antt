@@ -60,4 +60,5 @@ abbrev pub filled : List ℕ → List ℕ → Carry → Handover Message Carry
 filled text b c = record { answer = (b ++ drop (length b) text, heard.Read (length b)); carry = c }
 
 abbrev pub FillsFrom : List ℕ → Part → Type 0
-FillsFrom text q = (f g : Handover Message Carry → P Reply) → ((b : List ℕ) (c : Carry) → f (filled text b c) ≡ g (filled text b c)) → bind q f ≡ bind q g
+FillsFrom text q =
+    (f g : Handover Message Carry → P Reply) → ((b : List ℕ) (c : Carry) → f (filled text b c) ≡ g (filled text b c)) → bind q f ≡ bind q g

@@ -28,7 +28,11 @@ state_by n d = (n, face_by d)
 
 abbrev pub stat_ends : List ℕ → Carry → LockedState → Part
 stat_ends path c (Refuses why) = Ret (record { answer = (path, heard.Stat None); carry = c })
-stat_ends path c (Locks f content) = Ret (record { answer = (path, heard.Stat (option_map (state_by f.number) content)); carry = put c f.number (had_of path note.Nothing content) })
+stat_ends path c (Locks f content) = Ret
+    (record {
+      answer = (path, heard.Stat (option_map (state_by f.number) content));
+      carry = put c f.number (had_of path note.Nothing content);
+    })
 
 abbrev pub stat_left : List ℕ → Notes → StatFilePart → Hand → Part
 stat_left path m p h = bind (file_left p.lock h) (stat_ends path (beside_in path m (file_seat p.lock) h))

@@ -39,10 +39,12 @@ wrote_upto offset bytes upto = if upto == offset + length bytes then wrote.Whole
 
 -- the file moves to where they end that were written, and the inode's record is that with their blocks
 abbrev pub write_over : List ℕ → LockedFile → List ℕ → (n : ℕ) → WriteResult → Part
-write_over text f bytes n w = moved f (record { number = n; content = Some w.inode }) w.upto text (heard.Wrote (wrote_upto f.offset bytes w.upto))
+write_over text f bytes n w =
+    moved f (record { number = n; content = Some w.inode }) w.upto text (heard.Wrote (wrote_upto f.offset bytes w.upto))
 
 abbrev pub write_file_left : List ℕ → WriteFilePart → Hand → Part
-write_file_left text (Denied k why) h = Do (steps.Unlock (inode_in k h) None) unmarked (λ _. Ret (record { answer = (text, heard.Wrote (wrote.Refused why)); carry = nothing }))
+write_file_left text (Denied k why) h =
+    Do (steps.Unlock (inode_in k h) None) unmarked (λ _. Ret (record { answer = (text, heard.Wrote (wrote.Refused why)); carry = nothing }))
 write_file_left text (Writing f i p) h = bind (write_left (piece text i) p h) (write_over text f (piece text i) (number_in f.seat h))
 write_file_left text (Ending f upto w) h = moved f (inode_in f.seat h) upto text (heard.Wrote w)
 
@@ -80,7 +82,8 @@ ended_as f bytes r = Ending f r.upto (wrote_upto f.offset bytes r.upto)
 
 -- what it asks: a transaction, and blocks that have numbers and bits
 abbrev pub WriteBegins : Super → (fd n offset : ℕ) → Having → Type 0
-WriteBegins sizes fd n offset s = HasOpened fd n offset s × IsSome s.hand.txn × (inode_block sizes.inodestart n < 2 ^ 32) × (sizes.size ≤ bits_per_block)
+WriteBegins sizes fd n offset s =
+    HasOpened fd n offset s × IsSome s.hand.txn × (inode_block sizes.inodestart n < 2 ^ 32) × (sizes.size ≤ bits_per_block)
 
 -- of inode n
 abbrev pub WriteFileAmid : ℕ → Hand → WriteFilePart → Hand → Type 0

@@ -30,7 +30,8 @@ free_asked p = freeing_asked p.free
 
 -- the lock is at its seat alone
 abbrev pub FreeReady : FreePart → Hand → Type 0
-FreeReady p h = FreeingReady p.free h × ((freeing_of p.free).seat ≡ p.seat) × IsSome (inode_at p.seat h) × IsAlone (number_in p.seat h) p.seat h
+FreeReady p h =
+    FreeingReady p.free h × ((freeing_of p.free).seat ≡ p.seat) × IsSome (inode_at p.seat h) × IsAlone (number_in p.seat h) p.seat h
 
 -- that of inode n
 abbrev pub FreeAmid : ℕ → Hand → FreePart → Hand → Type 0

@@ -45,14 +45,18 @@ abbrev pub still : List ℕ → (lop : steps.Op) → (steps.Answer lop → Heard
 still text lop heard c = one text lop heard (λ a. c)
 
 abbrev pub step_left : List ℕ → Notes → OneStep → Hand → Part
-step_left path m (step.Give k) h = one path (steps.Unlock (inode_in k h) None) (λ a. heard.Did) (λ a. put (carry_in path m h) (inode_in k h).number Apart)
-step_left path m (step.Settle k) h = one path (steps.Settle (inode_in k h)) heard.Old (λ a. put (carry_in path m h) (inode_in k h).number Apart)
+step_left path m (step.Give k) h =
+    one path (steps.Unlock (inode_in k h) None) (λ a. heard.Did) (λ a. put (carry_in path m h) (inode_in k h).number Apart)
+step_left path m (step.Settle k) h =
+    one path (steps.Settle (inode_in k h)) heard.Old (λ a. put (carry_in path m h) (inode_in k h).number Apart)
 step_left path m (step.UpRoot k) h = still path (steps.Up (steps.Number root)) heard.Start (carry_in path m h)
 step_left path m (step.UpDirectory k) h = still path (steps.Up steps.Directory) heard.Start (carry_in path m h)
 step_left path m (step.Up k n) h = still path (steps.Up (steps.Number n)) (λ a. heard.Is (is_some a)) (carry_in path m h)
 step_left path m (step.UpAside n) h = still path (steps.Up (steps.Number n)) (λ a. heard.Is (is_some a)) (carry_in path m h)
-step_left path m (step.WalkDown k) h = still path (steps.Down (steps.Walked (number_at k h))) (λ a. heard.Is (is_listed a)) (carry_in path m h)
-step_left path m (step.Down k) h = one path (steps.Down (steps.Held (number_at k h))) (λ a. heard.Is (is_dying a)) (with_dying (number_at k h) (carry_in path m h))
+step_left path m (step.WalkDown k) h =
+    still path (steps.Down (steps.Walked (number_at k h))) (λ a. heard.Is (is_listed a)) (carry_in path m h)
+step_left path m (step.Down k) h =
+    one path (steps.Down (steps.Held (number_at k h))) (λ a. heard.Is (is_dying a)) (with_dying (number_at k h) (carry_in path m h))
 step_left path m (step.Forget k) h = still path (steps.Down (steps.Freed (number_at k h))) (λ a. heard.Did) (carry_in path m h)
 step_left path m step.Slot h = still path steps.TakePlace heard.Is (carry_in path m h)
 step_left path m (step.Install k file) h = still path (steps.TakeDescriptor (number_at k h) file) heard.Start (carry_in path m h)
@@ -61,7 +65,8 @@ step_left path m (step.JoinFile fd) h = still path (steps.JoinToWrite fd) joinin
 step_left path m (step.Double fd) h = still path (steps.Double fd) (λ a. heard.Doubled (doubled_to a)) (carry_in path m h)
 step_left path m (step.Shut k fd) h = still path (steps.Close fd) (λ a. heard.Shut (shut_to a)) (carry_in path m h)
 step_left path m (step.Lend k child from) h = still path (steps.Give child from) loan_heard (carry_in path m h)
-step_left path m (step.LendDirectory k child) h = still path (steps.Give child descriptor_count) (λ a. heard.Old (old_directory a)) (carry_in path m h)
+step_left path m (step.LendDirectory k child) h =
+    still path (steps.Give child descriptor_count) (λ a. heard.Old (old_directory a)) (carry_in path m h)
 step_left path m step.Release h = still path steps.Reply (λ a. heard.Did) (carry_in path m h)
 step_left path m step.Join h = still path steps.Join (λ a. heard.Did) (carry_in path m h)
 step_left path m step.Say h = still path steps.Reply (λ a. heard.Did) (carry_in path m h)

@@ -43,7 +43,11 @@ use Rattle.inode_parts.specs.declared.take_part.TakePart.TheVariants as take
 
 -- what was seen of inode n, and what is had of it
 abbrev pub seen : List ℕ → Carry → ℕ → Dinode → Note → Option ℕ → Bool → Part
-seen path c n d l found empty = Ret (record { answer = (path, heard.Saw (record { face = face_unless_free d; found = found; empty = empty })); carry = put c n (had_of path l (Some d)) })
+seen path c n d l found empty = Ret
+    (record {
+      answer = (path, heard.Saw (record { face = face_unless_free d; found = found; empty = empty }));
+      carry = put c n (had_of path l (Some d));
+    })
 
 -- the slot under a name
 abbrev pub note_of : Element → Option Found → Note
@@ -63,8 +67,10 @@ looked path query.Entries c n d = bind (entries d) (listed_ends path c n d)
 
 abbrev pub take_left : List ℕ → Notes → TakePart → Hand → Part
 take_left path m (take.Locking q r) h = bind (lock_left r h) (looked path q (beside_in path m (lock_seat r) h) (number_at (lock_seat r) h))
-take_left path m (take.Naming k e s) h = bind (search_left (Named (name_in path e)) (record_in k h) s h) (named_ends path (beside_in path m k h) (number_at k h) (record_in k h) e)
-take_left path m (take.Listing k s) h = bind (search_left Entry (record_in k h) s h) (listed_ends path (beside_in path m k h) (number_at k h) (record_in k h))
+take_left path m (take.Naming k e s) h = bind (search_left (Named (name_in path e)) (record_in k h) s h)
+    (named_ends path (beside_in path m k h) (number_at k h) (record_in k h) e)
+take_left path m (take.Listing k s) h =
+    bind (search_left Entry (record_in k h) s h) (listed_ends path (beside_in path m k h) (number_at k h) (record_in k h))
 
 -- one that has begun to look, or has seen it at once
 abbrev pub taken_left : List ℕ → Notes → Begun TakePart Heard → Hand → Part
@@ -108,12 +114,15 @@ take_query (take.Listing k s) = query.Entries
 
 -- this is looked for in inode n, whose lock comes to the seat of the reference to it
 abbrev pub TakeAmid : List ℕ → ℕ → whole.Query → Hand → TakePart → Hand → Type 0
-TakeAmid path n looking start p now = HasReference n start × (take_seat p ≡ seat_of_reference n start) × (query_in path (take_query p) ≡ looking) × Comes (take_seat p) start now
+TakeAmid path n looking start p now = HasReference n start × (take_seat p ≡ seat_of_reference n start)
+    × (query_in path (take_query p) ≡ looking) × Comes (take_seat p) start now
 
 -- what was seen in the inode at this seat, and is noted of it
 abbrev pub Sees : List ℕ → whole.Query → Seat → Heard → Notes → Notes → Type 0
-Sees path looking k x before after = IsCounted (sight_in x) × (note_at (other k) after ≡ note_at (other k) before) × Learns path looking (sight_in x) (note_at k after)
+Sees path looking k x before after =
+    IsCounted (sight_in x) × (note_at (other k) after ≡ note_at (other k) before) × Learns path looking (sight_in x) (note_at k after)
 
 -- what it asks of the hand
 abbrev pub TakeBegins : Super → ℕ → Hand → Type 0
-TakeBegins sizes n h = HasReference n h × (inode_at (seat_of_reference n h) h ≡ None) × IsAlone n (seat_of_reference n h) h × HasNoBuffer h × (inode_block sizes.inodestart n < 2 ^ 32)
+TakeBegins sizes n h = HasReference n h × (inode_at (seat_of_reference n h) h ≡ None) × IsAlone n (seat_of_reference n h) h × HasNoBuffer h
+    × (inode_block sizes.inodestart n < 2 ^ 32)

@@ -69,7 +69,8 @@ impl ClaimPart {
         ensures ready { IfNone (heard_if result heard.new) (ClaimReady self.new hand.new) }
         ensures leaves { (path : List ℕ) (sort : whole.Sort) (start before : HandState) → ClaimAmid start self.old before
             → ClaimReady self.old before → IsAfter (claim_asked self.old) before answer.now hand.old
-            → StaysOrLeaves (ClaimAmid start self.new) path (Claim sort) (heard_if result heard.new) (having start notes.now) (having hand.new notes.now) }
+            → StaysOrLeaves (ClaimAmid start self.new) path (Claim sort) (heard_if result heard.new) (having start notes.now)
+            (having hand.new notes.now) }
         ensures hand { bare hand.new ≡ bare hand.old }
     {
         match self.claim.next(answer, hand) {

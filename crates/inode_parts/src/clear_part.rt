@@ -33,7 +33,8 @@ impl ClearPart {
     pub fn begin(number: u32, sizes: &Super, notes: &Notes, hand: &Hand) -> ClearPart
         requires begins { (path : List ℕ) × (name : Name) × ClearBegins sizes.now path notes.now number name hand.now }
         ensures part { (path : List ℕ) (name : Name) → ClearBegins sizes.now path notes.now number name hand.now
-            → IsPart sizes.now (carry_in path notes.now hand.now) (above.Clear number name) (clear_part_left path notes.now result hand.now) }
+            → IsPart sizes.now (carry_in path notes.now hand.now) (above.Clear number name)
+            (clear_part_left path notes.now result hand.now) }
         ensures ready { ClearPartReady result hand.now }
         ensures amid { ClearAmid number hand.now result hand.now }
     {
@@ -51,7 +52,8 @@ impl ClearPart {
     pub fn op(&self, hand: &mut Hand) -> Op
         requires ready { ClearPartReady self.now hand.old }
         ensures op { result ≡ clear_part_asked self.now }
-        ensures asks { (path : List ℕ) (notes : NotesState) → asks (clear_part_left path notes self.now hand.old) ≡ Some (op_in hand.new result) }
+        ensures asks { (path : List ℕ) (notes : NotesState)
+            → asks (clear_part_left path notes self.now hand.old) ≡ Some (op_in hand.new result) }
         ensures can { CanDo result hand.new }
         ensures prepared { Prepared result hand.old hand.new }
     {
@@ -67,8 +69,10 @@ impl ClearPart {
         hand: &mut Hand,
         heard: &mut Heard,
     ) -> bool
-        requires came { (before : HandState) × ClearPartReady self.old before × IsAfter (clear_part_asked self.old) before answer.now hand.old }
-        ensures goes { (path : List ℕ) (before : HandState) → ClearPartReady self.old before → IsAfter (clear_part_asked self.old) before answer.now hand.old
+        requires came { (before : HandState) × ClearPartReady self.old before
+            × IsAfter (clear_part_asked self.old) before answer.now hand.old }
+        ensures goes { (path : List ℕ) (before : HandState) → ClearPartReady self.old before
+            → IsAfter (clear_part_asked self.old) before answer.now hand.old
             → Goes (clear_part_left path notes.old self.old before) (answer_in (clear_part_asked self.old) answer.now hand.old)
             (left_after (clear_part_left path notes.new) (handed path notes.new) (heard_if result heard.new) self.new hand.new) }
         ensures ready { IfNone (heard_if result heard.new) (ClearPartReady self.new hand.new) }

@@ -45,7 +45,8 @@ impl EmptyPart {
     pub fn op(&self, hand: &mut Hand) -> Op
         requires ready { EmptyPartReady self.now hand.old }
         ensures op { result ≡ empty_part_asked self.now }
-        ensures asks { (path : List ℕ) (notes : NotesState) → asks (empty_part_left path notes self.now hand.old) ≡ Some (op_in hand.new result) }
+        ensures asks { (path : List ℕ) (notes : NotesState)
+            → asks (empty_part_left path notes self.now hand.old) ≡ Some (op_in hand.new result) }
         ensures can { CanDo result hand.new }
         ensures prepared { Prepared result hand.old hand.new }
     {
@@ -61,8 +62,10 @@ impl EmptyPart {
         hand: &mut Hand,
         heard: &mut Heard,
     ) -> bool
-        requires came { (before : HandState) × EmptyPartReady self.old before × IsAfter (empty_part_asked self.old) before answer.now hand.old }
-        ensures goes { (path : List ℕ) (before : HandState) → EmptyPartReady self.old before → IsAfter (empty_part_asked self.old) before answer.now hand.old
+        requires came { (before : HandState) × EmptyPartReady self.old before
+            × IsAfter (empty_part_asked self.old) before answer.now hand.old }
+        ensures goes { (path : List ℕ) (before : HandState) → EmptyPartReady self.old before
+            → IsAfter (empty_part_asked self.old) before answer.now hand.old
             → Goes (empty_part_left path notes.old self.old before) (answer_in (empty_part_asked self.old) answer.now hand.old)
             (left_after (empty_part_left path notes.new) (handed path notes.new) (heard_if result heard.new) self.new hand.new) }
         ensures ready { IfNone (heard_if result heard.new) (EmptyPartReady self.new hand.new) }

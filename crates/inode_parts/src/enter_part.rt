@@ -38,7 +38,8 @@ impl EnterPart {
     pub fn begin(number: u32, child: u32, name: &[u8], sizes: &Super, hand: &Hand) -> EnterPart
         requires begins { EnterBegins sizes.now number name.now hand.now }
         ensures part { (path : List ℕ) (notes : NotesState)
-            → IsPart sizes.now (carry_in path notes hand.now) (above.Enter number name.now child) (enter_part_left path notes result hand.now) }
+            → IsPart sizes.now (carry_in path notes hand.now) (above.Enter number name.now child)
+            (enter_part_left path notes result hand.now) }
         ensures ready { EnterPartReady result hand.now }
         ensures amid { EnterAmid number hand.now result hand.now }
     {
@@ -54,7 +55,8 @@ impl EnterPart {
     pub fn op(&self, hand: &mut Hand) -> Op
         requires ready { EnterPartReady self.now hand.old }
         ensures op { result ≡ enter_part_asked self.now }
-        ensures asks { (path : List ℕ) (notes : NotesState) → asks (enter_part_left path notes self.now hand.old) ≡ Some (op_in hand.new result) }
+        ensures asks { (path : List ℕ) (notes : NotesState)
+            → asks (enter_part_left path notes self.now hand.old) ≡ Some (op_in hand.new result) }
         ensures can { CanDo result hand.new }
         ensures prepared { Prepared result hand.old hand.new }
     {
@@ -70,8 +72,10 @@ impl EnterPart {
         hand: &mut Hand,
         heard: &mut Heard,
     ) -> bool
-        requires came { (before : HandState) × EnterPartReady self.old before × IsAfter (enter_part_asked self.old) before answer.now hand.old }
-        ensures goes { (path : List ℕ) (before : HandState) → EnterPartReady self.old before → IsAfter (enter_part_asked self.old) before answer.now hand.old
+        requires came { (before : HandState) × EnterPartReady self.old before
+            × IsAfter (enter_part_asked self.old) before answer.now hand.old }
+        ensures goes { (path : List ℕ) (before : HandState) → EnterPartReady self.old before
+            → IsAfter (enter_part_asked self.old) before answer.now hand.old
             → Goes (enter_part_left path notes.old self.old before) (answer_in (enter_part_asked self.old) answer.now hand.old)
             (left_after (enter_part_left path notes.new) (handed path notes.new) (heard_if result heard.new) self.new hand.new) }
         ensures ready { IfNone (heard_if result heard.new) (EnterPartReady self.new hand.new) }
@@ -95,7 +99,8 @@ impl EnterPart {
 // What is heard of it. The directory at this seat was stored, but where it has no slot left.
 fn hear(seat: Seat, outcome: &Entered, notes: &mut Notes, hand: &mut Hand) -> Heard
     requires { IsLoadedAt seat hand.old }
-    ensures is { (path : List ℕ) → entered path notes.old seat hand.old (entered_as outcome.now) ≡ Ret (handed path notes.new result hand.new) }
+    ensures is { (path : List ℕ)
+        → entered path notes.old seat hand.old (entered_as outcome.now) ≡ Ret (handed path notes.new result hand.new) }
     ensures leaves { (n : ℕ) (start : HandState) → IsAmid n start seat hand.old → HasNoBuffer hand.old
         → Changed n start hand.new × StandBeside n (having start notes.old) (having hand.new notes.new) }
     ensures hand { bare hand.new ≡ bare hand.old }

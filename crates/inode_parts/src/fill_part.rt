@@ -46,7 +46,8 @@ impl FillPart {
     pub fn op(&self, hand: &mut Hand) -> Op
         requires ready { FillPartReady self.now hand.old }
         ensures op { result ≡ fill_part_asked self.now }
-        ensures asks { (path : List ℕ) (notes : NotesState) → asks (fill_part_left path notes self.now hand.old) ≡ Some (op_in hand.new result) }
+        ensures asks { (path : List ℕ) (notes : NotesState)
+            → asks (fill_part_left path notes self.now hand.old) ≡ Some (op_in hand.new result) }
         ensures can { CanDo result hand.new }
         ensures prepared { Prepared result hand.old hand.new }
     {
@@ -62,8 +63,10 @@ impl FillPart {
         hand: &mut Hand,
         heard: &mut Heard,
     ) -> bool
-        requires came { (before : HandState) × FillPartReady self.old before × IsAfter (fill_part_asked self.old) before answer.now hand.old }
-        ensures goes { (path : List ℕ) (before : HandState) → FillPartReady self.old before → IsAfter (fill_part_asked self.old) before answer.now hand.old
+        requires came { (before : HandState) × FillPartReady self.old before
+            × IsAfter (fill_part_asked self.old) before answer.now hand.old }
+        ensures goes { (path : List ℕ) (before : HandState) → FillPartReady self.old before
+            → IsAfter (fill_part_asked self.old) before answer.now hand.old
             → Goes (fill_part_left path notes.old self.old before) (answer_in (fill_part_asked self.old) answer.now hand.old)
             (left_after (fill_part_left path notes.new) (handed path notes.new) (heard_if result heard.new) self.new hand.new) }
         ensures ready { IfNone (heard_if result heard.new) (FillPartReady self.new hand.new) }

@@ -59,7 +59,8 @@ impl LockFilePart {
         hand: &mut Hand,
         heard: &mut Heard,
     ) -> bool
-        requires came { (before : HandState) × LockFileReady self.old before × IsAfter (lock_file_asked self.old) before answer.now hand.old }
+        requires came { (before : HandState) × LockFileReady self.old before
+            × IsAfter (lock_file_asked self.old) before answer.now hand.old }
         ensures goes { (path : List ℕ) (before : HandState) → LockFileReady self.old before
             → IsAfter (lock_file_asked self.old) before answer.now hand.old
             → Goes (lock_file_left path notes.old self.old before) (answer_in (lock_file_asked self.old) answer.now hand.old)
@@ -67,7 +68,8 @@ impl LockFilePart {
         ensures ready { IfNone (heard_if result heard.new) (LockFileReady self.new hand.new) }
         ensures leaves { (path : List ℕ) (fd : ℕ) (start before : HandState) → LockFileAmid fd start self.old before
             → LockFileReady self.old before → IsAfter (lock_file_asked self.old) before answer.now hand.old
-            → StaysOrLeaves (LockFileAmid fd start self.new) path (Locks fd) (heard_if result heard.new) (having start notes.old) (having hand.new notes.new) }
+            → StaysOrLeaves (LockFileAmid fd start self.new) path (Locks fd) (heard_if result heard.new) (having start notes.old)
+            (having hand.new notes.new) }
         ensures hand { bare hand.new ≡ bare hand.old }
     {
         match self.lock.next(answer, hand) {

@@ -57,7 +57,8 @@ impl LockOpenPart {
         hand: &mut Hand,
         heard: &mut Heard,
     ) -> bool
-        requires came { (before : HandState) × LockOpenReady self.old before × IsAfter (lock_open_asked self.old) before answer.now hand.old }
+        requires came { (before : HandState) × LockOpenReady self.old before
+            × IsAfter (lock_open_asked self.old) before answer.now hand.old }
         ensures goes { (path : List ℕ) (before : HandState) → LockOpenReady self.old before
             → IsAfter (lock_open_asked self.old) before answer.now hand.old
             → Goes (lock_open_left path notes.old self.old before) (answer_in (lock_open_asked self.old) answer.now hand.old)

@@ -134,7 +134,8 @@ fn part_next(
     ensures goes { (before : HandState) → PartReady part.old before → IsAfter (part_asked part.old) before answer.now hand.old
         → Goes (part_left (text_in call.old) notes.old part.old before) (answer_in (part_asked part.old) answer.now hand.old)
         (part_left_after (text_in call.new) notes.new (heard_if result heard.new) part.new hand.new) }
-    ensures under { (op : OpAbove) (start : Having) (before : HandState) → UnderWay (text_in call.old) op start part.old (having before notes.old)
+    ensures under { (op : OpAbove) (start : Having) (before : HandState)
+        → UnderWay (text_in call.old) op start part.old (having before notes.old)
         → PartReady part.old before → IsAfter (part_asked part.old) before answer.now hand.old
         → GoesOrLeaves (text_in call.old) op start (heard_if result heard.new) part.new (having hand.new notes.new) }
     ensures ready { IfNone (heard_if result heard.new) (PartReady part.new hand.new) }

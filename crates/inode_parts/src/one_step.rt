@@ -84,7 +84,8 @@ impl OneStep {
     /// The operation.
     pub fn op(&self) -> Op
         ensures op { result ≡ step_asked self.now }
-        ensures asks { (path : List ℕ) (notes : NotesState) (h : HandState) → asks (step_left path notes self.now h) ≡ Some (op_in h result) }
+        ensures asks { (path : List ℕ) (notes : NotesState) (h : HandState)
+            → asks (step_left path notes self.now h) ≡ Some (op_in h result) }
         ensures can { (h : HandState) → StepReady self.now h → CanDo result h }
         ensures prepared { (h : HandState) → Prepared result h h }
     {
@@ -115,8 +116,10 @@ impl OneStep {
     /// What is heard after it. Of an inode whose lock came into hand nothing is learned yet.
     pub fn next(&self, notes: &mut Notes, answer: &Answer, hand: &Hand) -> Heard
         requires came { (before : HandState) × StepReady self.now before × IsAfter (step_asked self.now) before answer.now hand.now }
-        ensures goes { (path : List ℕ) (before : HandState) → StepReady self.now before → IsAfter (step_asked self.now) before answer.now hand.now
-            → Goes (step_left path notes.old self.now before) (answer_in (step_asked self.now) answer.now hand.now) (Ret (handed path notes.new result hand.now)) }
+        ensures goes { (path : List ℕ) (before : HandState) → StepReady self.now before
+            → IsAfter (step_asked self.now) before answer.now hand.now
+            → Goes (step_left path notes.old self.now before) (answer_in (step_asked self.now) answer.now hand.now)
+            (Ret (handed path notes.new result hand.now)) }
         ensures notes { notes.new ≡ step_notes self.now (yes_in answer.now) notes.old }
     {
         match *self {

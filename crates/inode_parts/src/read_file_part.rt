@@ -68,7 +68,8 @@ impl ReadFilePart {
     /// How it goes on, with the call's bytes lent: true where it is over, with what is heard left in `heard`.
     pub fn next(&mut self, text: &mut [u8], answer: &Answer, hand: &Hand, heard: &mut Heard) -> bool
         requires told { ReadFileTold text.old self.old }
-        requires came { (before : HandState) × ReadFileReady self.old before × IsAfter (read_file_asked self.old) before answer.now hand.now }
+        requires came { (before : HandState) × ReadFileReady self.old before
+            × IsAfter (read_file_asked self.old) before answer.now hand.now }
         ensures goes { (notes : NotesState) (before : HandState) → ReadFileReady self.old before
             → IsAfter (read_file_asked self.old) before answer.now hand.now
             → Goes (read_file_left text.old self.old before) (answer_in (read_file_asked self.old) answer.now hand.now)

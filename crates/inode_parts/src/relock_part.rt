@@ -52,7 +52,8 @@ impl RelockPart {
     pub fn op(&self, hand: &mut Hand) -> Op
         requires ready { RelockReady self.now hand.old }
         ensures op { result ≡ relock_asked self.now }
-        ensures asks { (path : List ℕ) (notes : NotesState) → asks (relock_left path notes self.now hand.old) ≡ Some (op_in hand.new result) }
+        ensures asks { (path : List ℕ) (notes : NotesState)
+            → asks (relock_left path notes self.now hand.old) ≡ Some (op_in hand.new result) }
         ensures can { CanDo result hand.new }
         ensures prepared { Prepared result hand.old hand.new }
     {

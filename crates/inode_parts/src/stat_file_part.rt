@@ -67,7 +67,8 @@ impl StatFilePart {
         ensures ready { IfNone (heard_if result heard.new) (StatReady self.new hand.new) }
         ensures leaves { (path : List ℕ) (fd : ℕ) (start before : HandState) → StatAmid start self.old before
             → StatReady self.old before → IsAfter (stat_asked self.old) before answer.now hand.old
-            → StaysOrLeaves (StatAmid start self.new) path (Stats fd) (heard_if result heard.new) (having start notes.old) (having hand.new notes.new) }
+            → StaysOrLeaves (StatAmid start self.new) path (Stats fd) (heard_if result heard.new) (having start notes.old)
+            (having hand.new notes.new) }
         ensures hand { bare hand.new ≡ bare hand.old }
     {
         match self.lock.next(answer, hand) {

@@ -45,7 +45,8 @@ impl StorePart {
     pub fn op(&self, hand: &mut Hand) -> Op
         requires ready { StorePartReady self.now hand.old }
         ensures op { result ≡ store_part_asked self.now }
-        ensures asks { (path : List ℕ) (notes : NotesState) → asks (store_part_left path notes self.now hand.old) ≡ Some (op_in hand.new result) }
+        ensures asks { (path : List ℕ) (notes : NotesState)
+            → asks (store_part_left path notes self.now hand.old) ≡ Some (op_in hand.new result) }
         ensures can { CanDo result hand.new }
         ensures prepared { Prepared result hand.old hand.new }
     {
@@ -61,8 +62,10 @@ impl StorePart {
         hand: &Hand,
         heard: &mut Heard,
     ) -> bool
-        requires came { (before : HandState) × StorePartReady self.old before × IsAfter (store_part_asked self.old) before answer.now hand.now }
-        ensures goes { (path : List ℕ) (before : HandState) → StorePartReady self.old before → IsAfter (store_part_asked self.old) before answer.now hand.now
+        requires came { (before : HandState) × StorePartReady self.old before
+            × IsAfter (store_part_asked self.old) before answer.now hand.now }
+        ensures goes { (path : List ℕ) (before : HandState) → StorePartReady self.old before
+            → IsAfter (store_part_asked self.old) before answer.now hand.now
             → Goes (store_part_left path notes.old self.old before) (answer_in (store_part_asked self.old) answer.now hand.now)
             (left_after (store_part_left path notes.new) (handed path notes.new) (heard_if result heard.new) self.new hand.now) }
         ensures ready { IfNone (heard_if result heard.new) (StorePartReady self.new hand.now) }

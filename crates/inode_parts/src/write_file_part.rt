@@ -93,7 +93,8 @@ impl WriteFilePart {
     /// inode has its new record in hand.
     pub fn next(&mut self, text: &[u8], answer: &Answer, hand: &mut Hand, heard: &mut Heard) -> bool
         requires told { WriteFileTold text.now self.old }
-        requires came { (before : HandState) × WriteFileReady self.old before × IsAfter (write_file_asked self.old) before answer.now hand.old }
+        requires came { (before : HandState) × WriteFileReady self.old before
+            × IsAfter (write_file_asked self.old) before answer.now hand.old }
         ensures goes { (notes : NotesState) (before : HandState) → WriteFileReady self.old before
             → IsAfter (write_file_asked self.old) before answer.now hand.old
             → Goes (write_file_left text.now self.old before) (answer_in (write_file_asked self.old) answer.now hand.old)

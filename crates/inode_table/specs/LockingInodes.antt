@@ -38,7 +38,8 @@ lock_seat (Lock k inodestart) = k
 lock_seat (Loading k m) = k
 
 abbrev pub LockReady : LockInode → Hand → Type 0
-LockReady (Lock k inodestart) h = IsSome (reference_at k h) × (inode_at k h ≡ None) × (h.first ≡ None) × (inode_block inodestart (number_at k h) < 2 ^ 32)
+LockReady (Lock k inodestart) h =
+    IsSome (reference_at k h) × (inode_at k h ≡ None) × (h.first ≡ None) × (inode_block inodestart (number_at k h) < 2 ^ 32)
 LockReady (Loading k m) h = IsLoading k m h × (number_in k h ≡ number_at k h)
 
 -- the inode is that of the reference, and loaded

@@ -28,7 +28,8 @@ impl LockInode {
     /// On a disk whose inode blocks begin at block `inodestart`.
     pub fn new(inodestart: u32, seat: Seat) -> LockInode
         ensures program { (h : HandState) → lock_left result h ≡ lock_loaded inodestart (number_at seat h) }
-        ensures ready { (h : HandState) → IsSome (reference_at seat h) → inode_at seat h ≡ None → h.first ≡ None → inode_block inodestart (number_at seat h) < 2 ^ 32 → LockReady result h }
+        ensures ready { (h : HandState) → IsSome (reference_at seat h) → inode_at seat h ≡ None → h.first ≡ None
+            → inode_block inodestart (number_at seat h) < 2 ^ 32 → LockReady result h }
         ensures seat { lock_seat result ≡ seat }
     {
         LockInode::Lock(seat, inodestart)
@@ -40,7 +41,8 @@ impl LockInode {
         requires number { number_in seat hand.now ≡ number_at seat hand.now }
         requires block { HasBlock inodestart seat hand.now }
         requires free { hand.now.first ≡ None }
-        ensures program { held_left result seat hand.now ≡ load_unless inodestart (number_in seat hand.now) (inode_in seat hand.now).content }
+        ensures program { held_left result seat hand.now
+            ≡ load_unless inodestart (number_in seat hand.now) (inode_in seat hand.now).content }
         ensures ready { MatchOption result (HasLocked seat hand.now) (λ lock. LockReady lock hand.now × (lock_seat lock ≡ seat)) }
     {
         match load_held(inodestart, hand, seat) {

@@ -69,7 +69,8 @@ impl StoreRecord {
         requires loaded { IsLoadedAt seat hand.old }
         requires block { HasBlock inodestart seat hand.old }
         requires count { count < 2 ^ 15 }
-        ensures program { record_left result hand.new ≡ store inodestart (number_in seat hand.old) (counted count (record_in seat hand.old)) }
+        ensures program { record_left result hand.new
+            ≡ store inodestart (number_in seat hand.old) (counted count (record_in seat hand.old)) }
         ensures record { record_in seat hand.new ≡ counted count (record_in seat hand.old) }
         ensures ready { buffer_at place hand.old ≡ None → IsSome hand.old.txn → RecordReady result hand.new }
         ensures place { record_place result ≡ place }

@@ -23,7 +23,8 @@ Accounts h l s = (k : ℕ) → slice_get l.members h ≡ Some (Some k) → k ≤
 
 -- the block is of these inodes' records, or the bitmap's
 abbrev pub IsSpent : Super → Spent → ℕ → Type 0
-IsSpent sizes s b = ((n : ℕ) × (budget.has s.records n ≡ true) × (b ≡ inode_block sizes.inodestart n)) ⊎ ((s.bitmap ≡ true) × (b ≡ sizes.bmapstart))
+IsSpent sizes s b =
+    ((n : ℕ) × (budget.has s.records n ≡ true) × (b ≡ inode_block sizes.inodestart n)) ⊎ ((s.bitmap ≡ true) × (b ≡ sizes.bmapstart))
 
 -- the block may be recorded, and then this has been spent
 abbrev pub MaySpend : ℕ → ℕ → List ℕ → LogPart → Spent → Type 0
@@ -35,7 +36,8 @@ pub record LeavesGroup (h : ℕ) (l m : LogPart) : Type 0 where
   pub sizes : m.sizes ≡ l.sizes
   pub group : (b : ℕ) → IsMember l.members h → has l.group b ≡ true → has m.group b ≡ true
 
--- What may be spent begins with nothing at a join, lasts, and may become more. Where it is at most ten blocks, each of those that it says may be recorded; and
+-- What may be spent begins with nothing at a join, lasts, and may become more. Where it is at most ten blocks, each of those that it says
+-- may be recorded; and
 -- where it is less, any other one.
 pub record RoomLaws (h : ℕ) (l : LogPart) : Type 0 where
   pub begins : (group : List ℕ) → Accounts h (record l { members = slice_set l.members h (Some 0); group = group }) unspent
@@ -43,8 +45,10 @@ pub record RoomLaws (h : ℕ) (l : LogPart) : Type 0 where
   pub record_more : (n : ℕ) (s : Spent) → Accounts h l s → Accounts h l (with_record n s)
   pub bitmap_more : (s : Spent) → Accounts h l s → Accounts h l (with_bitmap s)
   pub contents_more : (k : ℕ) (s : Spent) → Accounts h l s → Accounts h l (with_contents k s)
-  pub said : (b : ℕ) (bytes : List ℕ) (s : Spent) → IsMember l.members h → Accounts h l s → size s ≤ most_recorded → IsSpent l.sizes s b → MaySpend h b bytes l s
-  pub other : (b : ℕ) (bytes : List ℕ) (s : Spent) → IsMember l.members h → Accounts h l s → size s < most_recorded → MaySpend h b bytes l (with_contents 1 s)
+  pub said : (b : ℕ) (bytes : List ℕ) (s : Spent) → IsMember l.members h → Accounts h l s → size s ≤ most_recorded → IsSpent l.sizes s b
+      → MaySpend h b bytes l s
+  pub other : (b : ℕ) (bytes : List ℕ) (s : Spent) → IsMember l.members h → Accounts h l s → size s < most_recorded
+      → MaySpend h b bytes l (with_contents 1 s)
 
 abbrev pub TransactionsHaveRoom : Type 0
 TransactionsHaveRoom = (h : ℕ) (l : LogPart) → RoomLaws h l

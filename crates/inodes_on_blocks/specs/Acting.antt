@@ -14,7 +14,8 @@ use Rattle.inodes_on_blocks.specs.Handlers.{Handler}
 -- whatever the operation alone is shown to do above, under any history, this program does below, on a disk of these sizes
 abbrev pub ActsOnceAt : Super → (l : Labels) → ℕ → (op : above.Op) → (above.Answer op → Option above.Mark) → Handler op → Type 1
 ActsOnceAt sizes l h op m p =
-    (c : Carry) (B : List l.Step → Type 0) (C : above.Answer op → List l.Step → above.World → Type 0) (es : List l.Step) (w : Both World above.World)
+    (c : Carry) (B : List l.Step → Type 0) (C : above.Answer op → List l.Step → above.World → Type 0) (es : List l.Step)
+    (w : Both World above.World)
     → Lasts (labelled l) h B C → Wp (labelled l) h B C (once op m) (suc (more op)) es w.seen → Stands sizes h w.real w.seen c
     → Wp (joined (labelled l) (below sizes)) h B (Below (labelled l) (below sizes) h C) (p c m) (suc (more op)) es w
 

@@ -16,7 +16,8 @@ pub record World : Type 0 where
   pub state : State
   -- for the proof
   pub owner : ℕ → ℕ  -- the inode whose a block is, 0 where it is nobody's
-  pub left : ℕ → Bool  -- a bit that is set though the block is no inode's: left over of the mounted image, or of a block that a hart has taken
+  pub left : ℕ → Bool  -- a bit that is set though the block is no inode's: left over of the mounted image,
+      or of a block that a hart has taken
   pub taken : ℕ → Option ℕ  -- the hart that has set a block's bit, until an inode names the block
   pub commits : Option ℕ  -- the hart that makes the commit which is under way
   pub new : ℕ → Option ℕ  -- the hart that has claimed an inode, until its record has a type
@@ -64,7 +65,15 @@ owners_after h op was s = owners_of was
 abbrev pub came_to : ℕ → (op : Op) → World → Did (Answer op) State → Did (Answer op) World
 came_to h op w Waits = Waits
 came_to h op w (Ran a s) =
-    let o = owners_after h op w s in Ran a (record { state = s; owner = o.owner; left = o.left; taken = o.taken; commits = commits_after h op a w.commits; new = new_after h op a s.log w.new })
+    let o = owners_after h op w s in
+    Ran a (record {
+      state = s;
+      owner = o.owner;
+      left = o.left;
+      taken = o.taken;
+      commits = commits_after h op a w.commits;
+      new = new_after h op a s.log w.new;
+    })
 came_to h op w (Stops s) = Stops (record w { state = s })
 
 abbrev pub exec : ℕ → Outside → (op : Op) → World → Did (Answer op) World

@@ -17,4 +17,5 @@ ReferencesAreCounted = (r : World) (w : above.World) → Shows r w → Inv w →
 
 -- An operation that may be made waits only for what another hart has in its hand, or for the log.
 abbrev pub WaitsForOthers : Type 0
-WaitsForOthers = (h : ℕ) (x : Outside) (op : Op) (r : World) (w : above.World) → Shows r w → Inv w → May h op r.state → steps.exec h x op r.state ≡ Waits → MayWait h op r.state
+WaitsForOthers = (h : ℕ) (x : Outside) (op : Op) (r : World) (w : above.World) → Shows r w → Inv w → May h op r.state
+    → steps.exec h x op r.state ≡ Waits → MayWait h op r.state

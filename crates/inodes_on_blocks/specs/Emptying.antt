@@ -1,4 +1,5 @@
--- The programs below of operations that give an inode's content back. On a disk of these sizes; c: what the hart has of the inodes whose locks it has.
+-- The programs below of operations that give an inode's content back. On a disk of these sizes; c: what the hart has of the inodes whose
+-- locks it has.
 use Rattle.std.specs.Prelude.{ℕ, take}
 use Rattle.fs_layout.specs.declared.superblock.Super.{Super}
 use Rattle.fs_layout.specs.declared.inode.Dinode.{Dinode}
@@ -21,11 +22,13 @@ give_content sizes d after = free_numbers sizes.bmapstart (take direct d.addrs) 
 abbrev pub empty : (sizes : Super) (n : ℕ) → Handler (Empty n)
 empty sizes n c m =
     let d : Dinode = without_content (record_in c n) in
-    give_content sizes (record_in c n) (bind (fetch (inode_block sizes.inodestart n)) (put_record (Empty n) m tt (inode_block sizes.inodestart n) n d (Has d NothingMore) c))
+    give_content sizes (record_in c n)
+    (bind (fetch (inode_block sizes.inodestart n)) (put_record (Empty n) m tt (inode_block sizes.inodestart n) n d (Has d NothingMore) c))
 
 -- It goes there so, and then without a type; there the inode is free, and the hart has nothing of it.
 abbrev pub free : (sizes : Super) (n : ℕ) → Handler (Free n)
 free sizes n c m =
     let d : Dinode = without_content (record_in c n) in
     give_content sizes (record_in c n)
-    (bind (store_inode sizes.inodestart n d) (λ _. bind (fetch (inode_block sizes.inodestart n)) (put_record (Free n) m tt (inode_block sizes.inodestart n) n (freed d) Emptied c)))
+    (bind (store_inode sizes.inodestart n d)
+    (λ _. bind (fetch (inode_block sizes.inodestart n)) (put_record (Free n) m tt (inode_block sizes.inodestart n) n (freed d) Emptied c)))

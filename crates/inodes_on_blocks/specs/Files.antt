@@ -26,14 +26,16 @@ with_file a c fd n offset d = Ret (record { answer = a; carry = put c n (Has d (
 
 abbrev pub file_locked : Super → (fd : ℕ) → Carry → LockedState → P (Handover LockResult Carry)
 file_locked sizes fd c (Refuses why) = Ret (record { answer = NotLocked (cause_of why); carry = c })
-file_locked sizes fd c (Locks f content) = bind (load_unless sizes.inodestart f.number content) (with_file (LocksIt f.number f.offset) c fd f.number f.offset)
+file_locked sizes fd c (Locks f content) =
+    bind (load_unless sizes.inodestart f.number content) (with_file (LocksIt f.number f.offset) c fd f.number f.offset)
 
 -- to read; it acts where the lock is had
 abbrev pub lock_file : Super → (fd : ℕ) → Handler (LockFile fd)
 lock_file sizes fd c m = Do (steps.LockFile want.Read fd) (λ a. acts (LockFile fd) above.Room m) (file_locked sizes fd c)
 
 abbrev pub open_locked : Super → (fd : ℕ) → Carry → OpenFile × Option Dinode → P (Handover (ℕ × ℕ) Carry)
-open_locked sizes fd c locked = bind (load_unless sizes.inodestart locked.0.number locked.1) (with_file (locked.0.number, locked.0.offset) c fd locked.0.number locked.0.offset)
+open_locked sizes fd c locked = bind (load_unless sizes.inodestart locked.0.number locked.1)
+    (with_file (locked.0.number, locked.0.offset) c fd locked.0.number locked.0.offset)
 
 -- to write
 abbrev pub lock_open : Super → (fd n : ℕ) → Handler (LockOpen fd n)
@@ -44,7 +46,8 @@ lock_open sizes fd n c m = Do (steps.LockOpen fd) (λ a. acts (LockOpen fd n) ab
 -- The lock is given up, and the offset moves by as much as was read: there the operation acts.
 abbrev pub give_read : (fd n offset count : ℕ) → (List ℕ → Option above.Mark) → Carry → FilledMemory → P (Handover (List ℕ) Carry)
 give_read fd n offset count m c f =
-    Do (steps.Unlock (record { number = n; content = record_had (c n) }) (Some (fd, offset + f.count))) (λ a. acts (ReadFile fd n offset count) above.Room m)
+    Do (steps.Unlock (record { number = n; content = record_had (c n) }) (Some (fd, offset + f.count)))
+    (λ a. acts (ReadFile fd n offset count) above.Room m)
     (λ a. Ret (record { answer = f.bytes; carry = put c n Apart }))
 
 -- The part is read block by block, each as it was when the lock was had.

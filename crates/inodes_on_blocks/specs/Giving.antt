@@ -51,9 +51,13 @@ pub record GaveBlock (h n b : ℕ) (v w : World) : Type 0 where
   pub clear : is_marked (disk_of (log_of w)) b ≡ false
   pub free : w.owner b ≡ 0
   pub owned : (c : ℕ) → c ≢ b → IsData (log_of v).sizes c → v.owner c ≡ n → w.owner c ≡ n
-  pub content : (c : ℕ) → IsData (log_of v).sizes c → w.owner c ≡ n → (v.owner c ≡ n) × (recovered (disk_of (log_of w)) c ≡ recovered (disk_of (log_of v)) c)
-  pub named : (numbers : List ℕ) → NamesOwned (disk_of (log_of v)) v.owner n (b ∷ numbers) → NamesOwned (disk_of (log_of w)) w.owner n numbers
-  pub buffers : (k : ℕ) → k ≢ (log_of v).sizes.bmapstart → if_kept (holder_of k (log_of w).seats) h (buffer_in (log_of w) k) ≡ if_kept (holder_of k (log_of v).seats) h (buffer_in (log_of v) k)
+  pub content : (c : ℕ) → IsData (log_of v).sizes c → w.owner c ≡ n
+      → (v.owner c ≡ n) × (recovered (disk_of (log_of w)) c ≡ recovered (disk_of (log_of v)) c)
+  pub named : (numbers : List ℕ) → NamesOwned (disk_of (log_of v)) v.owner n (b ∷ numbers)
+      → NamesOwned (disk_of (log_of w)) w.owner n numbers
+  pub buffers : (k : ℕ) → k ≢ (log_of v).sizes.bmapstart
+      → if_kept (holder_of k (log_of w).seats) h (buffer_in (log_of w) k)
+      ≡ if_kept (holder_of k (log_of v).seats) h (buffer_in (log_of v) k)
   pub back : holder_of (log_of v).sizes.bmapstart (log_of w).seats ≡ None
   pub taken : (c : ℕ) → if_kept (w.taken c) h (seen_of (log_of w) c) ≡ if_kept (v.taken c) h (seen_of (log_of v) c)
   pub begun : undertaken h w ≡ undertaken h v
@@ -86,29 +90,41 @@ pub record GaveBlocks (h n : ℕ) (v w : World) : Type 0 where
   pub no_more : (i : ℕ) → lock_holder i (tables_of w) ≡ Some h → lock_holder i (tables_of v) ≡ Some h
   pub sizes : (log_of w).sizes ≡ (log_of v).sizes
   pub inode : inode_in (log_of w) n ≡ inode_in (log_of v) n
-  pub content : (c : ℕ) → IsData (log_of v).sizes c → w.owner c ≡ n → (v.owner c ≡ n) × (recovered (disk_of (log_of w)) c ≡ recovered (disk_of (log_of v)) c)
-  pub buffers : (k : ℕ) → k ≢ (log_of v).sizes.bmapstart → if_kept (holder_of k (log_of w).seats) h (buffer_in (log_of w) k) ≡ if_kept (holder_of k (log_of v).seats) h (buffer_in (log_of v) k)
+  pub content : (c : ℕ) → IsData (log_of v).sizes c → w.owner c ≡ n
+      → (v.owner c ≡ n) × (recovered (disk_of (log_of w)) c ≡ recovered (disk_of (log_of v)) c)
+  pub buffers : (k : ℕ) → k ≢ (log_of v).sizes.bmapstart
+      → if_kept (holder_of k (log_of w).seats) h (buffer_in (log_of w) k)
+      ≡ if_kept (holder_of k (log_of v).seats) h (buffer_in (log_of v) k)
   pub held : in_hand h w ≡ in_hand h v
   pub taken : (c : ℕ) → if_kept (w.taken c) h (seen_of (log_of w) c) ≡ if_kept (v.taken c) h (seen_of (log_of v) c)
   pub begun : undertaken h w ≡ undertaken h v
 
 -- ---- the laws
 
--- The program that gives a block of an inode back does so, whatever the other harts do, where the hart that runs it is changing the inode, and what its
--- transaction has spent has the bitmap: then the block's bit is clear and the block nobody's, and the hart has all else that it had. No operation acts above.
+-- The program that gives a block of an inode back does so, whatever the other harts do, where the hart that runs it is changing the inode,
+-- and what its
+-- transaction has spent has the bitmap: then the block's bit is clear and the block nobody's, and the hart has all else that it had. No
+-- operation acts above.
 abbrev pub BlocksAreGivenBack : Type 0
 BlocksAreGivenBack =
-    (sizes : Super) (h n b : ℕ) (s : Spent) (w : Both World above.World) → h < hart_count → IsChanging h n w.seen → w.seen.keeper n ≡ Some h → (w.seen.desks h).lender ≡ None
-    → lock_holder n (tables_of w.real) ≡ Some h → IsData sizes b → w.real.owner b ≡ n → in_hand h w.real ≤ 1 → holder_of sizes.bmapstart (log_of w.real).seats ≢ Some h
+    (sizes : Super) (h n b : ℕ) (s : Spent) (w : Both World above.World) → h < hart_count → IsChanging h n w.seen → w.seen.keeper n ≡ Some h
+    → (w.seen.desks h).lender ≡ None
+    → lock_holder n (tables_of w.real) ≡ Some h → IsData sizes b → w.real.owner b ≡ n → in_hand h w.real ≤ 1
+    → holder_of sizes.bmapstart (log_of w.real).seats ≢ Some h
     → s.bitmap ≡ true → size s ≤ most_recorded → HasSpent sizes h s w.real
-    → Wp (joined whole (below sizes)) h (λ es. es ≡ []) (λ a es x. (es ≡ []) × Gave h n b (IsChanging h n) w x × HasSpent sizes h s x.real) (free_block sizes.bmapstart b) 3 [] w
+    → Wp (joined whole (below sizes)) h (λ es. es ≡ []) (λ a es x. (es ≡ []) × Gave h n b (IsChanging h n) w x × HasSpent sizes h s x.real)
+    (free_block sizes.bmapstart b) 3 [] w
 
 -- So does the program that gives back the blocks with these numbers, which are all that the inode has: then it has none.
 abbrev pub NumbersAreGivenBack : Type 0
 NumbersAreGivenBack =
-    (sizes : Super) (h n : ℕ) (numbers : List ℕ) (s : Spent) (w : Both World above.World) → h < hart_count → IsChanging h n w.seen → w.seen.keeper n ≡ Some h → (w.seen.desks h).lender ≡ None
-    → lock_holder n (tables_of w.real) ≡ Some h → Owns sizes w.real.owner n numbers → NamesOwned (disk_of (log_of w.real)) w.real.owner n numbers → in_hand h w.real ≤ 1 → holder_of sizes.bmapstart (log_of w.real).seats ≢ Some h
+    (sizes : Super) (h n : ℕ) (numbers : List ℕ) (s : Spent) (w : Both World above.World) → h < hart_count → IsChanging h n w.seen
+    → w.seen.keeper n ≡ Some h → (w.seen.desks h).lender ≡ None
+    → lock_holder n (tables_of w.real) ≡ Some h → Owns sizes w.real.owner n numbers
+    → NamesOwned (disk_of (log_of w.real)) w.real.owner n numbers → in_hand h w.real ≤ 1
+    → holder_of sizes.bmapstart (log_of w.real).seats ≢ Some h
     → s.bitmap ≡ true → size s ≤ most_recorded → HasSpent sizes h s w.real
     → Wp (joined whole (below sizes)) h (λ es. es ≡ [])
-    (λ a es x. (es ≡ []) × IsChanging h n x.seen × Kept h w.seen x.seen × GaveBlocks h n w.real x.real × NamesOwned (disk_of (log_of x.real)) x.real.owner n [] × HasSpent sizes h s x.real)
+    (λ a es x. (es ≡ []) × IsChanging h n x.seen × Kept h w.seen x.seen × GaveBlocks h n w.real x.real
+    × NamesOwned (disk_of (log_of x.real)) x.real.owner n [] × HasSpent sizes h s x.real)
     (free_numbers sizes.bmapstart numbers (Ret (tt {0}))) (3 * length numbers) [] w

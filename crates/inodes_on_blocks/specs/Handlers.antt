@@ -42,7 +42,8 @@ abbrev pub acts : (op : above.Op) → above.Outside → (above.Answer op → Opt
 acts op y m = Some (record { op = op; outside = y; mark = m })
 
 -- a program of one step: its answer above, and what the hart has in hand after it
-abbrev pub one : (op : above.Op) (m : above.Answer op → Option above.Mark) (lop : steps.Op) → (steps.Answer lop → above.Answer op) → (steps.Answer lop → Carry) → P (Handover (above.Answer op) Carry)
+abbrev pub one : (op : above.Op) (m : above.Answer op → Option above.Mark) (lop : steps.Op) → (steps.Answer lop → above.Answer op)
+    → (steps.Answer lop → Carry) → P (Handover (above.Answer op) Carry)
 one op m lop answer carry = Do lop (λ a. acts op above.Room m) (λ a. Ret (record { answer = answer a; carry = carry a }))
 
 -- ---- answers

@@ -20,11 +20,14 @@ pub record HasBuffer (h b : ℕ) (bytes : List ℕ) (w : World) : Type 0 where
   pub holder : holder_of b (log_of w).seats ≡ Some h
   pub has : kept b (log_of w).seats ≡ Some bytes
 
--- Nothing of the hart's changed but block b's buffer: its locks and what those inodes hold, its other buffers, its transaction, its commit, its new inodes.
+-- Nothing of the hart's changed but block b's buffer: its locks and what those inodes hold, its other buffers, its transaction, its
+-- commit, its new inodes.
 pub record SameBut (h b : ℕ) (v w : World) : Type 0 where
   pub inodes : (i : ℕ) → lock_holder i (tables_of v) ≡ Some h → KeepsInode h i v w
   pub no_more : (i : ℕ) → lock_holder i (tables_of w) ≡ Some h → lock_holder i (tables_of v) ≡ Some h
-  pub buffers : (k : ℕ) → k ≢ b → if_kept (holder_of k (log_of w).seats) h (buffer_in (log_of w) k) ≡ if_kept (holder_of k (log_of v).seats) h (buffer_in (log_of v) k)
+  pub buffers : (k : ℕ) → k ≢ b
+      → if_kept (holder_of k (log_of w).seats) h (buffer_in (log_of w) k)
+      ≡ if_kept (holder_of k (log_of v).seats) h (buffer_in (log_of v) k)
   pub member : slice_get (log_of w).members h ≡ slice_get (log_of v).members h
   pub group : KeepsGroup h (log_of v) (log_of w)
   pub taken : (k : ℕ) → if_kept (w.taken k) h (seen_of (log_of w) k) ≡ if_kept (v.taken k) h (seen_of (log_of v) k)

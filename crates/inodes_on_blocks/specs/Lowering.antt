@@ -63,7 +63,8 @@ pub record IsThrough (h : ℕ) (r : World) : Type 0 where
 pub record Same (h : ℕ) (v w : World) : Type 0 where
   pub inodes : (i : ℕ) → lock_holder i (tables_of v) ≡ Some h → KeepsInode h i v w
   pub no_more : (i : ℕ) → lock_holder i (tables_of w) ≡ Some h → lock_holder i (tables_of v) ≡ Some h
-  pub buffers : (b : ℕ) → if_kept (holder_of b (log_of w).seats) h (buffer_in (log_of w) b) ≡ if_kept (holder_of b (log_of v).seats) h (buffer_in (log_of v) b)
+  pub buffers : (b : ℕ) → if_kept (holder_of b (log_of w).seats) h (buffer_in (log_of w) b)
+      ≡ if_kept (holder_of b (log_of v).seats) h (buffer_in (log_of v) b)
   pub held : count_of (is_held_by h) (log_of w).seats ≡ count_of (is_held_by h) (log_of v).seats
   pub member : slice_get (log_of w).members h ≡ slice_get (log_of v).members h
   pub group : KeepsGroup h (log_of v) (log_of w)

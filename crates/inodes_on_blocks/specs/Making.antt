@@ -1,4 +1,5 @@
--- The program below of the operation that takes a new inode. On a disk of these sizes; c: what the hart has of the inodes whose locks it has.
+-- The program below of the operation that takes a new inode. On a disk of these sizes; c: what the hart has of the inodes whose locks it
+-- has.
 use Rattle.std.specs.Prelude.{ℕ, zero, suc, ◌+◌, ◌<◌, ◌^◌, ℤ, List, Option, Some, None}
 use Rattle.fs_layout.specs.declared.superblock.Super.{Super}
 use Rattle.atomic_programs.specs.Prog.{Ret, Do, bind, unmarked}
@@ -41,19 +42,26 @@ claim_mark sort m n steps.NoPlace = acts (Claim sort) (above.RoomFor 0) m
 claim_mark sort m n steps.NoInode = if_last n (acts (Claim sort) above.Room m)
 
 -- The inode's record goes into the block with its type; or the block is given back as it was; or it was given back, and it goes on.
-abbrev pub claim_in : P (Handover above.ClaimResult Carry) → ℤ → (b : ℕ) → List ℕ → Carry → steps.ClaimResult → P (Handover above.ClaimResult Carry)
-claim_in more kind b block c (steps.Claims i) = Do (steps.Put b (Some (with_dinode i (new_record kind) block))) unmarked (λ _. answers (above.New i) c)
+abbrev pub claim_in : P (Handover above.ClaimResult Carry) → ℤ → (b : ℕ) → List ℕ → Carry → steps.ClaimResult
+    → P (Handover above.ClaimResult Carry)
+claim_in more kind b block c (steps.Claims i) =
+    Do (steps.Put b (Some (with_dinode i (new_record kind) block))) unmarked (λ _. answers (above.New i) c)
 claim_in more kind b block c steps.NoPlace = Do (steps.Put b None) unmarked (λ _. answers above.NoPlace c)
 claim_in more kind b block c steps.NoInode = more
 
 -- block b, of which q stand before it, and so many behind it
-abbrev pub claim_at : P (Handover above.ClaimResult Carry) → (sizes : Super) (sort : Sort) → Carry → (above.ClaimResult → Option above.Mark) → (n q b : ℕ) → List ℕ → P (Handover above.ClaimResult Carry)
-claim_at more sizes sort c m n q b block = Do (steps.Claim b (free_in sizes.ninodes q block)) (claim_mark sort m n) (claim_in more (kind_of sort) b block c)
+abbrev pub claim_at : P (Handover above.ClaimResult Carry) → (sizes : Super) (sort : Sort) → Carry → (above.ClaimResult → Option above.Mark)
+    → (n q b : ℕ) → List ℕ → P (Handover above.ClaimResult Carry)
+claim_at more sizes sort c m n q b block =
+    Do (steps.Claim b (free_in sizes.ninodes q block)) (claim_mark sort m n) (claim_in more (kind_of sort) b block c)
 
-unfoldable pub claim_from : ℕ → (sizes : Super) (sort : Sort) → Carry → (above.ClaimResult → Option above.Mark) → (q : ℕ) → P (Handover above.ClaimResult Carry)
+unfoldable pub claim_from : ℕ → (sizes : Super) (sort : Sort) → Carry → (above.ClaimResult → Option above.Mark) → (q : ℕ)
+    → P (Handover above.ClaimResult Carry)
 claim_from zero sizes sort c m q = answers above.NoInode c
-claim_from (suc n) sizes sort c m q = bind (fetch (sizes.inodestart + q)) (claim_at (claim_from n sizes sort c m (q + 1)) sizes sort c m n q (sizes.inodestart + q))
+claim_from (suc n) sizes sort c m q =
+    bind (fetch (sizes.inodestart + q)) (claim_at (claim_from n sizes sort c m (q + 1)) sizes sort c m n q (sizes.inodestart + q))
 
--- The table's blocks are looked through, rising: the first free inode without a reference is referred to, and its record put with the type alone.
+-- The table's blocks are looked through, rising: the first free inode without a reference is referred to, and its record put with the type
+-- alone.
 abbrev pub claim : (sizes : Super) (sort : Sort) → Handler (Claim sort)
 claim sizes sort c m = claim_from (inode_blocks sizes.ninodes) sizes sort c m 0

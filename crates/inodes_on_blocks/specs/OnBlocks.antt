@@ -23,6 +23,7 @@ abbrev pub shown : List (List ℕ) → List SeatState → Super → List (List �
 shown contents seats sizes = seen_blocks sizes (seen_in contents seats) (length contents)
 
 -- The nodes are on the seen blocks, but for those that a hart in a transaction is changing.
-pub record AreOnBlocks (contents : List (List ℕ)) (seats : List SeatState) (sizes : Super) (members : List (Option ℕ)) (g : Ghost) : Type 0 where
+pub record AreOnBlocks (contents : List (List ℕ)) (seats : List SeatState) (sizes : Super) (members : List (Option ℕ))
+    (g : Ghost) : Type 0 where
   pub seen : AreSeen sizes (seen_in contents seats) (length contents)
   pub running : IsRunning (shown contents seats sizes) g.nodes g.owner g.left g.changing (is_joined members)

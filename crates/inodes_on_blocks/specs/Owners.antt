@@ -5,7 +5,8 @@ use Rattle.image_tree.specs.Inodes.{named_by, last}
 use Rattle.image_laws.specs.Holds.{owner_upto}
 use Rattle.inode_machine.specs.Rules.{is_hart}
 
--- by block: the inode whose it is; whether its bit is set though it is no inode's; and the hart that has set that, until an inode names the block
+-- by block: the inode whose it is; whether its bit is set though it is no inode's; and the hart that has set that, until an inode names
+-- the block
 pub record Owners : Type 0 where
   pub owner : ℕ → ℕ
   pub left : ℕ → Bool

@@ -63,7 +63,11 @@ learned e (Some f) = Finds e f.slot
 
 -- what was seen of it, by its record, which is in hand from there on, with what else was learned
 abbrev pub seen_record : Carry → (n : ℕ) → Dinode → Knowledge → (found : Option ℕ) → (empty : Bool) → P (Handover Sight Carry)
-seen_record c n d l found empty = Ret (record { answer = record { face = if is_free d then None else Some (face_in d); found = found; empty = empty }; carry = put c n (Has d l) })
+seen_record c n d l found empty = Ret
+    (record {
+      answer = record { face = if is_free d then None else Some (face_in d); found = found; empty = empty };
+      carry = put c n (Has d l);
+    })
 
 -- what is looked for in it
 abbrev pub looked : Query → Carry → (n : ℕ) → Dinode → P (Handover Sight Carry)
@@ -73,4 +77,5 @@ looked AtEntries c n d = bind (search_entries d) (λ o. seen_record c n d Nothin
 
 -- It acts where the lock is had, as the other one does.
 abbrev pub take : Super → (n : ℕ) → (looking : Query) → Handler (Take n looking)
-take sizes n looking c m = Do (Lock n) (λ a. acts (Take n looking) above.Room m) (λ content. bind (load_unless sizes.inodestart n content) (looked looking c n))
+take sizes n looking c m =
+    Do (Lock n) (λ a. acts (Take n looking) above.Room m) (λ content. bind (load_unless sizes.inodestart n content) (looked looking c n))

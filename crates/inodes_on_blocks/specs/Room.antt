@@ -27,10 +27,13 @@ pub record GivesRoom (h b : ℕ) (Knows : World → Type 0) : Type 0 where
 abbrev pub HasSpent : Super → ℕ → Spent → World → Type 0
 HasSpent sizes h s w = ((log_of w).sizes ≡ sizes) × Accounts h (log_of w) s
 
--- An operation's program below does it, as DoesItAt says, where the hart's transaction has spent no more than s, and s with what the operation spends is no more
+-- An operation's program below does it, as DoesItAt says, where the hart's transaction has spent no more than s, and s with what the
+-- operation spends is no more
 -- than a transaction may.
 abbrev pub DoesItSpending : Super → (op : above.Op) → Handler op → Type 0
 DoesItSpending sizes op p =
-    (h : ℕ) (s : Spent) (m : above.Answer op → Option above.Mark) (c : Carry) (w : Both World above.World) → h < hart_count → size (spent_after op s) ≤ most_recorded
-    → Wp whole h (IsDone op) (Answers op) (once op m) (suc (more op)) [] w.seen → Stands sizes h w.real w.seen c → Accounts h (log_of w.real) s
+    (h : ℕ) (s : Spent) (m : above.Answer op → Option above.Mark) (c : Carry) (w : Both World above.World) → h < hart_count
+    → size (spent_after op s) ≤ most_recorded
+    → Wp whole h (IsDone op) (Answers op) (once op m) (suc (more op)) [] w.seen → Stands sizes h w.real w.seen c
+    → Accounts h (log_of w.real) s
     → Wp (joined whole (below sizes)) h (IsDone op) (Below whole (below sizes) h (Answers op)) (p c m) (suc (more op)) [] w

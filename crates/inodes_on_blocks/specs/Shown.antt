@@ -54,9 +54,11 @@ pub record IsNew (n h : ℕ) (l : LogPart) (lock keeper : ℕ → Option ℕ) (l
   pub joined : is_joined l.members h ≡ true
   pub unloaded : load n ≡ None
 
--- What is loaded of an inode is as it is seen. One without links, to which a reference stands and which no hart keeps, is loaded; of one without a type
+-- What is loaded of an inode is as it is seen. One without links, to which a reference stands and which no hart keeps, is loaded; of one
+-- without a type
 -- nothing is.
-pub record LoadsShow (load : ℕ → Option Dinode) (l : LogPart) (refs : ℕ → ℕ) (lock keeper : ℕ → Option ℕ) (nodes : ℕ → Option Node) : Type 0 where
+pub record LoadsShow (load : ℕ → Option Dinode) (l : LogPart) (refs : ℕ → ℕ) (lock keeper : ℕ → Option ℕ)
+    (nodes : ℕ → Option Node) : Type 0 where
   pub seen : (n : ℕ) (d : Dinode) → load n ≡ Some d → d ≡ inode_in l n
   pub dead : (n : ℕ) → 0 < refs n → lock n ≡ None → keeper n ≡ None → is_dead (nodes n) ≡ true → IsSome (load n)
   pub typed : (n : ℕ) → nodes n ≡ None → load n ≡ None
@@ -88,7 +90,8 @@ pub record Shows (r : World) (w : above.World) : Type 0 where
   pub size : w.all.ninodes ≡ (log_of r).sizes.ninodes
   pub tables : tables.Shows (tables_of r) w (loaded (tables_of r))
   pub members : MembersShow (log_of r).members w.desks
-  pub blocks : AreOnBlocks (log_of r).contents (log_of r).seats (log_of r).sizes (log_of r).members (ghost_of r.owner r.left (on_blocks r.new w.disk) w.lock w.desks)
+  pub blocks : AreOnBlocks (log_of r).contents (log_of r).seats (log_of r).sizes (log_of r).members
+      (ghost_of r.owner r.left (on_blocks r.new w.disk) w.lock w.desks)
   pub news : (n h : ℕ) → r.new n ≡ Some h → IsNew n h (log_of r) w.lock w.keeper (loaded (tables_of r))
   pub bytes : AreBytes (log_of r)
   pub taken : TakenShow (log_of r).sizes r.owner r.left r.taken

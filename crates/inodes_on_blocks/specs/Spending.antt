@@ -48,7 +48,8 @@ LeadsTo sizes s op r = r ≡ s
 -- from s on the program comes to no more than t, whatever its steps answer
 abbrev pub Records : Super → {A : Type 0} → Spent → P A → Spent → Type 0
 Records sizes s (Ret a) t = NoMore s t
-Records sizes s (Do op m k) t = (q : Spent) × NoMore s q × ((a : steps.Answer op) → (r : Spent) × LeadsTo sizes q op r × Records sizes r (k a) t)
+Records sizes s (Do op m k) t =
+    (q : Spent) × NoMore s q × ((a : steps.Answer op) → (r : Spent) × LeadsTo sizes q op r × Records sizes r (k a) t)
 
 -- an operation's program records what the operation spends
 abbrev pub Spends : Super → (op : above.Op) → Handler op → Type 0
@@ -88,24 +89,32 @@ pub record ProgramsSpend (sizes : Super) : Type 0 where
 
 -- ---- within a call's transactions
 
--- whatever the operation alone is shown to do above, under any history, this program does below, where the hart's transaction has spent no more than s, and s with
+-- whatever the operation alone is shown to do above, under any history, this program does below, where the hart's transaction has spent no
+-- more than s, and s with
 -- what the operation spends is no more than it may; and then it has spent no more than that
 abbrev pub ActsWithin : Super → (l : Labels) → ℕ → (op : above.Op) → (above.Answer op → Option above.Mark) → Handler op → Type 1
 ActsWithin sizes l h op m p =
-    (c : Carry) (s : Spent) (B : List l.Step → Type 0) (C : above.Answer op → List l.Step → above.World → Type 0) (es : List l.Step) (w : Both World above.World)
-    → Lasts (labelled l) h B C → Wp (labelled l) h B C (once op m) (suc (more op)) es w.seen → Stands sizes h w.real w.seen c → size (spent_after op s) ≤ most_recorded → HasSpent sizes h s w.real
-    → Wp (joined (labelled l) (below sizes)) h B (λ r fs u. Below (labelled l) (below sizes) h C r fs u × HasSpent sizes h (spent_after op s) u.real) (p c m) (suc (more op)) es w
+    (c : Carry) (s : Spent) (B : List l.Step → Type 0) (C : above.Answer op → List l.Step → above.World → Type 0) (es : List l.Step)
+    (w : Both World above.World)
+    → Lasts (labelled l) h B C → Wp (labelled l) h B C (once op m) (suc (more op)) es w.seen → Stands sizes h w.real w.seen c
+    → size (spent_after op s) ≤ most_recorded → HasSpent sizes h s w.real
+    → Wp (joined (labelled l) (below sizes)) h B
+    (λ r fs u. Below (labelled l) (below sizes) h C r fs u × HasSpent sizes h (spent_after op s) u.real) (p c m) (suc (more op)) es w
 
 -- the same with the history that is the operations themselves
 abbrev pub DoesItWithin : Super → (op : above.Op) → Handler op → Type 0
 DoesItWithin sizes op p =
-    (h : ℕ) (s : Spent) (m : above.Answer op → Option above.Mark) (c : Carry) (w : Both World above.World) → h < hart_count → size (spent_after op s) ≤ most_recorded
-    → Wp whole h (IsDone op) (Answers op) (once op m) (suc (more op)) [] w.seen → Stands sizes h w.real w.seen c → Accounts h (log_of w.real) s
-    → Wp (joined whole (below sizes)) h (IsDone op) (λ r es u. Below whole (below sizes) h (Answers op) r es u × HasSpent sizes h (spent_after op s) u.real) (p c m) (suc (more op)) [] w
+    (h : ℕ) (s : Spent) (m : above.Answer op → Option above.Mark) (c : Carry) (w : Both World above.World) → h < hart_count
+    → size (spent_after op s) ≤ most_recorded
+    → Wp whole h (IsDone op) (Answers op) (once op m) (suc (more op)) [] w.seen → Stands sizes h w.real w.seen c
+    → Accounts h (log_of w.real) s
+    → Wp (joined whole (below sizes)) h (IsDone op)
+    (λ r es u. Below whole (below sizes) h (Answers op) r es u × HasSpent sizes h (spent_after op s) u.real) (p c m) (suc (more op)) [] w
 
 -- A program that records what its operation spends, and does it where the transaction has room for that, leaves no more spent.
 abbrev pub ProgramsStayWithin : Type 0
-ProgramsStayWithin = (sizes : Super) (op : above.Op) (p : Handler op) → Spends sizes op p → DoesItSpending sizes op p → DoesItWithin sizes op p
+ProgramsStayWithin =
+    (sizes : Super) (op : above.Op) (p : Handler op) → Spends sizes op p → DoesItSpending sizes op p → DoesItWithin sizes op p
 
 -- So those of the operations that record.
 pub record RecordingsStayWithin (sizes : Super) : Type 0 where

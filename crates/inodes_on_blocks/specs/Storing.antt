@@ -1,4 +1,5 @@
--- The programs below of operations that change an inode's record. On a disk of these sizes; c: what the hart has of the inodes whose locks it has.
+-- The programs below of operations that change an inode's record. On a disk of these sizes; c: what the hart has of the inodes whose locks
+-- it has.
 use Rattle.std.specs.Prelude.{ℕ, pos, List, Option, Some}
 use Rattle.std.specs.Option.{unwrap_or}
 use Rattle.fs_layout.specs.declared.superblock.Super.{Super}
@@ -19,7 +20,8 @@ abbrev pub record_in : Carry → ℕ → Dinode
 record_in c n = unwrap_or (record_had (c n)) no_record
 
 -- The inode goes into its block as this record, and the hart has `had` of it from then on; there the operation acts.
-abbrev pub put_record : (op : above.Op) → (above.Answer op → Option above.Mark) → above.Answer op → (b n : ℕ) → Dinode → (had : Had) → Carry → List ℕ → P (Handover (above.Answer op) Carry)
+abbrev pub put_record : (op : above.Op) → (above.Answer op → Option above.Mark) → above.Answer op → (b n : ℕ) → Dinode → (had : Had) → Carry
+    → List ℕ → P (Handover (above.Answer op) Carry)
 put_record op m answer b n d had c block =
     Do (steps.Put b (Some (with_dinode n d block))) (λ a. acts op above.Room m) (λ a. Ret (record { answer = answer; carry = put c n had }))
 
@@ -27,4 +29,5 @@ put_record op m answer b n d had c block =
 abbrev pub store : (sizes : Super) (n count : ℕ) → Handler (Store n count)
 store sizes n count c m =
     let d : Dinode = record (record_in c n) { nlink = pos count } in
-    bind (fetch (inode_block sizes.inodestart n)) (put_record (Store n count) m tt (inode_block sizes.inodestart n) n d (Has d NothingMore) c)
+    bind (fetch (inode_block sizes.inodestart n))
+    (put_record (Store n count) m tt (inode_block sizes.inodestart n) n d (Has d NothingMore) c)

@@ -30,7 +30,8 @@ pub record HasTaken (sizes : Super) (h b : ℕ) (r : World) : Type 0 where
   pub unowned : r.owner b ≡ 0
   pub zeros_are : recovered (disk_of (log_of r)) b ≡ zeros
 
--- Where it goes on, from w, at v: it is changing inode n still, whose record d names what it named, with the same content; and has its other inodes, and no buffer.
+-- Where it goes on, from w, at v: it is changing inode n still, whose record d names what it named, with the same content; and has its
+-- other inodes, and no buffer.
 pub record ChangesStill (h n : ℕ) (c : Carry) (d : Dinode) (x : Node) (w v : Both World above.World) : Type 0 where
   pub changing : IsChanging h n v.seen
   pub kept : Kept h w.seen v.seen
@@ -44,10 +45,15 @@ abbrev pub TookOne : Super → ℕ → Spent → Option ℕ → World → Type 0
 TookOne sizes h s None r = HasSpent sizes h s r
 TookOne sizes h s (Some b) r = HasTaken sizes h b r × HasSpent sizes h (with_contents 1 s) r
 
--- The program that takes a block does so for an inode that the hart is changing, whatever the other harts do, where what its transaction has spent has the bitmap and
+-- The program that takes a block does so for an inode that the hart is changing, whatever the other harts do, where what its transaction
+-- has spent has the bitmap and
 -- is less than ten blocks; or no block is free. No operation acts above.
 abbrev pub BlocksAreTaken : Type 0
 BlocksAreTaken =
-    (sizes : Super) (h n : ℕ) (c : Carry) (x : Node) (s : Spent) (w : Both World above.World) → h < hart_count → IsChanging h n w.seen → (w.seen.desks h).lender ≡ None
-    → Stands sizes h w.real w.seen c → lock_holder n (tables_of w.real) ≡ Some h → w.seen.disk n ≡ Some x → s.bitmap ≡ true → size s < most_recorded → HasSpent sizes h s w.real
-    → Wp (joined whole (below sizes)) h (λ es. es ≡ []) (λ a es v. (es ≡ []) × ChangesStill h n c (inode_in (log_of w.real) n) x w v × TookOne sizes h s a v.real) (take_block sizes.bmapstart sizes.size) 6 [] w
+    (sizes : Super) (h n : ℕ) (c : Carry) (x : Node) (s : Spent) (w : Both World above.World) → h < hart_count → IsChanging h n w.seen
+    → (w.seen.desks h).lender ≡ None
+    → Stands sizes h w.real w.seen c → lock_holder n (tables_of w.real) ≡ Some h → w.seen.disk n ≡ Some x → s.bitmap ≡ true
+    → size s < most_recorded → HasSpent sizes h s w.real
+    → Wp (joined whole (below sizes)) h (λ es. es ≡ [])
+    (λ a es v. (es ≡ []) × ChangesStill h n c (inode_in (log_of w.real) n) x w v × TookOne sizes h s a v.real)
+    (take_block sizes.bmapstart sizes.size) 6 [] w

@@ -21,11 +21,13 @@ use Rattle.inodes_on_blocks.specs.Handlers.{P, Handler, acts, one}
 
 -- why a piece isn't written: its offset is past the size, or its end past that of the greatest content
 abbrev pub refused_in : Dinode → (offset : ℕ) → List ℕ → Option Cause
-refused_in d offset bytes = if nat_lt d.size offset then Some causes.BadOffset else (if nat_lt most_bytes (offset + length bytes) then Some causes.TooBig else None)
+refused_in d offset bytes =
+    if nat_lt d.size offset then Some causes.BadOffset else (if nat_lt most_bytes (offset + length bytes) then Some causes.TooBig else None)
 
 -- the lock is given up as it was
 abbrev pub deny_write : (fd n offset : ℕ) (bytes : List ℕ) → (Wrote → Option above.Mark) → Carry → Cause → P (Handover Wrote Carry)
-deny_write fd n offset bytes m c why = one (WriteFile fd n offset bytes) m (steps.Unlock (record { number = n; content = record_had (c n) }) None) (λ a. Refused why) (λ a. put c n Apart)
+deny_write fd n offset bytes m c why = one (WriteFile fd n offset bytes) m
+    (steps.Unlock (record { number = n; content = record_had (c n) }) None) (λ a. Refused why) (λ a. put c n Apart)
 
 -- what is answered where the bytes are written up to an offset, and of what lies outside
 abbrev pub wrote_to : (offset : ℕ) → List ℕ → (upto : ℕ) → Wrote
@@ -37,10 +39,12 @@ room_to offset bytes upto = if upto == offset + length bytes then above.Room els
 -- The lock is given up, and the offset moves to where the bytes end that were written: there the operation acts.
 abbrev pub give_written : (fd n offset : ℕ) (bytes : List ℕ) → (Wrote → Option above.Mark) → Carry → WriteResult → P (Handover Wrote Carry)
 give_written fd n offset bytes m c w =
-    Do (steps.Unlock (record { number = n; content = Some w.inode }) (Some (fd, w.upto))) (λ a. acts (WriteFile fd n offset bytes) (room_to offset bytes w.upto) m)
+    Do (steps.Unlock (record { number = n; content = Some w.inode }) (Some (fd, w.upto)))
+    (λ a. acts (WriteFile fd n offset bytes) (room_to offset bytes w.upto) m)
     (λ a. Ret (record { answer = wrote_to offset bytes w.upto; carry = put c n Apart }))
 
-abbrev pub write_unless : Super → (fd n offset : ℕ) (bytes : List ℕ) → (Wrote → Option above.Mark) → Carry → Option Cause → P (Handover Wrote Carry)
+abbrev pub write_unless : Super → (fd n offset : ℕ) (bytes : List ℕ) → (Wrote → Option above.Mark) → Carry → Option Cause
+    → P (Handover Wrote Carry)
 write_unless sizes fd n offset bytes m c (Some why) = deny_write fd n offset bytes m c why
 write_unless sizes fd n offset bytes m c None = bind (write_part sizes n (record_in c n) offset bytes) (give_written fd n offset bytes m c)
 
@@ -52,4 +56,5 @@ write_file sizes fd n offset bytes c m = write_unless sizes fd n offset bytes m 
 
 -- Where some bytes are to be written this program does the operation, as the others do theirs that record.
 abbrev pub WritesActOnce : Super → Type 0
-WritesActOnce sizes = (fd n offset : ℕ) (bytes : List ℕ) → 0 < length bytes → IsBytes bytes → DoesItWithin sizes (WriteFile fd n offset bytes) (write_file sizes fd n offset bytes)
+WritesActOnce sizes = (fd n offset : ℕ) (bytes : List ℕ) → 0 < length bytes → IsBytes bytes
+    → DoesItWithin sizes (WriteFile fd n offset bytes) (write_file sizes fd n offset bytes)

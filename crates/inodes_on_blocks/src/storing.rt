@@ -25,7 +25,8 @@ pub fn frees_act_once()
     ensures { (sizes : Super) (n : ℕ) → DoesItSpending sizes (Free n) (free sizes n) }
 {}
 
-/// A name cleared acts where the directory's record is put, after the first slot of that name was put free: the one that the hart has found, else
+/// A name cleared acts where the directory's record is put, after the first slot of that name was put free: the one that the hart has
+/// found, else
 /// it is looked for.
 pub fn clears_act_once()
     ensures { (sizes : Super) (n : ℕ) (name : Name) → DoesItSpending sizes (Clear n name) (clear sizes n name) }

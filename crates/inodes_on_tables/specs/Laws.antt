@@ -26,7 +26,8 @@ use Rattle.inodes_on_tables.specs.Shown.{loaded, Shows, BothCame, Runs, file_of,
 abbrev pub LocksAreTaken : Type 0
 LocksAreTaken =
     (h n : ℕ) (looking : Query) (t : TablesState) (w : World) (load : ℕ → Option Dinode) → Shows t w load → 0 < w.refs n
-    → BothCame (λ content seen. (content ≡ load n) × (seen ≡ seen_in n looking (w.disk n))) (λ content. put load n None) (lock_inode h n t) (exec h Room (Take n looking) w)
+    → BothCame (λ content seen. (content ≡ load n) × (seen ≡ seen_in n looking (w.disk n))) (λ content. put load n None) (lock_inode h n t)
+    (exec h Room (Take n looking) w)
 
 -- it is given back with this inode
 abbrev pub LocksAreGiven : Type 0
@@ -42,13 +43,15 @@ ReferencesAreCounted =
 
 abbrev pub StartsAreCounted : Type 0
 StartsAreCounted =
-    (h : ℕ) (absolute : Bool) (t : TablesState) (w : World) (load : ℕ → Option Dinode) → Shows t w load → 1 ≤ start_number (w.desks h) absolute → start_number (w.desks h) absolute < w.all.ninodes
+    (h : ℕ) (absolute : Bool) (t : TablesState) (w : World) (load : ℕ → Option Dinode) → Shows t w load
+    → 1 ≤ start_number (w.desks h) absolute → start_number (w.desks h) absolute < w.all.ninodes
     → BothCame (λ a b. a ≡ b) (λ a. load) (up_inode (start_number (w.desks h) absolute) t) (exec h Room (UpStart absolute) w)
 
 -- the hart's directory is the desk's
 abbrev pub DirectoriesAreStarts : Type 0
 DirectoriesAreStarts =
-    (h : ℕ) (t : TablesState) (w : World) (load : ℕ → Option Dinode) → Shows t w load → h < hart_count → up_directory h t ≡ up_inode (start_number (w.desks h) false) t
+    (h : ℕ) (t : TablesState) (w : World) (load : ℕ → Option Dinode) → Shows t w load → h < hart_count
+    → up_directory h t ≡ up_inode (start_number (w.desks h) false) t
 
 -- One reference less. Where it is the last one nobody has the lock, and what is loaded tells whether the inode has links.
 pub record MayDie (n : ℕ) (w : World) (load : ℕ → Option Dinode) : Type 0 where
@@ -65,12 +68,14 @@ load_after n refs load (Dies m d) = put load n None
 abbrev pub WalksDropReferences : Type 0
 WalksDropReferences =
     (h n : ℕ) (t : TablesState) (w : World) (load : ℕ → Option Dinode) → Shows t w load → MayDie n w load
-    → BothCame (λ a last. a ≡ (if last then Keeps else Counts)) (load_after n (w.refs n) load) (drop_walked n t) (exec h Room (WalkDown n) w)
+    → BothCame (λ a last. a ≡ (if last then Keeps else Counts)) (load_after n (w.refs n) load) (drop_walked n t)
+    (exec h Room (WalkDown n) w)
 
 abbrev pub ReferencesAreDropped : Type 0
 ReferencesAreDropped =
     (h n : ℕ) (t : TablesState) (w : World) (load : ℕ → Option Dinode) → Shows t w load → MayDie n w load
-    → BothCame (λ a last. a ≡ (if last then Dies n (load n) else Counts)) (load_after n (w.refs n) load) (drop_inode h n t) (exec h Room (Down n) w)
+    → BothCame (λ a last. a ≡ (if last then Dies n (load n) else Counts)) (load_after n (w.refs n) load) (drop_inode h n t)
+    (exec h Room (Down n) w)
 
 -- A place for an open file comes into the hart's hand.
 abbrev pub PlacesAreTaken : Type 0
@@ -81,7 +86,8 @@ PlacesAreTaken =
 -- A file is opened there, at its beginning, by the lowest free descriptor; where there is none the place is given back.
 abbrev pub FilesAreOpened : Type 0
 FilesAreOpened =
-    (h : ℕ) (f : OpenFile) (sort : Sort) (t : TablesState) (w : World) (load : ℕ → Option Dinode) → Shows t w load → Inv w → Runs h w → (w.desks h).hand ≢ None → f.offset ≡ 0
+    (h : ℕ) (f : OpenFile) (sort : Sort) (t : TablesState) (w : World) (load : ℕ → Option Dinode) → Shows t w load → Inv w → Runs h w
+    → (w.desks h).hand ≢ None → f.offset ≡ 0
     → BothCame (λ a b. a ≡ b) (λ a. load) (open_file h f.number (new_file f sort) t) (exec h Room (Install f sort) w)
 
 -- One more descriptor names what a descriptor names.
@@ -93,7 +99,8 @@ DescriptorsAreDoubled =
 -- A descriptor goes, and with the last one its open file.
 abbrev pub DescriptorsAreShut : Type 0
 DescriptorsAreShut =
-    (h fd : ℕ) (t : TablesState) (w : World) (load : ℕ → Option Dinode) → Shows t w load → Inv w → Runs h w → ((i : ℕ) → (w.desks h).lent i ≡ None)
+    (h fd : ℕ) (t : TablesState) (w : World) (load : ℕ → Option Dinode) → Shows t w load → Inv w → Runs h w
+    → ((i : ℕ) → (w.desks h).lent i ≡ None)
     → BothCame (λ a b. a ≡ shut_as b) (λ a. load) (shut_descriptor h fd t) (exec h Room (Shut fd) w)
 
 -- A lock is given back with this inode, which is the hart's directory then.
@@ -133,29 +140,35 @@ FitsRead load (Some e) None a b = (a ≡ Locks (file_of e) (load e.file.number))
 abbrev pub FilesAreLockedToRead : Type 0
 FilesAreLockedToRead =
     (h fd : ℕ) (t : TablesState) (w : World) (load : ℕ → Option Dinode) → Shows t w load → Inv w → Runs h w
-    → BothCame (FitsRead load (entry_of w h fd) (read_refused (entry_of w h fd))) (load_locked load) (lock_file h want.Read fd t) (exec h Room (LockFile fd) w)
+    → BothCame (FitsRead load (entry_of w h fd) (read_refused (entry_of w h fd))) (load_locked load) (lock_file h want.Read fd t)
+    (exec h Room (LockFile fd) w)
 
 -- A lock is given back with this inode, and the offset of what a descriptor names moves.
 abbrev pub OffsetsAreMoved : Type 0
 OffsetsAreMoved =
-    (h fd by : ℕ) (e : Entry) (v : Inode) (t : TablesState) (w : World) (load : ℕ → Option Dinode) → Shows t w load → Inv w → Runs h w → w.lock v.number ≡ Some h → entry_of w h fd ≡ Some e
-    → Shows (unlock_inode h v (Some (fd, e.file.offset + by)) t) (with_offset (record w { lock = put w.lock v.number None }) (slot_at w h fd) e by) (put load v.number v.content)
+    (h fd by : ℕ) (e : Entry) (v : Inode) (t : TablesState) (w : World) (load : ℕ → Option Dinode) → Shows t w load → Inv w → Runs h w
+    → w.lock v.number ≡ Some h → entry_of w h fd ≡ Some e
+    → Shows (unlock_inode h v (Some (fd, e.file.offset + by)) t)
+    (with_offset (record w { lock = put w.lock v.number None }) (slot_at w h fd) e by) (put load v.number v.content)
 
 -- A hart's next descriptor is handed on to the child that it serves, or its directory where it has none.
 abbrev pub DescriptorsAreGiven : Type 0
 DescriptorsAreGiven =
-    (h child from : ℕ) (t : TablesState) (w : World) (load : ℕ → Option Dinode) → Shows t w load → Inv w → Runs h w → Asks h (Lend child from) w → from ≤ descriptor_count
+    (h child from : ℕ) (t : TablesState) (w : World) (load : ℕ → Option Dinode) → Shows t w load → Inv w → Runs h w
+    → Asks h (Lend child from) w → from ≤ descriptor_count
     → BothCame (λ a b. a ≡ given_as b) (λ a. load) (give_next h child from t) (exec h Room (Lend child from) w)
 
 -- The directory is, past the last descriptor.
 abbrev pub DirectoriesAreGiven : Type 0
 DirectoriesAreGiven =
-    (h child : ℕ) (t : TablesState) (w : World) (load : ℕ → Option Dinode) → Shows t w load → Inv w → Runs h w → Asks h (LendDirectory child) w
+    (h child : ℕ) (t : TablesState) (w : World) (load : ℕ → Option Dinode) → Shows t w load → Inv w → Runs h w
+    → Asks h (LendDirectory child) w
     → BothCame (λ a b. a ≡ given.Directory b) (λ a. load) (give_next h child descriptor_count t) (exec h Room (LendDirectory child) w)
 
 -- Where the child is released the tables stay.
 abbrev pub ChildrenAreReleased : Type 0
-ChildrenAreReleased = (h child : ℕ) (t : TablesState) (w : World) (load : ℕ → Option Dinode) → Shows t w load → Inv w → Runs h w → Asks h (Release child) w → Shows t (released w h child) load
+ChildrenAreReleased = (h child : ℕ) (t : TablesState) (w : World) (load : ℕ → Option Dinode) → Shows t w load → Inv w → Runs h w
+    → Asks h (Release child) w → Shows t (released w h child) load
 
 -- Fresh tables show a world at rest whose harts are all in the root.
 abbrev pub FreshTablesShow : Type 0

@@ -48,7 +48,8 @@ abbrev pub loaded : TablesState → ℕ → Option Dinode
 loaded t n = loaded_in t.locks (place_of n t.entries)
 
 -- the counts of references, who has the locks, and what is loaded
-pub record PlacesShow (entries : List places.Entry) (locks : List (SlotState Inode)) (refs : ℕ → ℕ) (lock : ℕ → Option ℕ) (load : ℕ → Option Dinode) : Type 0 where
+pub record PlacesShow (entries : List places.Entry) (locks : List (SlotState Inode)) (refs : ℕ → ℕ) (lock : ℕ → Option ℕ)
+    (load : ℕ → Option Dinode) : Type 0 where
   pub counts : (n : ℕ) → refs n ≡ references_in entries (place_of n entries)
   pub holders : (n : ℕ) → lock n ≡ holder_in locks (place_of n entries)
   pub loads : (n : ℕ) → load n ≡ loaded_in locks (place_of n entries)
@@ -62,7 +63,8 @@ kind_of OfFile = pos 2
 kind_of (OfDevice major) = pos 3
 
 abbrev pub file_of : Entry → tables.OpenFile
-file_of e = record { number = e.file.number; kind = kind_of e.sort; readable = e.file.readable; writable = e.file.writable; offset = e.file.offset }
+file_of e =
+    record { number = e.file.number; kind = kind_of e.sort; readable = e.file.readable; writable = e.file.writable; offset = e.file.offset }
 
 -- what is told of a file that is opened
 abbrev pub new_file : OpenFile → Sort → NewFile
@@ -101,7 +103,8 @@ pub record DeskShows (d : cards.Desk) (fds : ℕ → Option ℕ) (cwd : ℕ) (pl
   pub hand : d.hand ≡ place
 
 abbrev pub DesksShow : List cards.Desk → (ℕ → Desk) → Type 0
-DesksShow list desks = (g : ℕ) → g < hart_count → (d : cards.Desk) × (slice_get list g ≡ Some d) × DeskShows d (descriptor desks g) (desks g).directory (desks g).hand
+DesksShow list desks = (g : ℕ) → g < hart_count
+    → (d : cards.Desk) × (slice_get list g ≡ Some d) × DeskShows d (descriptor desks g) (desks g).directory (desks g).hand
 
 -- a hart with a call: no other hart hands its descriptors to it
 pub record Runs (h : ℕ) (w : World) : Type 0 where

@@ -49,7 +49,8 @@ module _ (m : MoveMachine) where
   told_of [] = None
   told_of (p ∷ ps) = p.1.told
 
-  -- an event that came to this, and led from this stage to that one, with what it tells: a step that ran is written, with the walks that are lost by it
+  -- an event that came to this, and led from this stage to that one, with what it tells: a step that ran is written, with the walks that
+  -- are lost by it
   abbrev pub kept_start : {Did Refusal : Type 0} → ℕ → Call → Outcome Did Reply Refusal → History → History
   kept_start h call Started b = starts b h call
   kept_start h call (Refused why) b = passes b
@@ -70,7 +71,8 @@ module _ (m : MoveMachine) where
   kept_step h DidStop n n' d b = passes b
   kept_step h WasStopped n n' d b = passes b
 
-  abbrev pub kept_by : {Did Refusal : Type 0} → Event Call m.Outside → Outcome Did Reply Refusal → Stage → Stage → Option Deed → History → History
+  abbrev pub kept_by : {Did Refusal : Type 0} → Event Call m.Outside → Outcome Did Reply Refusal → Stage → Stage → Option Deed → History
+      → History
   kept_by (Start h call) came n n' d b = kept_start h call came b
   kept_by (Step h x) came n n' d b = kept_step h came n n' d b
 
@@ -93,7 +95,8 @@ module _ (m : MoveMachine) where
 
   -- where no path climbs
   abbrev pub RunsHaveTheHistory : Type 0
-  RunsHaveTheHistory = (base : TreeData) (w : m.World) (events : List (Event Call m.Outside)) → RunsFrom m base w events → NoneClimbs events → IsTheHistory base w events
+  RunsHaveTheHistory = (base : TreeData) (w : m.World) (events : List (Event Call m.Outside)) → RunsFrom m base w events → NoneClimbs events
+      → IsTheHistory base w events
 
 -- ---- in code: the same, of a tree that is kept with its walks
 
@@ -102,7 +105,8 @@ abbrev pub told_by_move : Stage → ℕ → ℕ → Move → Option Deed
 told_by_move m h id v = (made_by m.tree h id (m.walk h) v).told
 
 abbrev pub stage_by : Stage → ℕ → ℕ → Move → Stage
-stage_by m h id v = record { tree = settle (made_by m.tree h id (m.walk h) v).all; walk = put m.walk h (made_by m.tree h id (m.walk h) v).walk }
+stage_by m h id v =
+    record { tree = settle (made_by m.tree h id (m.walk h) v).all; walk = put m.walk h (made_by m.tree h id (m.walk h) v).walk }
 
 -- a hart's event with this move: what code keeps goes on so
 abbrev pub moved : runs.World → ℕ → ℕ → Option Move → Option Reply → runs.World

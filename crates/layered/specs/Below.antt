@@ -38,10 +38,12 @@ module _ (U : Machine) (R : Lower U.World) (handler : Handlers U R) {Heard : Typ
     pub control : Control
     pub part : PartOf
 
-  abbrev pub running_of : {Control PartOf A : Type 0} → (Control → P U A) → (PartOf → Part) → Running Control PartOf → Prog R.Op R.Answer ⊥ A
+  abbrev pub running_of : {Control PartOf A : Type 0} → (Control → P U A) → (PartOf → Part) → Running Control PartOf
+      → Prog R.Op R.Answer ⊥ A
   running_of program_of part_of r = with_part (part_of r.part) (program_of r.control)
 
-  module _ {Control PartOf Handed A B K : Type 0} (program_of : Control → P U A) (part_of : PartOf → Part) (handed_as : Handed → Handover Heard R.Carry) (reply_of : B → A) where
+  module _ {Control PartOf Handed A B K : Type 0} (program_of : Control → P U A) (part_of : PartOf → Part)
+      (handed_as : Handed → Handover Heard R.Carry) (reply_of : B → A) where
     -- the control has heard what the part came to: it asks, and the next part has begun; or the call has ended
     abbrev pub GoesOn : Control → Handed → Stepped (Running Control PartOf) B K → K → Type 0
     GoesOn c x (Waits r) kind = ⊥
@@ -67,5 +69,6 @@ module _ (U : Machine) (R : Lower U.World) (handler : Handlers U R) {Heard : Typ
   abbrev pub IsMarkedPart : R.Carry → (op : U.Op) → MarkedPart op → Type 0
   IsMarkedPart c op q = (m : U.Answer op → Option U.Mark) → handler c op m ≡ bind (q m) (λ r. Ret (handed op r))
 
-  abbrev pub with_marked : {A : Type 0} → (op : U.Op) → MarkedPart op → (U.Answer op → Option U.Mark) → (U.Answer op → P U A) → Prog R.Op R.Answer (ActOf U) A
+  abbrev pub with_marked : {A : Type 0} → (op : U.Op) → MarkedPart op → (U.Answer op → Option U.Mark) → (U.Answer op → P U A)
+      → Prog R.Op R.Answer (ActOf U) A
   with_marked op q m k = bind (q m) (λ r. lowered U R handler r.carry (k (answer_to op r.answer)))

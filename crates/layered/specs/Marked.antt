@@ -1,4 +1,5 @@
--- A theory whose operations tell at which answers they are marked: so code knows of a program, once its marks are left out, where they were.
+-- A theory whose operations tell at which answers they are marked: so code knows of a program, once its marks are left out, where they
+-- were.
 use Rattle.std.specs.Prelude.{Bool, is_some}
 use Rattle.atomic_programs.specs.Prog.{Prog, Ret, Do}
 use Rattle.atomic_programs.specs.Logic.{Machine}
@@ -35,7 +36,8 @@ abbrev pub telling : {Op : Type 0} (Answer : Op → Type 0) → (o : (op : Op) �
 telling Answer o = Answer o.0
 
 -- each operation with what tells its mark
-abbrev pub carrying : {Op : Type 0} {Answer : Op → Type 0} {M A : Type 0} → Prog Op Answer M A → Prog ((op : Op) × (Answer op → Bool)) (telling Answer) M A
+abbrev pub carrying : {Op : Type 0} {Answer : Op → Type 0} {M A : Type 0} → Prog Op Answer M A
+    → Prog ((op : Op) × (Answer op → Bool)) (telling Answer) M A
 carrying (Ret a) = Ret a
 carrying (Do op m k) = Do (op, λ x. is_some (m x)) m (λ x. carrying (k x))
 

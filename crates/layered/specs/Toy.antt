@@ -63,7 +63,8 @@ lower =
     }
 
 abbrev pub handler : Handlers upper lower
-handler c Twice m = Do Tick unmarked (λ a. Do Tick (λ b. Some (record { op = Twice; outside = tt; mark = m })) (λ b. Ret (record { answer = b; carry = tt })))
+handler c Twice m = Do Tick unmarked
+    (λ a. Do Tick (λ b. Some (record { op = Twice; outside = tt; mark = m })) (λ b. Ret (record { answer = b; carry = tt })))
 
 -- so many times more, and then the answer
 abbrev pub counting : ℕ → P upper ℕ

@@ -10,7 +10,8 @@ use Rattle.image_tree.specs.Damage.{UpToLog}
 
 -- whatever it was doing, the disk of a log passes the checks up to the log's, where its sizes are those of a good superblock
 abbrev pub LogsLeaveGoodHeads : Type 0
-LogsLeaveGoodHeads = (disk : List (List ℕ)) (seats : List SeatState) (sizes : Super) (group : List ℕ) (members : List (Option ℕ)) (phase : Phase)
+LogsLeaveGoodHeads =
+    (disk : List (List ℕ)) (seats : List SeatState) (sizes : Super) (group : List ℕ) (members : List (Option ℕ)) (phase : Phase)
     → IsSoundLog disk seats sizes group members phase → IsGoodSuper sizes → UpToLog disk
 
 -- a disk that passes them is one that a log may stand on

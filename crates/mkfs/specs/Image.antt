@@ -98,7 +98,8 @@ inodes_from first (node ∷ nodes) = inode_for first node ∷ inodes_from (first
 -- the bytes of the inode blocks: inode 0 is free, and so are those behind the nodes'
 unfoldable pub inode_table : ℕ → ℕ → List Node → List ℕ
 inode_table ninodes first nodes =
-    free_inodes 1 ++ flat_map spell_dinode (inodes_from first nodes) ++ free_inodes (inodes_per_block * inode_blocks ninodes - (1 + length nodes))
+    free_inodes 1 ++ flat_map spell_dinode (inodes_from first nodes)
+    ++ free_inodes (inodes_per_block * inode_blocks ninodes - (1 + length nodes))
 
 -- ---- the bitmap
 
@@ -116,7 +117,8 @@ bitmap used = padded block_len (replicate (used / bits_per_byte) (low_bits bits_
 abbrev pub indirect_block : ℕ → ℕ → List ℕ
 indirect_block first size = spell_numbers (padded numbers_per_block (range_with_len (first + addresses) (blocks_for size - direct)))
 
--- the blocks of a node with this content, the first of them block `first`: where the direct ones don't suffice, the indirect block stands behind them
+-- the blocks of a node with this content, the first of them block `first`: where the direct ones don't suffice, the indirect block stands
+-- behind them
 unfoldable pub node_bytes : ℕ → List ℕ → List ℕ
 node_bytes first content =
     if nat_lt direct_len (length content)

@@ -38,7 +38,8 @@ mkfs_app = let app = new_app (codes "mkfs") in record app { top = record app.top
 -- the whole command line
 abbrev pub mkfs_line : App
 mkfs_line =
-    with_rule (with_rule (with_rule (with_rule mkfs_app image_rule) (number_rule (codes "size") (codes "2000"))) (number_rule (codes "inodes") (codes "200"))) files_rule
+    with_rule (with_rule (with_rule (with_rule mkfs_app image_rule) (number_rule (codes "size") (codes "2000")))
+    (number_rule (codes "inodes") (codes "200"))) files_rule
 
 -- the number that a decimal text is, where one `+` may stand before it
 abbrev pub number_in : List ℕ → ℕ

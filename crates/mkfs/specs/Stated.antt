@@ -23,7 +23,8 @@ slots_from number (name ∷ names) = used number name ∷ slots_from (number + 1
 -- ".", ".." and the files; behind them the slots are free, up to the end of the root's last block
 abbrev pub root_slots : List (List ℕ) → List (Option Slot)
 root_slots names =
-    used root dot ∷ used root dotdot ∷ slots_from first_file names ++ replicate (root_size (length names) / dirent_len - (2 + length names)) None
+    used root dot ∷ used root dotdot ∷ slots_from first_file names
+    ++ replicate (root_size (length names) / dirent_len - (2 + length names)) None
 
 abbrev pub root_in_tree : List (List ℕ) → Option Node
 root_in_tree names = Some (record { count = 1; kind = Directory (root_slots names) })

@@ -151,30 +151,38 @@ pub fn make(
 /// What an image that can be made holds in front: as many blocks as asked for, the superblock, and
 /// an empty log, so that recovery leaves each block as it stands.
 pub fn made_front()
-    ensures size { (size ninodes : ℕ) (names contents : List (List ℕ)) → length names ≡ length contents → CanBeMade size ninodes names contents
+    ensures size { (size ninodes : ℕ) (names contents : List (List ℕ)) → length names ≡ length contents
+        → CanBeMade size ninodes names contents
         → length (blocks_of (image_of size ninodes names contents)) ≡ size }
-    ensures superblock { (size ninodes : ℕ) (names contents : List (List ℕ)) → length names ≡ length contents → CanBeMade size ninodes names contents
+    ensures superblock { (size ninodes : ℕ) (names contents : List (List ℕ)) → length names ≡ length contents
+        → CanBeMade size ninodes names contents
         → sizes_of (blocks_of (image_of size ninodes names contents)) ≡ super_for size ninodes }
-    ensures log { (size ninodes : ℕ) (names contents : List (List ℕ)) → length names ≡ length contents → CanBeMade size ninodes names contents
+    ensures log { (size ninodes : ℕ) (names contents : List (List ℕ)) → length names ≡ length contents
+        → CanBeMade size ninodes names contents
         → logged (blocks_of (image_of size ninodes names contents)) ≡ [] }
-    ensures recovered { (size ninodes b : ℕ) (names contents : List (List ℕ)) → length names ≡ length contents → CanBeMade size ninodes names contents
+    ensures recovered { (size ninodes b : ℕ) (names contents : List (List ℕ)) → length names ≡ length contents
+        → CanBeMade size ninodes names contents
         → recovered (blocks_of (image_of size ninodes names contents)) b ≡ block_at (blocks_of (image_of size ninodes names contents)) b }
 {}
 
 /// The inodes of an image that can be made, where they stand: the first is inode 1, the root.
 pub fn made_inodes()
-    ensures { (size ninodes i : ℕ) (names contents : List (List ℕ)) (d : Dinode) → length names ≡ length contents → CanBeMade size ninodes names contents
-        → i ≤ length contents → dinode_at ((i + 1) % 16) (block_at (blocks_of (image_of size ninodes names contents)) (inode_start + (i + 1) / 16))
+    ensures { (size ninodes i : ℕ) (names contents : List (List ℕ)) (d : Dinode) → length names ≡ length contents
+        → CanBeMade size ninodes names contents
+        → i ≤ length contents → dinode_at ((i + 1) % 16)
+        (block_at (blocks_of (image_of size ninodes names contents)) (inode_start + (i + 1) / 16))
         ≡ slice_index_or (inodes_from (data_start ninodes) (nodes_with (root_content names) contents)) i d }
 {}
 
 /// The bitmap of an image that can be made, and each node's blocks: they begin where those of the
 /// nodes before it end. Node 0 of the list is the root.
 pub fn made_blocks()
-    ensures bitmap { (size ninodes : ℕ) (names contents : List (List ℕ)) → length names ≡ length contents → CanBeMade size ninodes names contents
+    ensures bitmap { (size ninodes : ℕ) (names contents : List (List ℕ)) → length names ≡ length contents
+        → CanBeMade size ninodes names contents
         → block_at (blocks_of (image_of size ninodes names contents)) (bitmap_start ninodes)
         ≡ bitmap (used_by (data_start ninodes) (nodes_with (root_content names) contents)) }
-    ensures nodes { (size ninodes i : ℕ) (names contents : List (List ℕ)) (d : Node) → length names ≡ length contents → CanBeMade size ninodes names contents
+    ensures nodes { (size ninodes i : ℕ) (names contents : List (List ℕ)) (d : Node) → length names ≡ length contents
+        → CanBeMade size ninodes names contents
         → i ≤ length contents
         → let nodes = nodes_with (root_content names) contents in let first = data_start ninodes + blocks_before i nodes in
         take (1024 * blocks_of_node (slice_index_or nodes i d)) (drop (1024 * first) (image_of size ninodes names contents))

@@ -54,7 +54,8 @@ pub fn push_file_inodes(
     requires each { All (λ content. length content ≤ largest_size) (contents_of files.now) }
     requires few { length files.now < 2 ^ 16 }
     requires first { first < 2 ^ 16 }
-    ensures { OnOk result (image.new.items ≡ image.old.items ++ flat_map spell_dinode (inodes_from first (map file_node (contents_of files.now)))) }
+    ensures { OnOk result (image.new.items
+        ≡ image.old.items ++ flat_map spell_dinode (inodes_from first (map file_node (contents_of files.now)))) }
 {
     let mut at = first;
     for file in files {

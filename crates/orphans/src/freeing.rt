@@ -149,7 +149,8 @@ fn freed_bitmap<D: Device>(device: &mut D, layout: &Layout, numbers: &[u32]) -> 
     requires layout { IsLayout (D.contents device.old) layout.now }
     requires small { All (λ b. b < 8192) numbers.now }
     ensures cleared { IfOk result (λ bitmap. All (λ b. b ≢ 0 → bit_of bitmap b ≡ false) numbers.now) }
-    ensures kept { IfOk result (λ bitmap. (b : ℕ) → All (λ c. c ≢ 0 → c ≢ b) numbers.now → bit_of bitmap b ≡ is_marked (D.contents device.old) b) }
+    ensures kept { IfOk result
+        (λ bitmap. (b : ℕ) → All (λ c. c ≢ 0 → c ≢ b) numbers.now → bit_of bitmap b ≡ is_marked (D.contents device.old) b) }
     ensures fewer { IfOk result (λ bitmap. (b : ℕ) → is_marked (D.contents device.old) b ≡ false → bit_of bitmap b ≡ false) }
     ensures device { OnlyReads D.contents D.failures (faults_after result) device.old device.new }
     ensures calls { ComesByCalls D.Called device.old device.new }

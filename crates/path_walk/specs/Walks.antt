@@ -44,7 +44,8 @@ module _ (s : Action) (path : List ℕ) (after : After) where
   abbrev pub walk_of : Goal → List ℕ → Walk → P Reply
   walk_of to ns walking.Start = start s path ns (λ d. onward to d (elements path) ns) after.lost
   walk_of to ns (walking.Look d e) =
-      Do (Take d (AtName (name_in path e))) (looks_or_quits s) (λ a. walk_step d ns (λ j ms. onward to j (elements (drop e.rest path)) ms) after.lost a.found)
+      Do (Take d (AtName (name_in path e))) (looks_or_quits s)
+      (λ a. walk_step d ns (λ j ms. onward to j (elements (drop e.rest path)) ms) after.lost a.found)
   walk_of to ns (walking.See d e) = see_parent s d ns (after.found d (Some (name_in path e))) after.lost
   walk_of to ns (walking.Up d j rest) = walk_step d ns (λ j ms. onward to j (elements (drop rest path)) ms) after.lost (Some j)
   walk_of to ns (walking.Give d then_) = leave_directory d ns (next_of to then_)

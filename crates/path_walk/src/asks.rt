@@ -366,7 +366,8 @@ impl<C: Copy> Turn<C, Answer> {
     }
 }
 
-/// What an operation is marked with: the tree's move that is made there, or a note of what has no move. Which tree step a move is for, the call says.
+/// What an operation is marked with: the tree's move that is made there, or a note of what has no move. Which tree step a move is for, the
+/// call says.
 #[derive(Clone, Copy)]
 pub enum Mark {
     /// A path's walk stands at its start.

@@ -65,7 +65,8 @@ pub enum Walked {
 fn onward(goal: Goal, directory: u32, path: &[u8], rest: usize) -> Walked
     requires rest { rest ≤ length path.now }
     requires nonzero { All (λ b. b ≢ 0) path.now }
-    ensures goes { (s : Action) (after : After) (list : List ℕ) → walked_to s path.now after goal list result ≡ onward s path.now after goal directory (elements (drop rest path.now)) list }
+    ensures goes { (s : Action) (after : After) (list : List ℕ)
+        → walked_to s path.now after goal list result ≡ onward s path.now after goal directory (elements (drop rest path.now)) list }
     ensures most { most_walked path.now result ≤ elements_from path.now rest }
     ensures stands { StandsAt path.now result }
 {
@@ -84,7 +85,8 @@ fn onward(goal: Goal, directory: u32, path: &[u8], rest: usize) -> Walked
 fn go_on(goal: Goal, next: Next, path: &[u8]) -> Walked
     requires stands { next_stands path.now next }
     requires nonzero { All (λ b. b ≢ 0) path.now }
-    ensures goes { (s : Action) (after : After) (list : List ℕ) → walked_to s path.now after goal list result ≡ next_of s path.now after goal next list }
+    ensures goes { (s : Action) (after : After) (list : List ℕ)
+        → walked_to s path.now after goal list result ≡ next_of s path.now after goal next list }
     ensures most { most_walked path.now result ≤ most_next path.now next }
     ensures stands { StandsAt path.now result }
 {
@@ -122,7 +124,8 @@ pub fn is_live(sight: &Sight) -> bool
 
 impl Walk {
     pub fn ask(&self, path: &[u8]) -> Ask
-        ensures asks { (s : Action) (after : After) (goal : Goal) (list : List ℕ) → asks (walk_of s path.now after goal list self.now) ≡ Some (op_in path.now result) }
+        ensures asks { (s : Action) (after : After) (goal : Goal) (list : List ℕ)
+            → asks (walk_of s path.now after goal list self.now) ≡ Some (op_in path.now result) }
         ensures named { Stands path.now self.now → IsNamed path.now result }
         ensures seeks { OnlySeeks result }
     {
@@ -140,7 +143,8 @@ impl Walk {
         requires nonzero { All (λ b. b ≢ 0) path.now }
         requires room { length list.old + most_left path.now self ≤ MOST_LISTED }
         requires stands { Stands path.now self }
-        ensures goes { (text : List ℕ) (s : Action) (after : After) → hears text (walk_of s path.now after goal list.old self) heard.now ≡ walked_to s path.now after goal list.new result }
+        ensures goes { (text : List ℕ) (s : Action) (after : After)
+            → hears text (walk_of s path.now after goal list.old self) heard.now ≡ walked_to s path.now after goal list.new result }
         ensures most { length list.new + most_walked path.now result ≤ length list.old + most_left path.now self }
         ensures stands { StandsAt path.now result }
     {
@@ -181,7 +185,8 @@ impl Walk {
 
     /// The move of the walk that is made here, if one is.
     pub fn mark(&self, heard: &Heard) -> Option<Mark>
-        ensures { (s : Action) (path : List ℕ) (after : After) (goal : Goal) (list : List ℕ) → mark_at (walk_of s path after goal list self.now) heard.now ≡ marked_as s result }
+        ensures { (s : Action) (path : List ℕ) (after : After) (goal : Goal) (list : List ℕ)
+            → mark_at (walk_of s path after goal list self.now) heard.now ≡ marked_as s result }
     {
         match self {
             Walk::Start => match heard.start() {

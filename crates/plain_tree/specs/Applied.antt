@@ -36,7 +36,8 @@ in_place t s None id = record {
 abbrev pub applied : Tree → TreeStep → ℕ → Outcome
 applied t s id =
     if nat_lt s.hart hart_count
-    then (if place_of t s.hart s.action then in_place t s (refusal t s.hart s.action) id else record { answer = out_of_place s.action; tree = t })
+    then (if place_of t s.hart s.action then in_place t s (refusal t s.hart s.action) id
+    else record { answer = out_of_place s.action; tree = t })
     else record { answer = Failed BadDescriptor; tree = t }
 
 -- the step makes a node, and may not take the number that it says

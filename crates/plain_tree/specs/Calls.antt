@@ -38,7 +38,8 @@ piece bytes i = take piece_len (drop (piece_len * i) bytes)
 
 abbrev pub next_piece : ℕ → List ℕ → List Act → Option Cause → Option Action
 next_piece fd bytes acts (Some k) = None
-next_piece fd bytes acts None = if nat_lt (length acts) (piece_count bytes) then Some (WritePartStep fd (piece bytes (length acts))) else None
+next_piece fd bytes acts None =
+    if nat_lt (length acts) (piece_count bytes) then Some (WritePartStep fd (piece bytes (length acts))) else None
 
 abbrev pub once : Action → List Act → Option Action
 once s [] = Some s

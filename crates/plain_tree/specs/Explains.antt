@@ -25,7 +25,8 @@ abbrev pub ends_at : ℕ → Reply → ℕ → TracedCall → TracedCall
 ends_at h r now c = if (c.hart == h) && is_nothing c.finished then record c { finished = Some (now, r) } else c
 
 abbrev pub noted : Trace → Shown → Trace
-noted t (Started h c) = record { calls = t.calls ++ record { hart = h; start = t.events; call = c; finished = None } ∷ []; events = t.events + 1 }
+noted t (Started h c) =
+    record { calls = t.calls ++ record { hart = h; start = t.events; call = c; finished = None } ∷ []; events = t.events + 1 }
 noted t (Replied h r) = record { calls = map (ends_at h r t.events) t.calls; events = t.events + 1 }
 noted t Other = record { calls = t.calls; events = t.events + 1 }
 

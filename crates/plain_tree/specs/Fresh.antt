@@ -15,7 +15,11 @@ abbrev pub fresh_slots : ℕ
 fresh_slots = 64
 
 abbrev pub fresh_root : Node
-fresh_root = record { count = 1; kind = Directory (Some (record { name = dot; number = root }) ∷ Some (record { name = dotdot; number = root }) ∷ replicate (fresh_slots - 2) None) }
+fresh_root = record {
+  count = 1;
+  kind = Directory (Some (record { name = dot; number = root }) ∷ Some (record { name = dotdot; number = root })
+      ∷ replicate (fresh_slots - 2) None);
+}
 
 abbrev pub fresh_hart : Hart
 fresh_hart = record { directory = root; descriptors = replicate descriptor_count None; hold = None }

@@ -29,7 +29,13 @@ pub record Row : Type 0 where
   pub keys : ℕ → Option Key
 
 abbrev pub row_of : Tree → ℕ → Row
-row_of t h = record { cwd = t.cwd h; hold = t.holds h; fds = t.fds h; keys = λ i. if nat_lt h hart_count && nat_lt i descriptor_count then key_at t.files (t.fds h i) else None }
+row_of t h = record {
+  cwd = t.cwd h;
+  hold = t.holds h;
+  fds = t.fds h;
+  keys = λ i. if nat_lt h hart_count && nat_lt i descriptor_count
+      then key_at t.files (t.fds h i) else None;
+}
 
 abbrev pub key_names : Option Key → ℕ → Bool
 key_names None n = false

@@ -12,11 +12,13 @@ use Rattle.plain_tree.specs.Applied.{applied, IsApplied, IsBadChoice}
 
 -- A step in its place, with a right number for a new node and the least unused id for a file that it opens, goes as it is applied.
 abbrev pub AppliedIsAStep : Type 0
-AppliedIsAStep = (t : Tree) (s : TreeStep) (id : ℕ) → IsInPlace t s.hart s.action → (IsBadChoice t s → ⊥) → (opens_one t s.hart s.action ≡ true → IsLeastUnused t id) → Step t s (applied t s id).answer (applied t s id).tree
+AppliedIsAStep = (t : Tree) (s : TreeStep) (id : ℕ) → IsInPlace t s.hart s.action → (IsBadChoice t s → ⊥)
+    → (opens_one t s.hart s.action ≡ true → IsLeastUnused t id) → Step t s (applied t s id).answer (applied t s id).tree
 
 -- What `Tree::apply` promises is a tree step. Out of its place a step is none, and changes nothing.
 abbrev pub AnswersAreSteps : Type 0
-AnswersAreSteps = (t : Tree) (s : TreeStep) (a : StepAnswer) (t' : Tree) → IsApplied t s a t' → Step t s a t' ⊎ ((IsInPlace t s.hart s.action → ⊥) × (t' ≡ t))
+AnswersAreSteps = (t : Tree) (s : TreeStep) (a : StepAnswer) (t' : Tree) → IsApplied t s a t'
+    → Step t s a t' ⊎ ((IsInPlace t s.hart s.action → ⊥) × (t' ≡ t))
 
 -- What has settled settles to itself.
 abbrev pub SettlesOnce : Type 0
@@ -32,7 +34,8 @@ HasFiles t g = (i id : ℕ) → g < hart_count → i < descriptor_count → t.fd
 
 -- A step of one hart leaves the rows of the others, but that of an inherit's child.
 abbrev pub RowsStay : Type 0
-RowsStay = (t : Tree) (s : TreeStep) (a : StepAnswer) (t' : Tree) (g : ℕ) → Step t s a t' → g ≢ s.hart → (s.action ≡ Inherit g → ⊥) → HasFiles t g → row_of t' g ≡ row_of t g
+RowsStay = (t : Tree) (s : TreeStep) (a : StepAnswer) (t' : Tree) (g : ℕ) → Step t s a t' → g ≢ s.hart → (s.action ≡ Inherit g → ⊥)
+    → HasFiles t g → row_of t' g ≡ row_of t g
 
 -- the node of that number stays where the tree settles
 abbrev pub Stays : Tree → ℕ → Type 0
@@ -46,4 +49,5 @@ pub record AsksForWhatStays (t : Tree) (res : Option ℕ) (par : Option (ℕ × 
 
 -- A step of a settled tree is that of the unsettled one.
 abbrev pub SettledSteps : Type 0
-SettledSteps = (t : Tree) (h : ℕ) (s : Action) (res : Option ℕ) (par : Option (ℕ × Name)) (a : StepAnswer) (new id : ℕ) (t' : Tree) → AsksForWhatStays t res par → StepWith t h s res par a new id t' → StepWith (settle t) h s res par a new id (settle t')
+SettledSteps = (t : Tree) (h : ℕ) (s : Action) (res : Option ℕ) (par : Option (ℕ × Name)) (a : StepAnswer) (new id : ℕ) (t' : Tree)
+    → AsksForWhatStays t res par → StepWith t h s res par a new id t' → StepWith (settle t) h s res par a new id (settle t')

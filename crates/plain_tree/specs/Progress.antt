@@ -45,7 +45,8 @@ abbrev pub open_next : List ℕ → ℕ → Progress → Option Action
 open_next path flags p = if p.count == 0 then Some (OpenStep path flags) else if p.count == 1 then truncate_next flags p.last else None
 
 abbrev pub write_next : ℕ → List ℕ → Progress → Option Action
-write_next fd bytes p = if has_failed p.last then None else if nat_lt p.count (piece_count bytes) then Some (WritePartStep fd (piece bytes p.count)) else None
+write_next fd bytes p =
+    if has_failed p.last then None else if nat_lt p.count (piece_count bytes) then Some (WritePartStep fd (piece bytes p.count)) else None
 
 abbrev pub next_where : Bool → Action → Option Action
 next_where b s = if b then Some s else None

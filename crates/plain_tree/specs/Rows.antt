@@ -168,10 +168,14 @@ SharesItsOffset = is_so (
 
 abbrev pub sixteen_opens : List Line
 sixteen_opens =
-    opens 0 0 0 (Open [] 0) (Opened 0 0 false) ∷ opens 0 0 1 (Open [] 0) (Opened 1 1 false) ∷ opens 0 0 2 (Open [] 0) (Opened 2 2 false) ∷ opens 0 0 3 (Open [] 0) (Opened 3 3 false)
-    ∷ opens 0 0 4 (Open [] 0) (Opened 4 4 false) ∷ opens 0 0 5 (Open [] 0) (Opened 5 5 false) ∷ opens 0 0 6 (Open [] 0) (Opened 6 6 false) ∷ opens 0 0 7 (Open [] 0) (Opened 7 7 false)
-    ∷ opens 0 0 8 (Open [] 0) (Opened 8 8 false) ∷ opens 0 0 9 (Open [] 0) (Opened 9 9 false) ∷ opens 0 0 10 (Open [] 0) (Opened 10 10 false) ∷ opens 0 0 11 (Open [] 0) (Opened 11 11 false)
-    ∷ opens 0 0 12 (Open [] 0) (Opened 12 12 false) ∷ opens 0 0 13 (Open [] 0) (Opened 13 13 false) ∷ opens 0 0 14 (Open [] 0) (Opened 14 14 false) ∷ opens 0 0 15 (Open [] 0) (Opened 15 15 false)
+    opens 0 0 0 (Open [] 0) (Opened 0 0 false) ∷ opens 0 0 1 (Open [] 0) (Opened 1 1 false) ∷ opens 0 0 2 (Open [] 0) (Opened 2 2 false)
+    ∷ opens 0 0 3 (Open [] 0) (Opened 3 3 false)
+    ∷ opens 0 0 4 (Open [] 0) (Opened 4 4 false) ∷ opens 0 0 5 (Open [] 0) (Opened 5 5 false) ∷ opens 0 0 6 (Open [] 0) (Opened 6 6 false)
+    ∷ opens 0 0 7 (Open [] 0) (Opened 7 7 false)
+    ∷ opens 0 0 8 (Open [] 0) (Opened 8 8 false) ∷ opens 0 0 9 (Open [] 0) (Opened 9 9 false)
+    ∷ opens 0 0 10 (Open [] 0) (Opened 10 10 false) ∷ opens 0 0 11 (Open [] 0) (Opened 11 11 false)
+    ∷ opens 0 0 12 (Open [] 0) (Opened 12 12 false) ∷ opens 0 0 13 (Open [] 0) (Opened 13 13 false)
+    ∷ opens 0 0 14 (Open [] 0) (Opened 14 14 false) ∷ opens 0 0 15 (Open [] 0) (Opened 15 15 false)
     ∷ []
 
 -- A seventeenth open has no descriptor; the file that it made stays.

@@ -130,7 +130,8 @@ read_refusal t (Some f) = if f.readable then no_driver (node_at t f.number).kind
 
 abbrev pub part_refusal : ℕ → ℕ → List ℕ → Option Cause
 part_refusal offset size [] = None
-part_refusal offset size (b ∷ bs) = if nat_lt size offset then Some BadOffset else (if nat_lt largest_size (offset + length (b ∷ bs)) then Some TooBig else None)
+part_refusal offset size (b ∷ bs) =
+    if nat_lt size offset then Some BadOffset else (if nat_lt largest_size (offset + length (b ∷ bs)) then Some TooBig else None)
 
 abbrev pub write_kind : Kind → ℕ → List ℕ → Option Cause
 write_kind (Directory slots) offset b = part_refusal offset (size_of (Directory slots)) b
@@ -188,7 +189,8 @@ or_else (Some k) b = Some k
 
 abbrev pub mkdir_refusal : Tree → Option (ℕ × Name) → Option Cause
 mkdir_refusal t None = Some NoEntry
-mkdir_refusal t (Some q) = or_else (name_taken (look t.nodes q.0 q.1)) (if nat_lt (node_at t q.0).count count_limit then None else Some TooManyLinks)
+mkdir_refusal t (Some q) =
+    or_else (name_taken (look t.nodes q.0 q.1)) (if nat_lt (node_at t q.0).count count_limit then None else Some TooManyLinks)
 
 abbrev pub chdir_refusal : Tree → Option ℕ → Option Cause
 chdir_refusal t None = Some NoEntry
@@ -249,7 +251,8 @@ holds_raised r (Some o) = if r then o.raised else not o.raised
 abbrev pub has_descriptors : Tree → ℕ → Bool
 has_descriptors t h = any_below descriptor_count (λ i. not (is_nothing (t.fds h i)))
 
--- truncate is of an open file, a find is made by a hart that holds nothing raised, the other steps of a link have their hold, an inherit is to another hart without descriptors, and dup has a free descriptor
+-- truncate is of an open file, a find is made by a hart that holds nothing raised, the other steps of a link have their hold, an inherit
+-- is to another hart without descriptors, and dup has a free descriptor
 unfoldable pub place_of : Tree → ℕ → Action → Bool
 place_of t h (Truncate fd) = is_open_file t (file_at t h fd)
 place_of t h (Find old) = not (holds_raised true (t.holds h))
@@ -296,12 +299,14 @@ abbrev pub new_file : Node
 new_file = record { count = 1; kind = File [] }
 
 abbrev pub new_directory : ℕ → ℕ → Node
-new_directory n d = record { count = 1; kind = Directory (Some (record { name = dot; number = n }) ∷ Some (record { name = dotdot; number = d }) ∷ []) }
+new_directory n d =
+    record { count = 1; kind = Directory (Some (record { name = dot; number = n }) ∷ Some (record { name = dotdot; number = d }) ∷ []) }
 
 -- a new open file; where the hart's descriptors are taken there is none
 abbrev pub with_file : Tree → ℕ → ℕ → ℕ → ℕ → Tree
 with_file t h id n flags = if has_room (t.fds h) then record t {
-  files = put t.files id (Some (record { number = n; offset = 0; readable = not (has flags write_only); writable = has flags write_only || has flags read_write }));
+  files = put t.files id (Some
+      (record { number = n; offset = 0; readable = not (has flags write_only); writable = has flags write_only || has flags read_write }));
   fds = put t.fds h (put (t.fds h) (lowest (t.fds h)) (Some id));
 } else t
 
@@ -357,7 +362,12 @@ enter_hold t (Some q) (Some o) = entered t q.0 q.1 o.number
 abbrev pub removed_child : Tree → ℕ → Name → Option ℕ → Tree
 removed_child t d e None = t
 removed_child t d e (Some n) =
-    let t1 : Tree = at_node t d (λ v. record v { kind = Directory (cleared (slots_of v.kind) e); count = if is_directory (node_at t n).kind then v.count - 1 else v.count }) in
+    let t1 : Tree = at_node t d
+    (λ v. record v {
+      kind = Directory (cleared (slots_of v.kind) e);
+      count = if is_directory (node_at t n).kind then v.count - 1
+          else v.count;
+    }) in
     at_node t1 n lowered
 
 abbrev pub removed : Tree → Option (ℕ × Name) → Tree
@@ -477,8 +487,10 @@ pub record MayChoose (t : Tree) (h : ℕ) (s : Action) (par : Option (ℕ × Nam
 -- The step, where the path was found to resolve to res and its parent to be par.
 abbrev pub StepWith : Tree → ℕ → Action → Option ℕ → Option (ℕ × Name) → StepAnswer → ℕ → ℕ → Tree → Type 0
 StepWith t h s res par (Failed k) new id t' = (refusal_with t h s res par ≡ Some k) × (t' ≡ refused t h s) × IsInPlace t h s
-StepWith t h s res par a new id t' = (refusal_with t h s res par ≡ None) × (a ≡ answer_with t h s res par id) × MayChoose t h s par new id × (t' ≡ settle (effect_with t h s res par new id)) × IsInPlace t h s
+StepWith t h s res par a new id t' = (refusal_with t h s res par ≡ None) × (a ≡ answer_with t h s res par id) × MayChoose t h s par new id
+    × (t' ≡ settle (effect_with t h s res par new id)) × IsInPlace t h s
 
 -- From t the step may give this answer and go on to t'.
 abbrev pub Step : Tree → TreeStep → StepAnswer → Tree → Type 0
-Step t s a t' = (id : ℕ) × StepWith t s.hart s.action (resolve t s.hart (path_of s.action)) (parent t s.hart (path_of s.action)) a s.new id t'
+Step t s a t' =
+    (id : ℕ) × StepWith t s.hart s.action (resolve t s.hart (path_of s.action)) (parent t s.hart (path_of s.action)) a s.new id t'

@@ -169,7 +169,8 @@ hold_names None n = false
 hold_names (Some o) n = o.number == n
 
 unfoldable pub is_named : Tree → ℕ → Bool
-is_named t n = any_below hart_count (λ h. (t.cwd h == n) || (hold_names (t.holds h) n || any_below descriptor_count (λ i. fd_names t (t.fds h i) n)))
+is_named t n =
+    any_below hart_count (λ h. (t.cwd h == n) || (hold_names (t.holds h) n || any_below descriptor_count (λ i. fd_names t (t.fds h i) n)))
 
 unfoldable pub settle : Tree → Tree
 settle t = record t { nodes = λ n. if is_live (t.nodes n) || is_named t n then t.nodes n else None }

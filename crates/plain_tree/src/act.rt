@@ -17,7 +17,13 @@ use std::alloc::Global;
 
 /// A file as it is when it is opened.
 fn just_opened(number: u16, flags: u32) -> OpenFile
-    ensures { result ≡ record { number = number; offset = 0; readable = not (has flags write_only); writable = has flags write_only || has flags read_write } }
+    ensures { result ≡ record {
+      number = number;
+      offset = 0;
+      readable = not (has flags write_only);
+      writable = has flags write_only
+          || has flags read_write;
+    } }
 {
     OpenFile {
         number,
@@ -54,7 +60,11 @@ impl Tree {
     fn give_file(&mut self, hart: u8, files: Vec<OpenFileEntry>, id: usize)
         requires hart { hart < 8 }
         requires room { has_room ((tree_of self.old).fds hart) ≡ true }
-        ensures { tree_of self.new ≡ record (tree_of self.old) { files = λ k. file_in files.items k; fds = put (tree_of self.old).fds hart (put ((tree_of self.old).fds hart) (lowest ((tree_of self.old).fds hart)) (Some id)) } }
+        ensures { tree_of self.new
+            ≡ record (tree_of self.old) {
+              files = λ k. file_in files.items k;
+              fds = put (tree_of self.old).fds hart (put ((tree_of self.old).fds hart) (lowest ((tree_of self.old).fds hart)) (Some id));
+            } }
     {
         let fd = self.lowest(hart);
         self.set_descriptor(hart, fd, Some(id));
@@ -65,7 +75,8 @@ impl Tree {
     fn open_node(&mut self, alloc: Global, hart: u8, number: u16, flags: u32, id: usize) -> Attempt
         requires hart { hart < 8 }
         requires unused { (tree_of self.old).files id ≡ None }
-        ensures { MatchResult result (λ _. tree_of self.new ≡ with_file (tree_of self.old) hart id number flags) (λ _. self.new ≡ self.old) }
+        ensures { MatchResult result (λ _. tree_of self.new ≡ with_file (tree_of self.old) hart id number flags)
+            (λ _. self.new ≡ self.old) }
     {
         if self.has_room(hart) {
             let files = self.files_with(alloc, id, just_opened(number, flags))?;
@@ -85,7 +96,9 @@ impl Tree {
     ) -> Attempt
         requires live { live_directory ((tree_of self.old).nodes directory) ≡ true }
         requires range { number < (tree_of self.old).ninodes }
-        ensures tree { MatchResult result (λ _. tree_of self.new ≡ with_nodes (tree_of self.old) (put (entered (tree_of self.old) directory name number).nodes number (Some node))) (λ _. self.new ≡ self.old) }
+        ensures tree { MatchResult result
+            (λ _. tree_of self.new ≡ with_nodes (tree_of self.old)
+            (put (entered (tree_of self.old) directory name number).nodes number (Some node))) (λ _. self.new ≡ self.old) }
         ensures table { length self.new.nodes ≡ length self.old.nodes }
     {
         self.enter(alloc, usize::from(directory), name, number)?;
@@ -97,7 +110,9 @@ impl Tree {
     fn add_file_node(&mut self, alloc: Global, directory: u16, name: &[u8], number: u16) -> Attempt
         requires live { live_directory ((tree_of self.old).nodes directory) ≡ true }
         requires range { number < (tree_of self.old).ninodes }
-        ensures { MatchResult result (λ _. tree_of self.new ≡ with_nodes (tree_of self.old) (put (entered (tree_of self.old) directory name.now number).nodes number (Some new_file))) (λ _. self.new ≡ self.old) }
+        ensures { MatchResult result
+            (λ _. tree_of self.new ≡ with_nodes (tree_of self.old)
+            (put (entered (tree_of self.old) directory name.now number).nodes number (Some new_file))) (λ _. self.new ≡ self.old) }
     {
         let name = Bytes::new(Vec::from_slice(alloc, name)?);
         let bytes = Bytes::new(Vec::new(alloc));
@@ -123,7 +138,8 @@ impl Tree {
         requires live { live_directory ((tree_of self.old).nodes directory) ≡ true }
         requires range { number < (tree_of self.old).ninodes }
         requires unused { (tree_of self.old).files id ≡ None }
-        ensures { MatchResult result (λ _. tree_of self.new ≡ opened_in (tree_of self.old) hart id flags directory name.now None number) (λ _. self.new ≡ self.old) }
+        ensures { MatchResult result (λ _. tree_of self.new ≡ opened_in (tree_of self.old) hart id flags directory name.now None number)
+            (λ _. self.new ≡ self.old) }
     {
         if self.has_room(hart) {
             let files = self.files_with(alloc, id, just_opened(number, flags))?;
@@ -149,7 +165,9 @@ impl Tree {
         requires live { IfSome parent (λ d. live_directory ((tree_of self.old).nodes d) ≡ true) }
         requires new { is_absent (tree_of self.old) (with_name parent name.now) ≡ true → IsNewNode (tree_of self.old) number }
         requires unused { (tree_of self.old).files id ≡ None }
-        ensures { MatchResult result (λ _. tree_of self.new ≡ opened_new (tree_of self.old) hart id flags (with_name parent name.now) number) (λ _. self.new ≡ self.old) }
+        ensures { MatchResult result
+            (λ _. tree_of self.new ≡ opened_new (tree_of self.old) hart id flags (with_name parent name.now) number)
+            (λ _. self.new ≡ self.old) }
     {
         let Some(directory) = parent else {
             return Ok(());
@@ -171,7 +189,8 @@ impl Tree {
     ) -> Attempt
         requires hart { hart < 8 }
         requires unused { (tree_of self.old).files id ≡ None }
-        ensures { MatchResult result (λ _. tree_of self.new ≡ opened_at (tree_of self.old) hart id flags found number) (λ _. self.new ≡ self.old) }
+        ensures { MatchResult result (λ _. tree_of self.new ≡ opened_at (tree_of self.old) hart id flags found number)
+            (λ _. self.new ≡ self.old) }
     {
         match found {
             Some(old) => self.open_node(alloc, hart, old, flags, id),
@@ -195,7 +214,8 @@ impl Tree {
     }
 
     fn truncate(&mut self, alloc: Global, hart: u8, fd: u32) -> Attempt
-        ensures { MatchResult result (λ _. tree_of self.new ≡ truncated (tree_of self.old) (file_at (tree_of self.old) hart fd)) (λ _. self.new ≡ self.old) }
+        ensures { MatchResult result (λ _. tree_of self.new ≡ truncated (tree_of self.old) (file_at (tree_of self.old) hart fd))
+            (λ _. self.new ≡ self.old) }
     {
         let Some(file) = self.file_at(hart, fd) else {
             return Ok(());
@@ -211,7 +231,8 @@ impl Tree {
         requires live { IfSome parent (λ d. live_directory ((tree_of self.old).nodes d) ≡ true) }
         requires none { mkdir_refusal (tree_of self.old) (with_name parent name.now) ≡ None }
         requires new { IsNewNode (tree_of self.old) number }
-        ensures { MatchResult result (λ _. tree_of self.new ≡ made (tree_of self.old) (with_name parent name.now) number) (λ _. self.new ≡ self.old) }
+        ensures { MatchResult result (λ _. tree_of self.new ≡ made (tree_of self.old) (with_name parent name.now) number)
+            (λ _. self.new ≡ self.old) }
     {
         let Some(directory) = parent else {
             return Ok(());
@@ -226,7 +247,8 @@ impl Tree {
     /// Takes the name out of the directory, and one from the count of what it named.
     fn unlink(&mut self, alloc: Global, parent: Option<u16>, name: &[u8]) -> Attempt
         requires { IfSome parent (λ d. live_directory ((tree_of self.old).nodes d) ≡ true) }
-        ensures { MatchResult result (λ _. tree_of self.new ≡ removed (tree_of self.old) (with_name parent name.now)) (λ _. self.new ≡ self.old) }
+        ensures { MatchResult result (λ _. tree_of self.new ≡ removed (tree_of self.old) (with_name parent name.now))
+            (λ _. self.new ≡ self.old) }
     {
         let Some(directory) = parent else {
             return Ok(());
@@ -260,7 +282,12 @@ impl Tree {
     fn bump(&mut self, alloc: Global, hart: u8) -> Attempt
         requires hart { hart < 8 }
         requires none { bump_refusal (tree_of self.old) ((tree_of self.old).holds hart) ≡ None }
-        ensures { MatchResult result (λ _. tree_of self.new ≡ record (at_hold (tree_of self.old) ((tree_of self.old).holds hart) raised) { holds = put (tree_of self.old).holds hart (raise_hold ((tree_of self.old).holds hart)) }) (λ _. self.new ≡ self.old) }
+        ensures { MatchResult result
+            (λ _. tree_of self.new ≡ record
+            (at_hold (tree_of self.old) ((tree_of self.old).holds hart) raised) {
+              holds = put (tree_of self.old).holds hart
+                  (raise_hold ((tree_of self.old).holds hart));
+            }) (λ _. self.new ≡ self.old) }
     {
         let Some(hold) = self.hold(hart) else {
             self.set_hold(hart, None);
@@ -282,7 +309,9 @@ impl Tree {
     fn enter_held(&mut self, alloc: Global, hart: u8, parent: Option<u16>, name: &[u8]) -> Attempt
         requires hart { hart < 8 }
         requires live { IfSome parent (λ d. live_directory ((tree_of self.old).nodes d) ≡ true) }
-        ensures { MatchResult result (λ _. tree_of self.new ≡ drop_hold (enter_hold (tree_of self.old) (with_name parent name.now) ((tree_of self.old).holds hart)) hart) (λ _. self.new ≡ self.old) }
+        ensures { MatchResult result
+            (λ _. tree_of self.new ≡ drop_hold
+            (enter_hold (tree_of self.old) (with_name parent name.now) ((tree_of self.old).holds hart)) hart) (λ _. self.new ≡ self.old) }
     {
         if let Some(directory) = parent {
             if let Some(hold) = self.hold(hart) {
@@ -296,7 +325,9 @@ impl Tree {
 
     fn unbump(&mut self, alloc: Global, hart: u8) -> Attempt
         requires { hart < 8 }
-        ensures { MatchResult result (λ _. tree_of self.new ≡ drop_hold (at_hold (tree_of self.old) ((tree_of self.old).holds hart) lowered) hart) (λ _. self.new ≡ self.old) }
+        ensures { MatchResult result
+            (λ _. tree_of self.new ≡ drop_hold (at_hold (tree_of self.old) ((tree_of self.old).holds hart) lowered) hart)
+            (λ _. self.new ≡ self.old) }
     {
         if let Some(hold) = self.hold(hart) {
             let number = usize::from(hold.number);
@@ -319,7 +350,11 @@ impl Tree {
     fn dup(&mut self, hart: u8, fd: u32)
         requires hart { hart < 8 }
         requires room { has_room ((tree_of self.old).fds hart) ≡ true }
-        ensures { tree_of self.new ≡ record (tree_of self.old) { fds = put (tree_of self.old).fds hart (put ((tree_of self.old).fds hart) (lowest ((tree_of self.old).fds hart)) ((tree_of self.old).fds hart fd)) } }
+        ensures { tree_of self.new
+            ≡ record (tree_of self.old) {
+              fds = put (tree_of self.old).fds hart
+                  (put ((tree_of self.old).fds hart) (lowest ((tree_of self.old).fds hart)) ((tree_of self.old).fds hart fd));
+            } }
     {
         let free = self.lowest(hart);
         let id = self.descriptor(hart, fd as usize);
@@ -329,7 +364,8 @@ impl Tree {
     fn close(&mut self, hart: u8, fd: u32)
         requires hart { hart < 8 }
         requires fd { fd < 16 }
-        ensures { tree_of self.new ≡ closed (record (tree_of self.old) { fds = put (tree_of self.old).fds hart (put ((tree_of self.old).fds hart) fd None) }) }
+        ensures { tree_of self.new
+            ≡ closed (record (tree_of self.old) { fds = put (tree_of self.old).fds hart (put ((tree_of self.old).fds hart) fd None) }) }
     {
         self.set_descriptor(hart, fd as usize, None);
         self.close_orphans();
@@ -357,13 +393,18 @@ impl Tree {
     ) -> Attempt
         requires hart { hart < 8 }
         requires live { IfSome found.now.parent (λ d. live_directory ((tree_of self.old).nodes d) ≡ true) }
-        requires none { refusal_with (tree_of self.old) hart action.now found.now.node (with_name found.now.parent found.now.name.now) ≡ None }
+        requires none { refusal_with (tree_of self.old) hart action.now found.now.node (with_name found.now.parent found.now.name.now)
+            ≡ None }
         requires place { place_of (tree_of self.old) hart action.now ≡ true }
-        requires new { makes_node (tree_of self.old) action.now (with_name found.now.parent found.now.name.now) ≡ true → IsNewNode (tree_of self.old) number }
+        requires new { makes_node (tree_of self.old) action.now (with_name found.now.parent found.now.name.now) ≡ true
+            → IsNewNode (tree_of self.old) number }
         requires unused { is_open action.now ≡ true → (tree_of self.old).files id ≡ None }
-        requires answer { answer.now ≡ answer_with (tree_of self.old) hart action.now found.now.node (with_name found.now.parent found.now.name.now) id }
+        requires answer { answer.now
+            ≡ answer_with (tree_of self.old) hart action.now found.now.node (with_name found.now.parent found.now.name.now) id }
         requires fits { ReadsWithin (tree_of self.old) hart action.now answer.now }
-        ensures { MatchResult result (λ _. tree_of self.new ≡ effect_with (tree_of self.old) hart action.now found.now.node (with_name found.now.parent found.now.name.now) number id) (λ _. self.new ≡ self.old) }
+        ensures { MatchResult result
+            (λ _. tree_of self.new ≡ effect_with (tree_of self.old) hart action.now found.now.node
+            (with_name found.now.parent found.now.name.now) number id) (λ _. self.new ≡ self.old) }
     {
         match action {
             Action::Open { flags, .. } if has_flag(*flags, CREATE) => self.open_named(

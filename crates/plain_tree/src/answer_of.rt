@@ -152,7 +152,8 @@ impl Tree {
         found: &Found,
         id: usize,
     ) -> Attempt<StepAnswer>
-        ensures answer { IfOk result (λ a. a ≡ answer_with (tree_of self.now) hart action.now found.now.node (with_name found.now.parent found.now.name.now) id) }
+        ensures answer { IfOk result
+            (λ a. a ≡ answer_with (tree_of self.now) hart action.now found.now.node (with_name found.now.parent found.now.name.now) id) }
         ensures within { IfOk result (λ a. ReadsWithin (tree_of self.now) hart action.now a) }
     {
         match action {

@@ -64,7 +64,8 @@ impl Tree {
     /// Makes the step and gives its answer. A new open file takes the least unused id. A step out of its place
     /// answers cause 6, `dup` with all descriptors taken 23, and changes nothing.
     pub fn apply(&mut self, alloc: Global, step: &TreeStep) -> Result<StepAnswer, ApplyRefused>
-        ensures { MatchResult result (λ a. IsApplied (tree_of self.old) step.now a (tree_of self.new)) (λ e. IsRefused self.old step.now e self.new) }
+        ensures { MatchResult result (λ a. IsApplied (tree_of self.old) step.now a (tree_of self.new))
+            (λ e. IsRefused self.old step.now e self.new) }
     {
         let mut id = 0;
         if is_open(&step.action) {
@@ -81,7 +82,8 @@ impl Tree {
         id: usize,
     ) -> Result<StepAnswer, ApplyRefused>
         requires { is_open step.now.action ≡ true → (tree_of self.old).files id ≡ None }
-        ensures { MatchResult result (λ a. IsAppliedAt (tree_of self.old) step.now id a (tree_of self.new)) (λ e. IsRefused self.old step.now e self.new) }
+        ensures { MatchResult result (λ a. IsAppliedAt (tree_of self.old) step.now id a (tree_of self.new))
+            (λ e. IsRefused self.old step.now e self.new) }
     {
         let hart = step.hart;
         let action = &step.action;

@@ -111,7 +111,13 @@ impl Tree {
         offset: u64,
         bytes: &[u8],
     ) -> Attempt<Option<Vec<u8>>>
-        ensures { IfOk result (λ o. MatchOption o ((tree_of self.now).nodes number ≡ Some (record (node_at (tree_of self.now) number) { kind = written_kind (node_at (tree_of self.now) number).kind offset bytes.now })) (λ v. written_kind (node_at (tree_of self.now) number).kind offset bytes.now ≡ File v.items)) }
+        ensures { IfOk result (λ o. MatchOption o
+            ((tree_of self.now).nodes number
+            ≡ Some (record (node_at (tree_of self.now) number) {
+              kind = written_kind
+                  (node_at (tree_of self.now) number).kind offset bytes.now;
+            }))
+            (λ v. written_kind (node_at (tree_of self.now) number).kind offset bytes.now ≡ File v.items)) }
     {
         match self.node(number) {
             Some(node) => match &node.kind {
@@ -137,7 +143,9 @@ impl Tree {
         bytes: &[u8],
     ) -> Attempt
         requires { number < 2 ^ 16 }
-        ensures { MatchResult result (λ _. tree_of self.new ≡ at_node (tree_of self.old) number (λ v. record v { kind = written_kind v.kind offset bytes.now })) (λ _. self.new ≡ self.old) }
+        ensures { MatchResult result
+            (λ _. tree_of self.new ≡ at_node (tree_of self.old) number (λ v. record v { kind = written_kind v.kind offset bytes.now }))
+            (λ _. self.new ≡ self.old) }
     {
         let Some(new) = self.rewritten(alloc, number, offset, bytes)? else {
             return Ok(());
@@ -160,7 +168,8 @@ impl Tree {
         number: u16,
     ) -> Attempt
         requires { live_directory ((tree_of self.old).nodes directory) ≡ true }
-        ensures tree { MatchResult result (λ _. tree_of self.new ≡ entered (tree_of self.old) directory name number) (λ _. self.new ≡ self.old) }
+        ensures tree { MatchResult result (λ _. tree_of self.new ≡ entered (tree_of self.old) directory name number)
+            (λ _. self.new ≡ self.old) }
         ensures table { (length self.new.nodes ≡ length self.old.nodes) × (self.new.ninodes ≤ length self.new.nodes) }
     {
         let Node { count, kind } = self.take_node(alloc, directory);
@@ -177,7 +186,9 @@ impl Tree {
     pub(crate) fn clear(&mut self, alloc: Global, directory: usize, name: &[u8], lowers: bool)
         requires { directory < length self.old.nodes }
         ensures table { length self.new.nodes ≡ length self.old.nodes }
-        ensures tree { tree_of self.new ≡ at_node (tree_of self.old) directory (λ v. record v { kind = Directory (cleared (slots_of v.kind) name.now); count = if lowers then v.count - 1 else v.count }) }
+        ensures tree { tree_of self.new
+            ≡ at_node (tree_of self.old) directory
+            (λ v. record v { kind = Directory (cleared (slots_of v.kind) name.now); count = if lowers then v.count - 1 else v.count }) }
     {
         let Node { count, kind } = self.take_node(alloc, directory);
         let mut slots = into_slots(alloc, kind);
@@ -210,7 +221,8 @@ impl Tree {
     pub(crate) fn set_descriptor(&mut self, hart: u8, fd: usize, id: Option<usize>)
         requires hart { hart < 8 }
         requires fd { fd < 16 }
-        ensures { tree_of self.new ≡ record (tree_of self.old) { fds = put (tree_of self.old).fds hart (put ((tree_of self.old).fds hart) fd id) } }
+        ensures { tree_of self.new
+            ≡ record (tree_of self.old) { fds = put (tree_of self.old).fds hart (put ((tree_of self.old).fds hart) fd id) } }
     {
         let mut value = self.hart(hart);
         value.descriptors[fd] = id;
@@ -221,7 +233,11 @@ impl Tree {
     pub(crate) fn inherit(&mut self, hart: u8, child: u8)
         requires hart { hart < 8 }
         requires child { child < 8 }
-        ensures { tree_of self.new ≡ record (tree_of self.old) { fds = put (tree_of self.old).fds child ((tree_of self.old).fds hart); cwd = put (tree_of self.old).cwd child ((tree_of self.old).cwd hart) } }
+        ensures { tree_of self.new
+            ≡ record (tree_of self.old) {
+              fds = put (tree_of self.old).fds child ((tree_of self.old).fds hart);
+              cwd = put (tree_of self.old).cwd child ((tree_of self.old).cwd hart);
+            } }
     {
         let mut value = self.hart(hart);
         value.hold = self.hold(child);

@@ -11,7 +11,8 @@ use std::alloc::Global;
 
 /// Adds so many places with nothing in them.
 pub(crate) fn push_absent<T: Drop>(places: &mut Vec<Option<T>>, count: usize) -> Attempt
-    ensures { MatchResult result (λ _. places.new.items ≡ places.old.items ++ replicate count None) (λ _. places.new.items ≡ places.old.items) }
+    ensures { MatchResult result (λ _. places.new.items ≡ places.old.items ++ replicate count None)
+        (λ _. places.new.items ≡ places.old.items) }
 {
     let len = places.len();
     for _ in 0..count {

@@ -51,7 +51,8 @@ impl Tree {
     /// A number that the directory finds, and that isn't marked.
     #[tactic(auto, unfolding(crate::specs::Tree::look))]
     fn new_in(&self, directory: usize, marks: &[bool]) -> Option<u16>
-        ensures { MatchOption result (LooksMarked (tree_of self.now) marks.now directory) (λ n. LooksNew (tree_of self.now) marks.now directory n) }
+        ensures { MatchOption result (LooksMarked (tree_of self.now) marks.now directory)
+            (λ n. LooksNew (tree_of self.now) marks.now directory n) }
     {
         let node = self.node(directory)?;
         match &node.kind {

@@ -42,7 +42,9 @@ impl Tree {
     }
 
     fn is_named_by(&self, hart: u8, number: usize) -> bool
-        ensures { result ≡ (((tree_of self.now).cwd hart == number) || (hold_names ((tree_of self.now).holds hart) number || any_below descriptor_count (λ i. fd_names (tree_of self.now) ((tree_of self.now).fds hart i) number))) }
+        ensures { result ≡ (((tree_of self.now).cwd hart == number)
+            || (hold_names ((tree_of self.now).holds hart) number
+            || any_below descriptor_count (λ i. fd_names (tree_of self.now) ((tree_of self.now).fds hart i) number))) }
     {
         usize::from(self.directory(hart)) == number
             || self.is_held_by(hart, number)

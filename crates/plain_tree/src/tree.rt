@@ -215,7 +215,12 @@ impl Tree {
     /// Puts everything of the hart in its place.
     pub(crate) fn set_hart(&mut self, hart: u8, value: Hart)
         requires { hart < 8 }
-        ensures { tree_of self.new ≡ record (tree_of self.old) { cwd = put (tree_of self.old).cwd hart value.directory; fds = put (tree_of self.old).fds hart (λ i. slice_index_or value.descriptors i None); holds = put (tree_of self.old).holds hart value.hold } }
+        ensures { tree_of self.new
+            ≡ record (tree_of self.old) {
+              cwd = put (tree_of self.old).cwd hart value.directory;
+              fds = put (tree_of self.old).fds hart (λ i. slice_index_or value.descriptors i None);
+              holds = put (tree_of self.old).holds hart value.hold;
+            } }
     {
         self.harts[usize::from(hart)] = value;
     }

@@ -42,7 +42,8 @@ GivesAsked number (Err faults.Memory) asked = Unit {0}
 
 -- a line of a script, but an empty one or a comment, is run at a prompt as what it says, and no other line is run
 abbrev pub PromptsRunScripts : Type 0
-PromptsRunScripts = (said : Line) (line : List ℕ) → is_passed_over line ≡ false → (said_in line ≡ Some said) ↔ (asked_in line ≡ Some (Run said))
+PromptsRunScripts =
+    (said : Line) (line : List ℕ) → is_passed_over line ≡ false → (said_in line ≡ Some said) ↔ (asked_in line ≡ Some (Run said))
 
 -- ---- the lines that are typed: each up to its byte 10, and the last one also without
 

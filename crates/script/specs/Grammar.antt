@@ -42,7 +42,8 @@ pub record HasOne {A : Type 0} (verb : List ℕ) (First : List ℕ → A → Typ
   pub words : line ≡ verb ∷ one ∷ []
   pub first : First one a
 
-pub record HasTwo {A B : Type 0} (verb : List ℕ) (First : List ℕ → A → Type 0) (a : A) (Second : List ℕ → B → Type 0) (b : B) (line : List (List ℕ)) : Type 0 where
+pub record HasTwo {A B : Type 0} (verb : List ℕ) (First : List ℕ → A → Type 0) (a : A) (Second : List ℕ → B → Type 0) (b : B)
+    (line : List (List ℕ)) : Type 0 where
   pub one : List ℕ
   pub two : List ℕ
   pub words : line ≡ verb ∷ one ∷ two ∷ []

@@ -126,7 +126,8 @@ first_said n (Some said) rest = with_line (record { number = n; says = said }) r
 -- what the lines say, or the number of the first that says nothing; the first line is number n
 unfoldable pub lines_from : ℕ → List (List ℕ) → Result (List NumberedLine) ℕ
 lines_from n [] = Ok []
-lines_from n (line ∷ lines) = if is_passed_over line then lines_from (n + 1) lines else first_said n (said_in line) (lines_from (n + 1) lines)
+lines_from n (line ∷ lines) =
+    if is_passed_over line then lines_from (n + 1) lines else first_said n (said_in line) (lines_from (n + 1) lines)
 
 abbrev pub script_in : List ℕ → Result (List NumberedLine) ℕ
 script_in text = lines_from 1 (lines_of text)

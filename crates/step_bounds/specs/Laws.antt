@@ -22,15 +22,18 @@ most_steps = 1000000
 abbrev pub AreFew : Call → ℕ → Type 0
 AreFew call steps = (steps ≤ limit call) × (limit call ≤ most_steps)
 
--- Whatever happens on a mounted disk, at answers that the device may give, the steps of each call are few: also where a step found no room, where paths climb, and
+-- Whatever happens on a mounted disk, at answers that the device may give, the steps of each call are few: also where a step found no
+-- room, where paths climb, and
 -- where the device fails at any moment.
 abbrev pub CallsTakeFewSteps : Type 0
 CallsTakeFewSteps =
-    (disk : List (List ℕ)) (failures : ℕ) (events : List (EventOf Call Outside)) → IsMountable disk → AllHonest (block_calls (sizes_of disk)) events (fresh (block_calls (sizes_of disk)) (first disk failures))
+    (disk : List (List ℕ)) (failures : ℕ) (events : List (EventOf Call Outside)) → IsMountable disk
+    → AllHonest (block_calls (sizes_of disk)) events (fresh (block_calls (sizes_of disk)) (first disk failures))
     → OfEachCall AreFew events (outcomes (block_calls (sizes_of disk)) events (fresh (block_calls (sizes_of disk)) (first disk failures)))
 
 module _ {D : Type 0} (contents : D → List (List ℕ)) (failures : D → ℕ) where
   -- So it is in each run of this world, where it is as a mount left it.
   abbrev pub RunsTakeFewSteps : WorldOf D → Type 0
   RunsTakeFewSteps w =
-      (device : D) (events : List Event) (came : List Came) (new : HartsOf D) → IsMounted contents failures device w → HasHistory contents failures w.sizes w.harts events came new → OfEachCall AreFew (events_of events) (outcomes_of came)
+      (device : D) (events : List Event) (came : List Came) (new : HartsOf D) → IsMounted contents failures device w
+      → HasHistory contents failures w.sizes w.harts events came new → OfEachCall AreFew (events_of events) (outcomes_of came)

@@ -18,7 +18,8 @@ use Rattle.calls_on_blocks.specs.History.{block_moves, first, RunsOn}
 use Rattle.calls_on_blocks.specs.Theory.{block_calls}
 use Rattle.stops_on_blocks.specs.Marks.{marks_after, noted, told_between}
 
--- Events of a disk that was mounted, at answers that the device may give. A step may have found no room, paths may climb, and the device may
+-- Events of a disk that was mounted, at answers that the device may give. A step may have found no room, paths may climb, and the device
+-- may
 -- have failed.
 pub record AreEventsOn (disk : List (List ℕ)) (failures : ℕ) (events : List (Event Call Outside)) : Type 0 where
   pub mountable : IsMountable disk
@@ -36,11 +37,14 @@ disk_after disk failures events = (state_after disk failures events).world.real.
 abbrev pub marks_at : List (List ℕ) → ℕ → List (Event Call Outside) → Marks
 marks_at disk failures events = marks_after (sizes_of disk) events (fresh (block_calls (sizes_of disk)) (first disk failures)) no_marks
 
--- Wherever it is stopped, in the middle of calls or of a commit, by the device's failure or not, the disk passes all checks, as recovery sees it.
+-- Wherever it is stopped, in the middle of calls or of a commit, by the device's failure or not, the disk passes all checks, as recovery
+-- sees it.
 abbrev pub StopsLeaveImages : Type 0
-StopsLeaveImages = (disk : List (List ℕ)) (failures : ℕ) (events : List (Event Call Outside)) → AreEventsOn disk failures events → IsWellFormed (disk_after disk failures events)
+StopsLeaveImages = (disk : List (List ℕ)) (failures : ℕ) (events : List (Event Call Outside)) → AreEventsOn disk failures events
+    → IsWellFormed (disk_after disk failures events)
 
--- One list of tree steps explains the run. The entries of its first k events, for a k that the marks tell, are a beginning of it; and the disk's tree is
+-- One list of tree steps explains the run. The entries of its first k events, for a k that the marks tell, are a beginning of it; and the
+-- disk's tree is
 -- what has names in the tree to which they lead.
 pub record LeavesABeginning (disk : List (List ℕ)) (failures : ℕ) (events : List (Event Call Outside)) : Type 0 where
   pub history : HasOneHistory (block_moves (sizes_of disk)) (tree_in disk) (first disk failures) events
@@ -57,14 +61,17 @@ pub record LeavesABeginning (disk : List (List ℕ)) (failures : ℕ) (events : 
 
 -- So it is where no step found no room and no path climbs,
 abbrev pub StopsLeaveABeginning : Type 0
-StopsLeaveABeginning = (disk : List (List ℕ)) (failures : ℕ) (events : List (Event Call Outside)) → RunsOn disk failures events → NoneClimbs events → LeavesABeginning disk failures events
+StopsLeaveABeginning = (disk : List (List ℕ)) (failures : ℕ) (events : List (Event Call Outside)) → RunsOn disk failures events
+    → NoneClimbs events → LeavesABeginning disk failures events
 
 -- and, for any paths, where one hart alone makes calls.
 abbrev pub OneHartLeavesABeginning : Type 0
-OneHartLeavesABeginning = (disk : List (List ℕ)) (failures h : ℕ) (events : List (Event Call Outside)) → RunsOn disk failures events → Alone h events → LeavesABeginning disk failures events
+OneHartLeavesABeginning = (disk : List (List ℕ)) (failures h : ℕ) (events : List (Event Call Outside)) → RunsOn disk failures events
+    → Alone h events → LeavesABeginning disk failures events
 
 -- The marks are known by where each event takes the log's commit.
 abbrev pub MarksAreTold : Type 0
 MarksAreTold =
     (disk : List (List ℕ)) (failures : ℕ) (events : List (Event Call Outside)) → AreEventsOn disk failures events
-    → noted (block_calls (sizes_of disk)) (told_between (sizes_of disk)) events (fresh (block_calls (sizes_of disk)) (first disk failures)) no_marks ≡ marks_at disk failures events
+    → noted (block_calls (sizes_of disk)) (told_between (sizes_of disk)) events
+    (fresh (block_calls (sizes_of disk)) (first disk failures)) no_marks ≡ marks_at disk failures events

@@ -18,7 +18,8 @@ state_up_to disk failures events n = state_after disk failures (take n events)
 -- After so many events as a mark tells no hart is in a transaction: none is stored in part.
 abbrev pub MarksPartNone : Type 0
 MarksPartNone =
-    (disk : List (List ℕ)) (failures : ℕ) (events : List (Event Call Outside)) → AreEventsOn disk failures events → (k : ℕ) → IsMarked (marks_at disk failures events) k
+    (disk : List (List ℕ)) (failures : ℕ) (events : List (Event Call Outside)) → AreEventsOn disk failures events → (k : ℕ)
+    → IsMarked (marks_at disk failures events) k
     → joined (log_at (sizes_of disk) (state_up_to disk failures events k)).members ≡ 0
 
 -- event i is a step of hart h that began a commit
@@ -38,4 +39,5 @@ pub record HasReplied (disk : List (List ℕ)) (failures : ℕ) (events : List (
 abbrev pub CutsHaveReplies : Type 0
 CutsHaveReplies =
     (disk : List (List ℕ)) (failures : ℕ) (events : List (Event Call Outside)) → AreEventsOn disk failures events
-    → (i j h : ℕ) → BeganCommit disk failures events i h → i < j → HasReplied disk failures events j h → i < (marks_at disk failures events).cut
+    → (i j h : ℕ) → BeganCommit disk failures events i h → i < j → HasReplied disk failures events j h
+    → i < (marks_at disk failures events).cut

@@ -51,7 +51,8 @@ left_in Stopped m = Some m
 module _ {D : Type 0} (contents : D → List (List ℕ)) (failures : D → ℕ) (Called : D → D → Type 0) where
   -- the step of a call is the next operation of its program, and leaves this of it
   pub record StepsCall (hart : ℕ) (call left : Running) (result : Came Reply Kind) (old new : Core D) : Type 0 where
-    pub moves : Moves running_of (λ reply. reply) hart call (stepped_at left result) (state_of contents failures old) (state_of contents failures new)
+    pub moves : Moves running_of (λ reply. reply) hart call (stepped_at left result) (state_of contents failures old)
+        (state_of contents failures new)
     pub honest : Answers running_of hart call (stepped_at left result) (state_of contents failures old) (state_of contents failures new)
     pub still : Still running_of (stepped_at left result) call old new
     pub fits : Left (RunningFits hart (state_of contents failures new)) (λ _. Unit {0}) (stepped_at left result)

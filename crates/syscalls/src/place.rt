@@ -22,7 +22,8 @@ use plain_tree::{Call, Reply};
 use std::alloc::{AllocError, AllocFailed, Global};
 use std::marker::Model;
 
-/// The place of a hart's call. It is idle, or a call is under way there, with the part of its present operation and all that its hart has in
+/// The place of a hart's call. It is idle, or a call is under way there, with the part of its present operation and all that its hart has
+/// in
 /// hand. The memory for that is taken once: to begin a call takes none, and a call that has replied leaves the place as it found it. A
 /// contract sees the call under way, if one is.
 ///
@@ -120,7 +121,8 @@ impl CallPlace {
         self.is_busy = true;
     }
 
-    /// One operation of the call under way. Once it has replied the place is idle, and the reply stands in a place of its own, which is empty
+    /// One operation of the call under way. Once it has replied the place is idle, and the reply stands in a place of its own, which is
+    /// empty
     /// before.
     #[inline(always)]
     pub fn step<D: Device>(

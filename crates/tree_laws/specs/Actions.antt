@@ -8,8 +8,10 @@ use Rattle.plain_tree.specs.Tree.{Name, Tree, put, look, and_then}
 use Rattle.plain_tree.specs.Steps.{creates, file_at, part, moved, truncated, wrote, held, at_hold, raise_hold, enter_hold, drop_hold, raised, lowered, removed, made, at_dir, closed, lowest, opened_new, opened_at, opened, stat_answer, effect_with, answer_with}
 
 -- the step makes this tree and gives this answer, whatever its path leads to (res), and its parent with the last element (par)
-abbrev pub Makes : Action → (Tree → ℕ → Option ℕ → Option (ℕ × Name) → ℕ → ℕ → Tree) → (Tree → ℕ → Option ℕ → Option (ℕ × Name) → ℕ → StepAnswer) → Type 0
-Makes s tree answer = (t : Tree) (h : ℕ) (res : Option ℕ) (par : Option (ℕ × Name)) (new id : ℕ) → (effect_with t h s res par new id ≡ tree t h res par new id) × (answer_with t h s res par id ≡ answer t h res par id)
+abbrev pub Makes : Action → (Tree → ℕ → Option ℕ → Option (ℕ × Name) → ℕ → ℕ → Tree)
+    → (Tree → ℕ → Option ℕ → Option (ℕ × Name) → ℕ → StepAnswer) → Type 0
+Makes s tree answer = (t : Tree) (h : ℕ) (res : Option ℕ) (par : Option (ℕ × Name)) (new id : ℕ)
+    → (effect_with t h s res par new id ≡ tree t h res par new id) × (answer_with t h s res par id ≡ answer t h res par id)
 
 -- its answer is that it is done
 abbrev pub Does : Action → (Tree → ℕ → Option ℕ → Option (ℕ × Name) → ℕ → Tree) → Type 0
@@ -36,4 +38,5 @@ pub record ActionsAreTold : Type 0 where
       (λ t h res par id. NewFd (lowest (t.fds h)))
   pub close : (fd : ℕ) → Does (Close fd) (λ t h res par new. closed (record t { fds = put t.fds h (put (t.fds h) fd None) }))
   pub fstat : (fd : ℕ) → Makes (Fstat fd) (λ t h res par new id. t) (λ t h res par id. stat_answer t (file_at t h fd))
-  pub inherit : (child : ℕ) → Does (Inherit child) (λ t h res par new. record t { fds = put t.fds child (t.fds h); cwd = put t.cwd child (t.cwd h) })
+  pub inherit : (child : ℕ)
+      → Does (Inherit child) (λ t h res par new. record t { fds = put t.fds child (t.fds h); cwd = put t.cwd child (t.cwd h) })

@@ -12,28 +12,34 @@ use Rattle.tree_laws.specs.Leaves.{IsFound, LeavesFinding, Frame, IsNobodys}
 
 -- Every tree step, also a refused one, keeps a tree well formed, whatever was found for its path.
 abbrev pub StepsKeepWellFormed : Type 0
-StepsKeepWellFormed = (t t' : Tree) (h : ℕ) (s : Action) (res : Option ℕ) (par : Option (ℕ × Name)) (a : StepAnswer) (new id : ℕ) → IsWellFormed t → IsFound t res par → StepWith t h s res par a new id t' → IsWellFormed t'
+StepsKeepWellFormed = (t t' : Tree) (h : ℕ) (s : Action) (res : Option ℕ) (par : Option (ℕ × Name)) (a : StepAnswer) (new id : ℕ)
+    → IsWellFormed t → IsFound t res par → StepWith t h s res par a new id t' → IsWellFormed t'
 
 -- Before the nodes that nothing keeps leave it the tree is well formed too.
 abbrev pub EffectsKeepWellFormed : Type 0
-EffectsKeepWellFormed = (t : Tree) (h : ℕ) (s : Action) (res : Option ℕ) (par : Option (ℕ × Name)) (new id : ℕ) → IsWellFormed t → IsFound t res par → IsInPlace t h s → refusal_with t h s res par ≡ None → MayChoose t h s par new id
+EffectsKeepWellFormed = (t : Tree) (h : ℕ) (s : Action) (res : Option ℕ) (par : Option (ℕ × Name)) (new id : ℕ) → IsWellFormed t
+    → IsFound t res par → IsInPlace t h s → refusal_with t h s res par ≡ None → MayChoose t h s par new id
     → IsWellFormed (effect_with t h s res par new id)
 
 -- What live directories find changes at the step's own name alone.
 abbrev pub StepsLeaveFinding : Type 0
-StepsLeaveFinding = (t t' : Tree) (h : ℕ) (s : Action) (res : Option ℕ) (par : Option (ℕ × Name)) (a : StepAnswer) (new id : ℕ) → IsWellFormed t → IsFound t res par → StepWith t h s res par a new id t' → LeavesFinding t h s res par new t'
+StepsLeaveFinding = (t t' : Tree) (h : ℕ) (s : Action) (res : Option ℕ) (par : Option (ℕ × Name)) (a : StepAnswer) (new id : ℕ)
+    → IsWellFormed t → IsFound t res par → StepWith t h s res par a new id t' → LeavesFinding t h s res par new t'
 
 -- A path without ".." leads where it led, or led to what the step removed.
 abbrev pub StepsLeavePaths : Type 0
-StepsLeavePaths = (t t' : Tree) (h : ℕ) (s : Action) (res : Option ℕ) (par : Option (ℕ × Name)) (a : StepAnswer) (new id : ℕ) → IsWellFormed t → IsFound t res par → StepWith t h s res par a new id t' → Frame t h s res par new t'
+StepsLeavePaths = (t t' : Tree) (h : ℕ) (s : Action) (res : Option ℕ) (par : Option (ℕ × Name)) (a : StepAnswer) (new id : ℕ)
+    → IsWellFormed t → IsFound t res par → StepWith t h s res par a new id t' → Frame t h s res par new t'
 
 -- What a whole path leads to is found.
 abbrev pub PathsLeadToWhatIsFound : Type 0
-PathsLeadToWhatIsFound = (t : Tree) (h : ℕ) (path : List ℕ) → h < hart_count → IsWellFormed t → IsFound t (resolve t h path) (parent t h path)
+PathsLeadToWhatIsFound =
+    (t : Tree) (h : ℕ) (path : List ℕ) → h < hart_count → IsWellFormed t → IsFound t (resolve t h path) (parent t h path)
 
 -- A dead node that nothing names may leave.
 abbrev pub DeadNodesMayLeave : Type 0
-DeadNodesMayLeave = (t : Tree) (n : ℕ) → IsWellFormed t → is_live (t.nodes n) ≡ false → is_named t n ≡ false → IsWellFormed (record t { nodes = put t.nodes n None })
+DeadNodesMayLeave = (t : Tree) (n : ℕ) → IsWellFormed t → is_live (t.nodes n) ≡ false → is_named t n ≡ false
+    → IsWellFormed (record t { nodes = put t.nodes n None })
 
 -- A number that a step may choose for a new node is found nowhere.
 abbrev pub NewNumbersAreNobodys : Type 0

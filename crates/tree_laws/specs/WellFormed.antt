@@ -92,7 +92,8 @@ pub record IsInOrder (folders : Folders) (links held : ℕ → ℕ) (below : ℕ
   -- any other directory has one place, in its "..", which lies higher
   pub place : d ≢ root → (mentions folders below d ≡ 1) × (count_in (past (folders (up_in ss))) d ≡ 1) × (depth (up_in ss) < depth d)
 
--- Live directories and counts of links fit. held: how many raised holds name a node. Going up from a directory, depth falls until the root is reached.
+-- Live directories and counts of links fit. held: how many raised holds name a node. Going up from a directory, depth falls until the root
+-- is reached.
 pub record IsForest (folders : Folders) (links held : ℕ → ℕ) (below : ℕ) (depth : ℕ → ℕ) : Type 0 where
   pub rooted : folders root ≢ None
   pub directory : (d : ℕ) (ss : Slots) → folders d ≡ Some ss → IsInOrder folders links held below depth d ss

@@ -78,10 +78,12 @@ abbrev pub link_a : Call
 link_a = Link (codes "/a") (codes "/b")
 
 abbrev pub links : List Event
-links = opens_a ++ Starts 0 link_a ∷ walks 0 (Find (codes "/a")) 0 ++ goes 0 (Own Bump 0) ∷ walks 0 (Enter (codes "/b")) 0 ++ returns 0 link_a Finished ∷ []
+links = opens_a ++ Starts 0 link_a ∷ walks 0 (Find (codes "/a")) 0 ++ goes 0 (Own Bump 0) ∷ walks 0 (Enter (codes "/b")) 0
+    ++ returns 0 link_a Finished ∷ []
 
 abbrev pub LinkFinishes : Type 0
-LinkFinishes = IsRun links (opened_a ∷ placed 6 1 0 0 (Find (codes "/a")) Done ∷ placed 7 1 0 0 Bump Done ∷ placed 9 1 0 0 (Enter (codes "/b")) Done ∷ [])
+LinkFinishes = IsRun links
+    (opened_a ∷ placed 6 1 0 0 (Find (codes "/a")) Done ∷ placed 7 1 0 0 Bump Done ∷ placed 9 1 0 0 (Enter (codes "/b")) Done ∷ [])
 
 abbrev pub unlinks : List Event
 unlinks = opens_a ++ Starts 0 (Unlink (codes "/a")) ∷ walks 0 (UnlinkStep (codes "/a")) 0 ++ returns 0 (Unlink (codes "/a")) Finished ∷ []
@@ -108,10 +110,12 @@ abbrev pub DupFinishes : Type 0
 DupFinishes = IsRun doubles (opened_a ∷ placed 5 1 0 0 (DupStep 0) (NewFd 1) ∷ [])
 
 abbrev pub asks : List Event
-asks = opens_a ++ Starts 0 (Fstat 0) ∷ ends 0 (Own (FstatStep 0) 0) (Fstat 0) (Stated (record { device = 1; inode = 2; kind = AFile; nlink = 1; size = 0 })) ∷ []
+asks = opens_a ++ Starts 0 (Fstat 0)
+    ∷ ends 0 (Own (FstatStep 0) 0) (Fstat 0) (Stated (record { device = 1; inode = 2; kind = AFile; nlink = 1; size = 0 })) ∷ []
 
 abbrev pub FstatFinishes : Type 0
-FstatFinishes = IsRun asks (opened_a ∷ placed 5 1 0 0 (FstatStep 0) (Status (record { device = 1; inode = 2; kind = AFile; nlink = 1; size = 0 })) ∷ [])
+FstatFinishes =
+    IsRun asks (opened_a ∷ placed 5 1 0 0 (FstatStep 0) (Status (record { device = 1; inode = 2; kind = AFile; nlink = 1; size = 0 })) ∷ [])
 
 abbrev pub closes : List Event
 closes = opens_a ++ Starts 0 (Close 0) ∷ ends 0 (Own (CloseStep 0) 0) (Close 0) Finished ∷ []
@@ -144,7 +148,8 @@ unlink_d = Unlink (codes "/d")
 
 -- hart 1 makes /d, as node d, and /d/f, as node f
 abbrev pub makes_both : ℕ → ℕ → List Event
-makes_both d f = Starts 1 mkdir_d ∷ walks 1 (MkdirStep (codes "/d")) d ++ returns 1 mkdir_d Finished ∷ Starts 1 make_f ∷ walks_through 1 (OpenStep (codes "/d/f") 512) f ++ returns 1 make_f (Fd 0) ∷ []
+makes_both d f = Starts 1 mkdir_d ∷ walks 1 (MkdirStep (codes "/d")) d ++ returns 1 mkdir_d Finished ∷ Starts 1 make_f
+    ∷ walks_through 1 (OpenStep (codes "/d/f") 512) f ++ returns 1 make_f (Fd 0) ∷ []
 
 -- hart 0 walks to /d, node 2; hart 1 removes /d/f and /d under it
 abbrev pub removes_both : List Event
@@ -177,7 +182,8 @@ abbrev pub made_again : List Event
 made_again = makes_both 2 3 ++ removes_both ++ makes_both 3 4 ++ gives_up ∷ []
 
 abbrev pub WalkerStaysFailed : Type 0
-WalkerStaysFailed = IsRun made_again (until_removed ++ placed 25 6 1 3 (MkdirStep (codes "/d")) Done ∷ placed 30 7 1 4 (OpenStep (codes "/d/f") 512) (Opened 0 0 true) ∷ [])
+WalkerStaysFailed = IsRun made_again
+    (until_removed ++ placed 25 6 1 3 (MkdirStep (codes "/d")) Done ∷ placed 30 7 1 4 (OpenStep (codes "/d/f") 512) (Opened 0 0 true) ∷ [])
 
 -- A walk that comes to a file is lost there and then, and fails where it was lost.
 
@@ -185,7 +191,8 @@ abbrev pub open_below_a : Call
 open_below_a = Open (codes "/a/b") 0
 
 abbrev pub opens_below_a : List Event
-opens_below_a = opens_a ++ Starts 0 open_below_a ∷ walks 0 (OpenStep (codes "/a/b") 0) 0 ++ ends 0 (Quit (OpenStep (codes "/a/b") 0)) open_below_a (Refused NoEntry) ∷ []
+opens_below_a = opens_a ++ Starts 0 open_below_a ∷ walks 0 (OpenStep (codes "/a/b") 0) 0
+    ++ ends 0 (Quit (OpenStep (codes "/a/b") 0)) open_below_a (Refused NoEntry) ∷ []
 
 abbrev pub WalkerFailsAtAFile : Type 0
 WalkerFailsAtAFile = IsRun opens_below_a (opened_a ∷ placed 6 1 0 0 (OpenStep (codes "/a/b") 0) (Failed NoEntry) ∷ [])

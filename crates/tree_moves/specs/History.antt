@@ -1,4 +1,5 @@
--- The history so far: the list of tree steps that is kept beside the trace, and how each hart's call stands. Entries are appended, never changed.
+-- The history so far: the list of tree steps that is kept beside the trace, and how each hart's call stands. Entries are appended, never
+-- changed.
 use Rattle.std.specs.Prelude.{ℕ, List, [], ◌∷◌, ◌++◌, length, Option, Some, None}
 use Rattle.plain_tree.specs.declared.answer.Reply.{Reply}
 use Rattle.plain_tree.specs.declared.call.Call.{Call}
@@ -22,7 +23,8 @@ pub record History : Type 0 where
 
 -- a deed with its moment and its call
 abbrev pub entry_of : ℕ → ℕ → ℕ → Deed → Placed
-entry_of event id h d = record { event = event; call = id; step = record { hart = h; new = d.new; action = d.act.step }; answer = d.act.answer }
+entry_of event id h d =
+    record { event = event; call = id; step = record { hart = h; new = d.new; action = d.act.step }; answer = d.act.answer }
 
 -- the deed of the hart's call is written in the list
 abbrev pub writes : HartStanding → History → ℕ → Deed → History

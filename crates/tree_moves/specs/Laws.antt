@@ -15,11 +15,13 @@ use Rattle.tree_moves.specs.Runs.{World, Event, lost_of, stepped, Runs, NoneClim
 
 -- From a well-formed tree with idle harts, where no path climbs.
 abbrev pub RunsAreExplained : Type 0
-RunsAreExplained = (base : TreeData) (w : World) (events : List Event) → IsWellFormed (tree_of base) → NoneClimbs events → Runs (opened (tree_of base)) events w → Explains base (trace_of (map shown_of events)) w.history.list
+RunsAreExplained = (base : TreeData) (w : World) (events : List Event) → IsWellFormed (tree_of base) → NoneClimbs events
+    → Runs (opened (tree_of base)) events w → Explains base (trace_of (map shown_of events)) w.history.list
 
 -- The list leads from the beginning to the tree as it stands, which is well formed.
 abbrev pub ListsLeadToTheTree : Type 0
-ListsLeadToTheTree = (base : TreeData) (w : World) (events : List Event) → IsWellFormed (tree_of base) → NoneClimbs events → Runs (opened (tree_of base)) events w → Chain (tree_of base) w.history.list w.stage.tree × IsWellFormed w.stage.tree
+ListsLeadToTheTree = (base : TreeData) (w : World) (events : List Event) → IsWellFormed (tree_of base) → NoneClimbs events
+    → Runs (opened (tree_of base)) events w → Chain (tree_of base) w.history.list w.stage.tree × IsWellFormed w.stage.tree
 
 -- the entries whose event is before this one
 abbrev pub before : ℕ → List Placed → List Placed
@@ -27,7 +29,8 @@ before n list = filter (λ e. nat_lt e.event n) list
 
 -- The entries of the first events are the list as it stood after them.
 abbrev pub ListsGrow : Type 0
-ListsGrow = (t : Tree) (w w' : World) (events later : List Event) → Runs (opened t) events w → Runs w later w' → before (length events) w'.history.list ≡ w.history.list
+ListsGrow = (t : Tree) (w w' : World) (events later : List Event) → Runs (opened t) events w → Runs w later w'
+    → before (length events) w'.history.list ≡ w.history.list
 
 abbrev pub of_call : ℕ → List Placed → List Placed
 of_call id list = filter (λ e. e.call == id) list
@@ -39,17 +42,23 @@ in_turn (suc n) list = in_turn n list ++ of_call n list
 
 -- Where one hart alone makes calls, whether paths climb or not, the list is its calls' sequences one after the other.
 abbrev pub OneHartIsExplained : Type 0
-OneHartIsExplained = (base : TreeData) (w : World) (h : ℕ) (events : List Event) → IsWellFormed (tree_of base) → Alone h events → Runs (opened (tree_of base)) events w
-    → Explains base (trace_of (map shown_of events)) w.history.list × (w.history.list ≡ in_turn (length (trace_of (map shown_of events)).calls) w.history.list)
+OneHartIsExplained = (base : TreeData) (w : World) (h : ℕ) (events : List Event) → IsWellFormed (tree_of base) → Alone h events
+    → Runs (opened (tree_of base)) events w
+    → Explains base (trace_of (map shown_of events)) w.history.list
+    × (w.history.list ≡ in_turn (length (trace_of (map shown_of events)).calls) w.history.list)
 
--- Of a call under way the list has what the call was told, and where its walk is lost also the failing step, of which it is told when it gives the walk up.
+-- Of a call under way the list has what the call was told, and where its walk is lost also the failing step, of which it is told when it
+-- gives the walk up.
 abbrev pub CallsAreToldLate : Type 0
-CallsAreToldLate = (base : TreeData) (w : World) (events : List Event) (h id : ℕ) (c : Call) (told : List Act) → IsWellFormed (tree_of base) → NoneClimbs events → Runs (opened (tree_of base)) events w → h < hart_count → w.history.calls h ≡ Busy id c told
+CallsAreToldLate = (base : TreeData) (w : World) (events : List Event) (h id : ℕ) (c : Call) (told : List Act) → IsWellFormed (tree_of base)
+    → NoneClimbs events → Runs (opened (tree_of base)) events w → h < hart_count → w.history.calls h ≡ Busy id c told
     → acts_of id w.history.list ≡ after (lost_of w.stage h) told
 
--- Where a call's moves are written, each begins the step that is next for what the call was told so far, and after the last the call may end.
+-- Where a call's moves are written, each begins the step that is next for what the call was told so far, and after the last the call may
+-- end.
 abbrev pub WrittenMovesComeNext : Type 0
-WrittenMovesComeNext = (c : Call) (es rest : List Step) (e : Step) (r : Reply) → IsWholeCall c (es ++ e ∷ rest) r → IsNext c (told_by [] es) (begins e.move)
+WrittenMovesComeNext =
+    (c : Call) (es rest : List Step) (e : Step) (r : Reply) → IsWholeCall c (es ++ e ∷ rest) r → IsNext c (told_by [] es) (begins e.move)
 
 abbrev pub WrittenMovesEnd : Type 0
 WrittenMovesEnd = (c : Call) (es : List Step) (r : Reply) → IsWholeCall c es r → MayEnd c (told_by [] es) r
@@ -65,7 +74,8 @@ pub record Tells (w : World) (h id : ℕ) (c : Call) (acts : List Act) (told : O
   pub others : (r : Option Reply) (g : ℕ) → g ≢ h → (stepped w h told m r).history.calls g ≡ w.history.calls g
 
 abbrev pub EventsTellTheirHart : Type 0
-EventsTellTheirHart = (w : World) (h id : ℕ) (c : Call) (acts : List Act) (told : Option Deed) (m : Stage) → w.history.calls h ≡ Busy id c acts → Tells w h id c acts told m
+EventsTellTheirHart = (w : World) (h id : ℕ) (c : Call) (acts : List Act) (told : Option Deed) (m : Stage)
+    → w.history.calls h ≡ Busy id c acts → Tells w h id c acts told m
 
 -- A run and a run from where it ended are a run.
 abbrev pub RunsGoOn : Type 0

@@ -45,14 +45,16 @@ walks_at None n = ⊥
 walks_at (Some w) n = w.at ≡ n
 
 -- The step acts by what was found for its path: res and par. The hart is told the deed, and the walk that led to it ends.
-pub record Acts (m : Stage) (h : ℕ) (s : Action) (res : Option ℕ) (par : Option (ℕ × Name)) (new : ℕ) (told : Option Deed) (m' : Stage) : Type 0 where
+pub record Acts (m : Stage) (h : ℕ) (s : Action) (res : Option ℕ) (par : Option (ℕ × Name)) (new : ℕ) (told : Option Deed)
+    (m' : Stage) : Type 0 where
   pub answer : StepAnswer
   pub id : ℕ  -- of a new open file
   pub deed : told ≡ Some (record { act = record { step = s; answer = answer }; new = new })
   pub step : StepWith m.tree h s res par answer new id m'.tree
   pub walk : m'.walk ≡ put m.walk h None
   -- where it makes a node, no other hart's walk stands at the number
-  pub alone : refusal_with m.tree h s res par ≡ None → makes_node m.tree s par ≡ true → (g : ℕ) → g < hart_count → g ≢ h → walks_at (m.walk g) new → ⊥
+  pub alone : refusal_with m.tree h s res par ≡ None → makes_node m.tree s par ≡ true → (g : ℕ) → g < hart_count → g ≢ h
+      → walks_at (m.walk g) new → ⊥
   -- who inherits has no walk
   pub idle : (g : ℕ) → g < hart_count → s ≡ Inherit g → m.walk g ≡ None
 

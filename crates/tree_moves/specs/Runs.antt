@@ -11,7 +11,8 @@ use Rattle.tree_moves.specs.Moves.{Deed, Walk, Stage, Move, fail, Plays, begins,
 use Rattle.tree_moves.specs.History.{History, writes_any, tells_any, starts, replies, passes}
 use Rattle.tree_moves.specs.History.HartStanding.{Free, Busy}
 
--- A walk is lost where it stands at no live directory. Its call fails at the very event in which that comes about, and is told when it gives the walk up.
+-- A walk is lost where it stands at no live directory. Its call fails at the very event in which that comes about, and is told when it
+-- gives the walk up.
 abbrev pub lost : Tree → Option Walk → Option Deed
 lost t None = None
 lost t (Some w) = if live_directory (t.nodes w.at) then None else Some (fail w.step)

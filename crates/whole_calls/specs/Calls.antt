@@ -110,7 +110,8 @@ unlink_of path ns (unlink.Look d e) = naming.unlink_named path d (name_in path e
 unlink_of path ns (unlink.Up x n) = naming.unlink_other path x.directory (name_in path x.element) ns (face_of x.face) n
 unlink_of path ns (unlink.Take x n) = naming.unlink_child path x.directory (name_in path x.element) ns (face_of x.face) n
 unlink_of path ns (unlink.Clear x n g) = naming.clear_name path x.directory (name_in path x.element) ns (face_of x.face) n (face_of g)
-unlink_of path ns (unlink.LowerParent x n g) = Do (Store x.directory (x.face.count - 1)) unmarked (λ _. give_up x.directory (gave_parent path ns n (face_of g)))
+unlink_of path ns (unlink.LowerParent x n g) =
+    Do (Store x.directory (x.face.count - 1)) unmarked (λ _. give_up x.directory (gave_parent path ns n (face_of g)))
 unlink_of path ns (unlink.GiveParent d n g) = dropping_of (gave_parent path ns n (face_of g)) d
 unlink_of path ns (unlink.Lower n g) = gave_parent path ns n (face_of g)
 unlink_of path ns (unlink.Ends e) = ending_of (calls.Unlink path) ns e

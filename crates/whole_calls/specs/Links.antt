@@ -57,7 +57,8 @@ module _ (old new : List ℕ) where
 
   -- what is to get the name was seen
   abbrev pub took : ℕ → List ℕ → Face → P Reply
-  took n ns f = if is_directory_sort f.sort then give_up n (tail ns (failed (calls.Link old new) IsDirectory)) else link_raise old new n ns f (bump_refused f)
+  took n ns f = if is_directory_sort f.sort then give_up n (tail ns (failed (calls.Link old new) IsDirectory))
+      else link_raise old new n ns f (bump_refused f)
 
   abbrev pub lowers : ℕ → Face → Reply → List ℕ → P Reply
   lowers n f r ns = Do (Store n (f.count - 1)) (λ _. own_step steps.Unbump) (λ _. give_up n (tail ns r))

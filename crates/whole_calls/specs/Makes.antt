@@ -32,10 +32,12 @@ mkdir_after path = record { found = mkdir_found path; lost = λ why ns. tail ns 
 
 -- the new directory is to be entered
 abbrev pub enters : List ℕ → List ℕ → NewName → Face → P Reply
-enters path ns x f = Do (Enter x.directory (name_in path x.element) x.number) (entered_file x.number) (name_directory path x.directory f x.number ns)
+enters path ns x f =
+    Do (Enter x.directory (name_in path x.element) x.number) (entered_file x.number) (name_directory path x.directory f x.number ns)
 
 abbrev pub fills : List ℕ → List ℕ → NewName → Face → P Reply
-fills path ns x f = Do (Fill x.number x.directory) mends_if_full (λ there. if there then enters path ns x f else unmake x.number x.directory ns (full (calls.Mkdir path) Blocks))
+fills path ns x f = Do (Fill x.number x.directory) mends_if_full
+    (λ there. if there then enters path ns x f else unmake x.number x.directory ns (full (calls.Mkdir path) Blocks))
 
 abbrev pub mkdir_of : List ℕ → List ℕ → Mkdir → P Reply
 mkdir_of path ns making.Join = mkdir_program path
@@ -47,8 +49,10 @@ mkdir_of path ns (making.TakeNew x f) = mkdir_other path x.directory (name_in pa
 mkdir_of path ns (making.StoreNew x f) = Do (Store x.number 1) unmarked (λ _. fills path ns x (face_of f))
 mkdir_of path ns (making.Fill x f) = fills path ns x (face_of f)
 mkdir_of path ns (making.Enter x f) = enters path ns x (face_of f)
-mkdir_of path ns (making.Raise x f) = Do (Store x.directory (f.count + 1)) unmarked (λ _. give_up x.directory (give_up x.number (tail ns (done (calls.Mkdir path)))))
-mkdir_of path ns (making.Unmake x a) = Do (Store x.number 0) (λ _. Some (Orphans x.number)) (λ _. give_up x.number (give_up x.directory (tail ns (reply_to (calls.Mkdir path) a))))
+mkdir_of path ns (making.Raise x f) =
+    Do (Store x.directory (f.count + 1)) unmarked (λ _. give_up x.directory (give_up x.number (tail ns (done (calls.Mkdir path)))))
+mkdir_of path ns (making.Unmake x a) = Do (Store x.number 0) (λ _. Some (Orphans x.number))
+    (λ _. give_up x.number (give_up x.directory (tail ns (reply_to (calls.Mkdir path) a))))
 mkdir_of path ns (making.Ends e) = ending_of (calls.Mkdir path) ns e
 
 abbrev pub mkdir_stage : Mkdir → Stage

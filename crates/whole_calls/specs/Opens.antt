@@ -41,7 +41,8 @@ descriptor_mark flags false fd = None
 
 abbrev pub described : List ℕ → ℕ → List ℕ → ℕ → Sort → Bool → ℕ → P Reply
 described path flags ns n sort true fd = open_end path flags n ns fd
-described path flags ns n sort false fd = if empties flags sort then Do (Empty n) (λ _. own_step (steps.Truncate fd)) (λ _. open_end path flags n ns fd) else open_end path flags n ns fd
+described path flags ns n sort false fd = if empties flags sort
+    then Do (Empty n) (λ _. own_step (steps.Truncate fd)) (λ _. open_end path flags n ns fd) else open_end path flags n ns fd
 
 abbrev pub installed : List ℕ → ℕ → List ℕ → Found → Option ℕ → P Reply
 installed path flags ns x o = installed_on path flags x.number ns (described path flags ns x.number (sort_of x.sort) x.made) o
@@ -50,21 +51,28 @@ abbrev pub open_of : List ℕ → ℕ → List ℕ → Open → P Reply
 open_of path flags ns opening.Join = open_program path flags
 open_of path flags ns (opening.Walks w) = walk_of (steps.Open path flags) path (open_after path flags) (open_goal flags) ns w
 open_of path flags ns (opening.Take n) = open_at path flags n ns
-open_of path flags ns (opening.Slot x) = take_descriptor path flags x.number (sort_of x.sort) ns (descriptor_mark flags x.made) (described path flags ns x.number (sort_of x.sort) x.made)
-open_of path flags ns (opening.Install x) = Do (Install (file_for x.number flags) (sort_of x.sort)) (installs (descriptor_mark flags x.made)) (installed path flags ns x)
+open_of path flags ns (opening.Slot x) = take_descriptor path flags x.number (sort_of x.sort) ns (descriptor_mark flags x.made)
+    (described path flags ns x.number (sort_of x.sort) x.made)
+open_of path flags ns (opening.Install x) =
+    Do (Install (file_for x.number flags) (sort_of x.sort)) (installs (descriptor_mark flags x.made)) (installed path flags ns x)
 open_of path flags ns (opening.Empty n fd) = Do (Empty n) (λ _. own_step (steps.Truncate fd)) (λ _. open_end path flags n ns fd)
 open_of path flags ns (opening.Give n fd) = open_end path flags n ns fd
 open_of path flags ns (opening.Look d e) = create_in path flags d (name_in path e) ns
-open_of path flags ns (opening.Up d n) = Do (Up n) mends_if_full (λ there. if there then give_up d (open_at path flags n ns) else give_up d (tail ns (full (calls.Open path flags) MemInodes)))
+open_of path flags ns (opening.Up d n) = Do (Up n) mends_if_full
+    (λ there. if there then give_up d (open_at path flags n ns) else give_up d (tail ns (full (calls.Open path flags) MemInodes)))
 open_of path flags ns (opening.GiveParent d n) = dropping_of (open_at path flags n ns) d
 open_of path flags ns (opening.Claim d e) = Do (Claim OfFile) mends_unless_new (make_with path flags d (name_in path e) ns)
 open_of path flags ns (opening.ForgetSame d) = Do (Forget d) unmarked (λ _. give_up d (tail ns (full (calls.Open path flags) MemInodes)))
 open_of path flags ns (opening.TakeNew x) = make_other path flags x.directory (name_in path x.element) ns x.number
 open_of path flags ns (opening.StoreNew x sort) =
-    Do (Store x.number 1) unmarked (λ _. Do (Enter x.directory (name_in path x.element) x.number) (entered_file x.number) (make_on path flags x.number (sort_of sort) x.directory ns))
-open_of path flags ns (opening.Enter x sort) = Do (Enter x.directory (name_in path x.element) x.number) (entered_file x.number) (make_on path flags x.number (sort_of sort) x.directory ns)
+    Do (Store x.number 1) unmarked
+    (λ _. Do (Enter x.directory (name_in path x.element) x.number) (entered_file x.number)
+    (make_on path flags x.number (sort_of sort) x.directory ns))
+open_of path flags ns (opening.Enter x sort) = Do (Enter x.directory (name_in path x.element) x.number) (entered_file x.number)
+    (make_on path flags x.number (sort_of sort) x.directory ns)
 open_of path flags ns (opening.GiveEntered d n sort) = dropping_of (open_made path flags n (sort_of sort) ns) d
-open_of path flags ns (opening.Unmake n d a) = Do (Store n 0) (λ _. Some (Orphans n)) (λ _. give_up n (give_up d (tail ns (reply_to (calls.Open path flags) a))))
+open_of path flags ns (opening.Unmake n d a) =
+    Do (Store n 0) (λ _. Some (Orphans n)) (λ _. give_up n (give_up d (tail ns (reply_to (calls.Open path flags) a))))
 open_of path flags ns (opening.Ends e) = ending_of (calls.Open path flags) ns e
 
 abbrev pub open_stage : Open → Stage

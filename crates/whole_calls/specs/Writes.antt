@@ -31,7 +31,8 @@ module _ (fd : ℕ) (bytes : List ℕ) where
   write_of writing.Check = write_program fd []
   write_of writing.Join = Do (JoinFile fd) (refused_to fd (piece bytes 0)) (joined_on fd bytes)
   write_of (writing.Lock p) = write_piece fd p.number bytes p.index (more_after p)
-  write_of (writing.Part p n offset) = Do (WriteFile fd n offset (piece bytes p.index)) (writes fd (piece bytes p.index)) (λ a. Do Leave unmarked (λ _. wrote_on fd bytes (more_after p) a))
+  write_of (writing.Part p n offset) = Do (WriteFile fd n offset (piece bytes p.index)) (writes fd (piece bytes p.index))
+      (λ a. Do Leave unmarked (λ _. wrote_on fd bytes (more_after p) a))
   write_of (writing.Leave p w) = Do Leave unmarked (λ _. wrote_on fd bytes (more_after p) (wrote_of w))
   write_of (writing.JoinNext p) = Do Join unmarked (λ _. write_from fd p.number bytes p.more p.index)
   write_of (writing.Says a) = say (reply_to (calls.Write fd bytes) a)

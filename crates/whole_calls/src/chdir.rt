@@ -27,8 +27,10 @@ pub enum Chdir {
 
 /// After a step of the walk.
 fn walked(walked: Walked) -> Chdir
-    ensures program { (path list : List ℕ) → chdir_of path list result ≡ walked_to (steps.Chdir path) path (chdir_after path) goals.Inside list walked }
-    ensures fits { (path list : List ℕ) → StandsAt path walked → length list + most_walked path walked ≤ MOST_LISTED → Fits path list (chdir_stage result) }
+    ensures program { (path list : List ℕ)
+        → chdir_of path list result ≡ walked_to (steps.Chdir path) path (chdir_after path) goals.Inside list walked }
+    ensures fits { (path list : List ℕ) → StandsAt path walked → length list + most_walked path walked ≤ MOST_LISTED
+        → Fits path list (chdir_stage result) }
 {
     match walked {
         Walked::Walks(walk) => Chdir::Walks(walk),
@@ -61,7 +63,8 @@ impl Chdir {
     pub fn next(self, heard: &Heard, path: &[u8], list: &mut Numbers) -> Turn<Chdir, Answer>
         requires nonzero { All (λ b. b ≢ 0) path.now }
         requires fits { Fits path.now list.old (chdir_stage self) }
-        ensures goes { (text : List ℕ) → hears text (chdir_of path.now list.old self) heard.now ≡ turned (chdir_of path.now list.new) (calls.Chdir path.now) result }
+        ensures goes { (text : List ℕ)
+            → hears text (chdir_of path.now list.old self) heard.now ≡ turned (chdir_of path.now list.new) (calls.Chdir path.now) result }
         ensures fits { FitsOn chdir_stage path.now list.new result }
     {
         match self {
@@ -97,7 +100,9 @@ impl Chdir {
     ) -> bool
         requires nonzero { All (λ b. b ≢ 0) path.now }
         requires fits { Fits path.now list.old (chdir_stage self.old) }
-        ensures goes { (text : List ℕ) → hears text (chdir_of path.now list.old self.old) heard.now ≡ stepped (chdir_of path.now list.new self.new) (calls.Chdir path.now) says.new result }
+        ensures goes { (text : List ℕ)
+            → hears text (chdir_of path.now list.old self.old) heard.now
+            ≡ stepped (chdir_of path.now list.new self.new) (calls.Chdir path.now) says.new result }
         ensures fits { result ≡ false → Fits path.now list.new (chdir_stage self.new) }
     {
         (*self).next(heard, path, list).leave(self, says)

@@ -63,7 +63,8 @@ impl Close {
     /// The same in its place: true where it has ended, with its answer left in `says`.
     #[inline(always)]
     pub fn step(&mut self, heard: &Heard, says: &mut Answer) -> bool
-        ensures { (text : List ℕ) (fd : ℕ) → hears text (close_of fd self.old) heard.now ≡ stepped (close_of fd self.new) (calls.Close fd) says.new result }
+        ensures { (text : List ℕ) (fd : ℕ)
+            → hears text (close_of fd self.old) heard.now ≡ stepped (close_of fd self.new) (calls.Close fd) says.new result }
     {
         (*self).next(heard).leave(self, says)
     }
@@ -134,7 +135,8 @@ impl Inherit {
     }
 
     pub fn next(self, heard: &Heard) -> Turn<Inherit, Answer>
-        ensures { (text : List ℕ) (child : ℕ) → hears text (inherit_of child self) heard.now ≡ turned (inherit_of child) (calls.Inherit child) result }
+        ensures { (text : List ℕ) (child : ℕ)
+            → hears text (inherit_of child self) heard.now ≡ turned (inherit_of child) (calls.Inherit child) result }
     {
         match self {
             Inherit::Lend(left, _) => Turn::Asks(lent(left, heard.loan())),
@@ -152,7 +154,8 @@ impl Inherit {
     /// The same in its place: true where it has ended, with its answer left in `says`.
     #[inline(always)]
     pub fn step(&mut self, heard: &Heard, says: &mut Answer) -> bool
-        ensures { (text : List ℕ) (child : ℕ) → hears text (inherit_of child self.old) heard.now ≡ stepped (inherit_of child self.new) (calls.Inherit child) says.new result }
+        ensures { (text : List ℕ) (child : ℕ)
+            → hears text (inherit_of child self.old) heard.now ≡ stepped (inherit_of child self.new) (calls.Inherit child) says.new result }
     {
         (*self).next(heard).leave(self, says)
     }

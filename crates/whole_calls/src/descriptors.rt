@@ -51,7 +51,8 @@ impl Dup {
     /// The same in its place: true where it has ended, with its answer left in `says`.
     #[inline(always)]
     pub fn step(&mut self, heard: &Heard, says: &mut Answer) -> bool
-        ensures { (text : List ℕ) (fd : ℕ) → hears text (dup_of fd self.old) heard.now ≡ stepped (dup_of fd self.new) (calls.Dup fd) says.new result }
+        ensures { (text : List ℕ) (fd : ℕ)
+            → hears text (dup_of fd self.old) heard.now ≡ stepped (dup_of fd self.new) (calls.Dup fd) says.new result }
     {
         (*self).next(heard).leave(self, says)
     }
@@ -129,7 +130,8 @@ impl Fstat {
     /// The same in its place: true where it has ended, with its answer left in `says`.
     #[inline(always)]
     pub fn step(&mut self, heard: &Heard, says: &mut Answer) -> bool
-        ensures { (text : List ℕ) (fd : ℕ) → hears text (stat_of fd self.old) heard.now ≡ stepped (stat_of fd self.new) (calls.Fstat fd) says.new result }
+        ensures { (text : List ℕ) (fd : ℕ)
+            → hears text (stat_of fd self.old) heard.now ≡ stepped (stat_of fd self.new) (calls.Fstat fd) says.new result }
     {
         (*self).next(heard).leave(self, says)
     }

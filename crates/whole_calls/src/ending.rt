@@ -91,7 +91,8 @@ impl Ending {
     }
 
     pub fn next(self, heard: &Heard, list: &mut Numbers) -> Turn<Ending, Answer>
-        ensures { (text : List ℕ) (call : Call) → hears text (ending_of call list.old self) heard.now ≡ turned (ending_of call list.new) call result }
+        ensures { (text : List ℕ) (call : Call)
+            → hears text (ending_of call list.old self) heard.now ≡ turned (ending_of call list.new) call result }
     {
         match self {
             Ending::GivesTwo(dropping, n, answer) => match dropping.next(heard) {
@@ -113,13 +114,15 @@ impl Ending {
 
     /// The same in its place: true where it has ended, with its answer left in `says`.
     pub fn step(&mut self, heard: &Heard, list: &mut Numbers, says: &mut Answer) -> bool
-        ensures { (text : List ℕ) (call : Call) → hears text (ending_of call list.old self.old) heard.now ≡ stepped (ending_of call list.new self.new) call says.new result }
+        ensures { (text : List ℕ) (call : Call)
+            → hears text (ending_of call list.old self.old) heard.now ≡ stepped (ending_of call list.new self.new) call says.new result }
     {
         (*self).next(heard, list).leave(self, says)
     }
 
     pub fn mark(&self) -> Option<Mark>
-        ensures { (s : Action) (call : Call) (list : List ℕ) (heard : Heard) → mark_at (ending_of call list self.now) heard ≡ marked_as s result }
+        ensures { (s : Action) (call : Call) (list : List ℕ) (heard : Heard)
+            → mark_at (ending_of call list self.now) heard ≡ marked_as s result }
     {
         match self {
             Ending::GivesTwo(dropping, _, _) => dropping.mark(),

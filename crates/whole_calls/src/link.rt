@@ -44,15 +44,18 @@ pub enum Link {
 }
 
 fn refuse(number: u32, answer: Answer) -> Link
-    ensures program { (old new list : List ℕ) → link_of old new list result ≡ give_up number (tail list (reply_to (calls.Link old new) answer)) }
+    ensures program { (old new list : List ℕ)
+        → link_of old new list result ≡ give_up number (tail list (reply_to (calls.Link old new) answer)) }
     ensures past { link_stage result ≡ Past }
 {
     Link::Ends(Ending::Gives(Dropping::Give(number), answer))
 }
 
 fn walked_old(walked: Walked) -> Link
-    ensures program { (old new list : List ℕ) → link_of old new list result ≡ walked_to (steps.Find old) old (old_after old new) goals.Inside list walked }
-    ensures fits { (old new list : List ℕ) → StandsAt old walked → length list + most_walked old walked + length (elements new) ≤ MOST_LISTED → LinkFits old new list (link_stage result) }
+    ensures program { (old new list : List ℕ)
+        → link_of old new list result ≡ walked_to (steps.Find old) old (old_after old new) goals.Inside list walked }
+    ensures fits { (old new list : List ℕ) → StandsAt old walked
+        → length list + most_walked old walked + length (elements new) ≤ MOST_LISTED → LinkFits old new list (link_stage result) }
 {
     match walked {
         Walked::Walks(walk) => Link::WalksOld(walk),
@@ -62,8 +65,10 @@ fn walked_old(walked: Walked) -> Link
 }
 
 fn walked_new(walked: Walked, number: u32) -> Link
-    ensures program { (old new list : List ℕ) → link_of old new list result ≡ walked_to (steps.Enter new) new (new_after old new number) goals.Parent list walked }
-    ensures fits { (old new list : List ℕ) → StandsAt new walked → length list + most_walked new walked ≤ MOST_LISTED → LinkFits old new list (link_stage result) }
+    ensures program { (old new list : List ℕ)
+        → link_of old new list result ≡ walked_to (steps.Enter new) new (new_after old new number) goals.Parent list walked }
+    ensures fits { (old new list : List ℕ) → StandsAt new walked → length list + most_walked new walked ≤ MOST_LISTED
+        → LinkFits old new list (link_stage result) }
 {
     match walked {
         Walked::Walks(walk) => Link::WalksNew(walk, number),
@@ -102,8 +107,10 @@ fn took(number: u32, sight: &Sight) -> Link
 /// It was given up with its count raised.
 fn gave(number: u32, new: &[u8]) -> Link
     requires { All (λ b. b ≢ 0) new.now }
-    ensures program { (text : List ℕ) (old list : List ℕ) (heard : Heard) → hears text (link_of old new.now list (linking.Give number)) heard ≡ link_of old new.now list result }
-    ensures fits { (old list : List ℕ) → length list + length (elements new.now) ≤ MOST_LISTED → LinkFits old new.now list (link_stage result) }
+    ensures program { (text : List ℕ) (old list : List ℕ) (heard : Heard)
+        → hears text (link_of old new.now list (linking.Give number)) heard ≡ link_of old new.now list result }
+    ensures fits { (old list : List ℕ) → length list + length (elements new.now) ≤ MOST_LISTED
+        → LinkFits old new.now list (link_stage result) }
 {
     match next_element(new, 0) {
         None => Link::TakeRaised(number, Answer::Failed(Cause::NoEntry)),
@@ -113,7 +120,8 @@ fn gave(number: u32, new: &[u8]) -> Link
 
 /// The directory is given up, and the count goes down again.
 fn fail(directory: u32, number: u32, answer: Answer) -> Link
-    ensures program { (old new list : List ℕ) → link_of old new list result ≡ give_up directory (lower old new number (reply_to (calls.Link old new) answer) list) }
+    ensures program { (old new list : List ℕ)
+        → link_of old new list result ≡ give_up directory (lower old new number (reply_to (calls.Link old new) answer) list) }
     ensures past { link_stage result ≡ Past }
 {
     Link::GiveFailed(Dropping::Give(directory), number, answer)
@@ -121,7 +129,8 @@ fn fail(directory: u32, number: u32, answer: Answer) -> Link
 
 /// What the directory has under the name.
 fn looked(directory: u32, element: Element, number: u32, found: Option<u32>) -> Link
-    ensures program { (old new list : List ℕ) → link_of old new list result ≡ link_found old new number directory (name_in new element) list found }
+    ensures program { (old new list : List ℕ)
+        → link_of old new list result ≡ link_found old new number directory (name_in new element) list found }
     ensures fits { (old new list : List ℕ) → IsElement new element → LinkFits old new list (link_stage result) }
 {
     match found {
@@ -188,7 +197,9 @@ impl Link {
         requires old_nonzero { All (λ b. b ≢ 0) old.now }
         requires new_nonzero { All (λ b. b ≢ 0) new.now }
         requires fits { LinkFits old.now new.now list.old (link_stage self) }
-        ensures goes { (text : List ℕ) → hears text (link_of old.now new.now list.old self) heard.now ≡ turned (link_of old.now new.now list.new) (calls.Link old.now new.now) result }
+        ensures goes { (text : List ℕ)
+            → hears text (link_of old.now new.now list.old self) heard.now
+            ≡ turned (link_of old.now new.now list.new) (calls.Link old.now new.now) result }
         ensures fits { LinkFitsOn old.now new.now list.new result }
     {
         let next = match self {
@@ -244,7 +255,9 @@ impl Link {
         requires old_nonzero { All (λ b. b ≢ 0) old.now }
         requires new_nonzero { All (λ b. b ≢ 0) new.now }
         requires fits { LinkFits old.now new.now list.old (link_stage self.old) }
-        ensures goes { (text : List ℕ) → hears text (link_of old.now new.now list.old self.old) heard.now ≡ stepped (link_of old.now new.now list.new self.new) (calls.Link old.now new.now) says.new result }
+        ensures goes { (text : List ℕ)
+            → hears text (link_of old.now new.now list.old self.old) heard.now
+            ≡ stepped (link_of old.now new.now list.new self.new) (calls.Link old.now new.now) says.new result }
         ensures fits { result ≡ false → LinkFits old.now new.now list.new (link_stage self.new) }
     {
         (*self).next(heard, old, new, list).leave(self, says)
@@ -252,7 +265,8 @@ impl Link {
 
     pub fn mark(&self, heard: &Heard, new: &[u8]) -> Option<Mark>
         requires { All (λ b. b ≢ 0) new.now }
-        ensures { (old list : List ℕ) → mark_at (link_of old new.now list self.now) heard.now ≡ marked_as (link_action old new.now self.now) result }
+        ensures { (old list : List ℕ)
+            → mark_at (link_of old new.now list self.now) heard.now ≡ marked_as (link_action old new.now self.now) result }
     {
         match self {
             Link::WalksOld(walk) => walk.mark(heard),

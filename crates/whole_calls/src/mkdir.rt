@@ -51,8 +51,10 @@ fn refuse(number: u32, answer: Answer) -> Mkdir
 }
 
 fn walked(walked: Walked) -> Mkdir
-    ensures program { (path list : List ℕ) → mkdir_of path list result ≡ walked_to (steps.Mkdir path) path (mkdir_after path) goals.Parent list walked }
-    ensures fits { (path list : List ℕ) → StandsAt path walked → length list + most_walked path walked ≤ MOST_LISTED → Fits path list (mkdir_stage result) }
+    ensures program { (path list : List ℕ)
+        → mkdir_of path list result ≡ walked_to (steps.Mkdir path) path (mkdir_after path) goals.Parent list walked }
+    ensures fits { (path list : List ℕ) → StandsAt path walked → length list + most_walked path walked ≤ MOST_LISTED
+        → Fits path list (mkdir_stage result) }
 {
     match walked {
         Walked::Walks(walk) => Mkdir::Walks(walk),
@@ -92,7 +94,8 @@ fn refusal(sight: &Sight) -> Option<Cause>
 /// What the directory has under the name.
 fn looked(directory: u32, element: Element, sight: &Sight) -> Mkdir
     ensures program { (path list : List ℕ) → mkdir_of path list result ≡
-        mkdir_on path directory (name_in path element) list (face_or (sight_of sight.now).face) (mkdir_refused sight.now.found (face_or (sight_of sight.now).face)) }
+        mkdir_on path directory (name_in path element) list (face_or (sight_of sight.now).face)
+        (mkdir_refused sight.now.found (face_or (sight_of sight.now).face)) }
     ensures fits { (path list : List ℕ) → IsElement path element → Fits path list (mkdir_stage result) }
 {
     match refusal(sight) {
@@ -102,7 +105,8 @@ fn looked(directory: u32, element: Element, sight: &Sight) -> Mkdir
 }
 
 fn claimed(directory: u32, element: Element, face: Face, claimed: Claimed) -> Mkdir
-    ensures program { (path list : List ℕ) → mkdir_of path list result ≡ mkdir_with path directory (name_in path element) list (face_of face) (claimed_of claimed) }
+    ensures program { (path list : List ℕ)
+        → mkdir_of path list result ≡ mkdir_with path directory (name_in path element) list (face_of face) (claimed_of claimed) }
     ensures fits { (path list : List ℕ) → IsElement path element → Fits path list (mkdir_stage result) }
 {
     match claimed {
@@ -121,7 +125,8 @@ fn claimed(directory: u32, element: Element, face: Face, claimed: Claimed) -> Mk
 }
 
 fn entered(name: NewName, face: Face, entered: Entered) -> Mkdir
-    ensures program { (path list : List ℕ) → mkdir_of path list result ≡ name_directory path name.directory (face_of face) name.number list (entered_of entered) }
+    ensures program { (path list : List ℕ)
+        → mkdir_of path list result ≡ name_directory path name.directory (face_of face) name.number list (entered_of entered) }
     ensures past { mkdir_stage result ≡ Past }
 {
     match entered {
@@ -162,7 +167,8 @@ impl Mkdir {
     pub fn next(self, heard: &Heard, path: &[u8], list: &mut Numbers) -> Turn<Mkdir, Answer>
         requires nonzero { All (λ b. b ≢ 0) path.now }
         requires fits { Fits path.now list.old (mkdir_stage self) }
-        ensures goes { (text : List ℕ) → hears text (mkdir_of path.now list.old self) heard.now ≡ turned (mkdir_of path.now list.new) (calls.Mkdir path.now) result }
+        ensures goes { (text : List ℕ)
+            → hears text (mkdir_of path.now list.old self) heard.now ≡ turned (mkdir_of path.now list.new) (calls.Mkdir path.now) result }
         ensures fits { FitsOn mkdir_stage path.now list.new result }
     {
         let next = match self {
@@ -217,7 +223,9 @@ impl Mkdir {
     ) -> bool
         requires nonzero { All (λ b. b ≢ 0) path.now }
         requires fits { Fits path.now list.old (mkdir_stage self.old) }
-        ensures goes { (text : List ℕ) → hears text (mkdir_of path.now list.old self.old) heard.now ≡ stepped (mkdir_of path.now list.new self.new) (calls.Mkdir path.now) says.new result }
+        ensures goes { (text : List ℕ)
+            → hears text (mkdir_of path.now list.old self.old) heard.now
+            ≡ stepped (mkdir_of path.now list.new self.new) (calls.Mkdir path.now) says.new result }
         ensures fits { result ≡ false → Fits path.now list.new (mkdir_stage self.new) }
     {
         (*self).next(heard, path, list).leave(self, says)

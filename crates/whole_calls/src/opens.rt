@@ -124,7 +124,8 @@ fn refusal(flags: u32, sort: Sort) -> Option<Cause>
 
 /// Gives an inode up, and answers this.
 fn refuse(number: u32, answer: Answer) -> Open
-    ensures program { (path : List ℕ) (flags : ℕ) (list : List ℕ) → open_of path flags list result ≡ give_up number (tail list (reply_to (calls.Open path flags) answer)) }
+    ensures program { (path : List ℕ) (flags : ℕ) (list : List ℕ)
+        → open_of path flags list result ≡ give_up number (tail list (reply_to (calls.Open path flags) answer)) }
     ensures past { open_stage result ≡ Past }
 {
     Open::Ends(Ending::Gives(Dropping::Give(number), answer))
@@ -132,8 +133,10 @@ fn refuse(number: u32, answer: Answer) -> Open
 
 /// After a step of the walk.
 fn walked(walked: Walked, flags: u32) -> Open
-    ensures program { (path list : List ℕ) → open_of path flags list result ≡ walked_to (steps.Open path flags) path (open_after path flags) (open_goal flags) list walked }
-    ensures fits { (path list : List ℕ) → StandsAt path walked → length list + most_walked path walked ≤ MOST_LISTED → Fits path list (open_stage result) }
+    ensures program { (path list : List ℕ)
+        → open_of path flags list result ≡ walked_to (steps.Open path flags) path (open_after path flags) (open_goal flags) list walked }
+    ensures fits { (path list : List ℕ) → StandsAt path walked → length list + most_walked path walked ≤ MOST_LISTED
+        → Fits path list (open_stage result) }
 {
     match walked {
         Walked::Walks(walk) => Open::Walks(walk),
@@ -146,7 +149,8 @@ fn walked(walked: Walked, flags: u32) -> Open
 /// A transaction is joined.
 fn begin(path: &[u8], flags: u32) -> Open
     requires { All (λ b. b ≢ 0) path.now }
-    ensures program { (text : List ℕ) (heard : Heard) → hears text (open_of path.now flags [] opening.Join) heard ≡ open_of path.now flags [] result }
+    ensures program { (text : List ℕ) (heard : Heard)
+        → hears text (open_of path.now flags [] opening.Join) heard ≡ open_of path.now flags [] result }
     ensures fits { length (elements path.now) ≤ MOST_LISTED → Fits path.now [] (open_stage result) }
 {
     if !has_flag(flags, CREATE) {
@@ -161,7 +165,8 @@ fn begin(path: &[u8], flags: u32) -> Open
 /// What is there was taken.
 fn took(number: u32, flags: u32, sight: &Sight) -> Open
     ensures program { (path list : List ℕ) → open_of path flags list result ≡
-        open_face path flags number list (face_or (sight_of sight.now).face).sort (open_refusal (flags == 0) (face_or (sight_of sight.now).face).sort) }
+        open_face path flags number list (face_or (sight_of sight.now).face).sort
+        (open_refusal (flags == 0) (face_or (sight_of sight.now).face).sort) }
     ensures past { open_stage result ≡ Past }
 {
     let sort = face_or(sight).sort;
@@ -194,7 +199,8 @@ fn installed(found: Found, flags: u32, fd: Option<u32>) -> Open
 
 /// What the directory has under the name.
 fn looked(directory: u32, element: Element, number: Option<u32>) -> Open
-    ensures program { (path : List ℕ) (flags : ℕ) (list : List ℕ) → open_of path flags list result ≡ create_found path flags directory (name_in path element) list number }
+    ensures program { (path : List ℕ) (flags : ℕ) (list : List ℕ)
+        → open_of path flags list result ≡ create_found path flags directory (name_in path element) list number }
     ensures fits { (path list : List ℕ) → IsElement path element → Fits path list (open_stage result) }
 {
     match number {
@@ -205,7 +211,8 @@ fn looked(directory: u32, element: Element, number: Option<u32>) -> Open
 
 /// A new inode was wanted.
 fn claimed(directory: u32, element: Element, claimed: Claimed) -> Open
-    ensures program { (path : List ℕ) (flags : ℕ) (list : List ℕ) → open_of path flags list result ≡ make_with path flags directory (name_in path element) list (claimed_of claimed) }
+    ensures program { (path : List ℕ) (flags : ℕ) (list : List ℕ)
+        → open_of path flags list result ≡ make_with path flags directory (name_in path element) list (claimed_of claimed) }
     ensures fits { (path list : List ℕ) → IsElement path element → Fits path list (open_stage result) }
 {
     match claimed {
@@ -222,7 +229,8 @@ fn claimed(directory: u32, element: Element, claimed: Claimed) -> Open
 
 /// The name was to be entered.
 fn entered(name: NewName, sort: Sort, entered: Entered) -> Open
-    ensures program { (path : List ℕ) (flags : ℕ) (list : List ℕ) → open_of path flags list result ≡ make_on path flags name.number (sort_of sort) name.directory list (entered_of entered) }
+    ensures program { (path : List ℕ) (flags : ℕ) (list : List ℕ)
+        → open_of path flags list result ≡ make_on path flags name.number (sort_of sort) name.directory list (entered_of entered) }
     ensures past { open_stage result ≡ Past }
 {
     match entered {
@@ -279,7 +287,9 @@ impl Open {
     ) -> Turn<Open, Answer>
         requires nonzero { All (λ b. b ≢ 0) path.now }
         requires fits { Fits path.now list.old (open_stage self) }
-        ensures goes { (text : List ℕ) → hears text (open_of path.now flags list.old self) heard.now ≡ turned (open_of path.now flags list.new) (calls.Open path.now flags) result }
+        ensures goes { (text : List ℕ)
+            → hears text (open_of path.now flags list.old self) heard.now
+            ≡ turned (open_of path.now flags list.new) (calls.Open path.now flags) result }
         ensures fits { FitsOn open_stage path.now list.new result }
     {
         let next = match self {
@@ -351,7 +361,9 @@ impl Open {
     ) -> bool
         requires nonzero { All (λ b. b ≢ 0) path.now }
         requires fits { Fits path.now list.old (open_stage self.old) }
-        ensures goes { (text : List ℕ) → hears text (open_of path.now flags list.old self.old) heard.now ≡ stepped (open_of path.now flags list.new self.new) (calls.Open path.now flags) says.new result }
+        ensures goes { (text : List ℕ)
+            → hears text (open_of path.now flags list.old self.old) heard.now
+            ≡ stepped (open_of path.now flags list.new self.new) (calls.Open path.now flags) says.new result }
         ensures fits { result ≡ false → Fits path.now list.new (open_stage self.new) }
     {
         match self {
@@ -368,7 +380,8 @@ impl Open {
     /// The move that is made here, if one is.
     pub fn mark(&self, heard: &Heard, path: &[u8], flags: u32) -> Option<Mark>
         requires { All (λ b. b ≢ 0) path.now }
-        ensures { (list : List ℕ) → mark_at (open_of path.now flags list self.now) heard.now ≡ marked_as (steps.Open path.now flags) result }
+        ensures { (list : List ℕ)
+            → mark_at (open_of path.now flags list self.now) heard.now ≡ marked_as (steps.Open path.now flags) result }
     {
         match self {
             Open::Join => {
@@ -422,7 +435,8 @@ impl Open {
 fn walk_on(at: &mut Open, walk: Walk, heard: &Heard, path: &[u8], flags: u32, list: &mut Numbers)
     requires nonzero { All (λ b. b ≢ 0) path.now }
     requires fits { Fits path.now list.old (open_stage (opening.Walks walk)) }
-    ensures goes { (text : List ℕ) → hears text (open_of path.now flags list.old (opening.Walks walk)) heard.now ≡ open_of path.now flags list.new at.new }
+    ensures goes { (text : List ℕ)
+        → hears text (open_of path.now flags list.old (opening.Walks walk)) heard.now ≡ open_of path.now flags list.new at.new }
     ensures fits { Fits path.now list.new (open_stage at.new) }
 {
     *at = walked(walk.next(goal(flags), heard, path, list), flags);
@@ -439,7 +453,9 @@ fn go_on(
 ) -> bool
     requires nonzero { All (λ b. b ≢ 0) path.now }
     requires fits { Fits path.now list.old (open_stage at.old) }
-    ensures goes { (text : List ℕ) → hears text (open_of path.now flags list.old at.old) heard.now ≡ stepped (open_of path.now flags list.new at.new) (calls.Open path.now flags) says.new result }
+    ensures goes { (text : List ℕ)
+        → hears text (open_of path.now flags list.old at.old) heard.now
+        ≡ stepped (open_of path.now flags list.new at.new) (calls.Open path.now flags) says.new result }
     ensures fits { result ≡ false → Fits path.now list.new (open_stage at.new) }
 {
     (*at).next(heard, path, flags, list).leave(at, says)

@@ -41,7 +41,8 @@ impl Read {
         requires short { length buffer.now < 2 ^ 31 }
         requires fits { ReadFits buffer.now self }
         requires count { HasRoomIn buffer.now self heard.now }
-        ensures goes { (fd : ℕ) (old : List ℕ) → FilledFrom old buffer.now self heard.now → hears buffer.now (read_of fd old self) heard.now ≡ turned (read_of fd buffer.now) (calls.Read fd buffer.now) result }
+        ensures goes { (fd : ℕ) (old : List ℕ) → FilledFrom old buffer.now self heard.now
+            → hears buffer.now (read_of fd old self) heard.now ≡ turned (read_of fd buffer.now) (calls.Read fd buffer.now) result }
         ensures fits { ReadFitsOn buffer.now result }
     {
         match self {
@@ -60,14 +61,17 @@ impl Read {
         requires short { length buffer.now < 2 ^ 31 }
         requires fits { ReadFits buffer.now self.old }
         requires count { HasRoomIn buffer.now self.old heard.now }
-        ensures goes { (fd : ℕ) (old : List ℕ) → FilledFrom old buffer.now self.old heard.now → hears buffer.now (read_of fd old self.old) heard.now ≡ stepped (read_of fd buffer.now self.new) (calls.Read fd buffer.now) says.new result }
+        ensures goes { (fd : ℕ) (old : List ℕ) → FilledFrom old buffer.now self.old heard.now
+            → hears buffer.now (read_of fd old self.old) heard.now
+            ≡ stepped (read_of fd buffer.now self.new) (calls.Read fd buffer.now) says.new result }
         ensures fits { result ≡ false → ReadFits buffer.now self.new }
     {
         (*self).next(heard, buffer).leave(self, says)
     }
 
     pub fn mark(&self, heard: &Heard) -> Option<Mark>
-        ensures { (fd : ℕ) (buffer : List ℕ) → mark_at (read_of fd buffer self.now) heard.now ≡ marked_as (steps.Read fd (length buffer)) result }
+        ensures { (fd : ℕ) (buffer : List ℕ)
+            → mark_at (read_of fd buffer self.now) heard.now ≡ marked_as (steps.Read fd (length buffer)) result }
     {
         match self {
             Read::Lock => match heard.locked() {

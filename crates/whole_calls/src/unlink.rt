@@ -51,7 +51,8 @@ pub enum Unlink {
 
 /// Gives the directory up, and answers this.
 fn refuse(directory: u32, answer: Answer) -> Unlink
-    ensures program { (path list : List ℕ) → unlink_of path list result ≡ give_up directory (tail list (reply_to (calls.Unlink path) answer)) }
+    ensures program { (path list : List ℕ)
+        → unlink_of path list result ≡ give_up directory (tail list (reply_to (calls.Unlink path) answer)) }
     ensures past { unlink_stage result ≡ Past }
 {
     Unlink::Ends(Ending::Gives(Dropping::Give(directory), answer))
@@ -83,7 +84,8 @@ fn is_dots(name: &[u8]) -> bool
 /// After a step of the walk.
 fn walked(walked: Walked, path: &[u8]) -> Unlink
     requires stands { StandsAt path.now walked }
-    ensures program { (list : List ℕ) → unlink_of path.now list result ≡ walked_to (steps.Unlink path.now) path.now (unlink_after path.now) goals.Parent list walked }
+    ensures program { (list : List ℕ)
+        → unlink_of path.now list result ≡ walked_to (steps.Unlink path.now) path.now (unlink_after path.now) goals.Parent list walked }
     ensures fits { (list : List ℕ) → length list + most_walked path.now walked ≤ MOST_LISTED → Fits path.now list (unlink_stage result) }
 {
     match walked {
@@ -102,7 +104,8 @@ fn walked(walked: Walked, path: &[u8]) -> Unlink
 
 /// Once the name is gone.
 fn cleared(name: Name, number: u32, face: Face) -> Unlink
-    ensures program { (path list : List ℕ) → unlink_of path list result ≡ cleared path name.directory list (face_of name.face) number (face_of face) }
+    ensures program { (path list : List ℕ)
+        → unlink_of path list result ≡ cleared path name.directory list (face_of name.face) number (face_of face) }
     ensures past { unlink_stage result ≡ Past }
 {
     if is_directory(&face) {
@@ -147,7 +150,9 @@ impl Unlink {
     pub fn next(self, heard: &Heard, path: &[u8], list: &mut Numbers) -> Turn<Unlink, Answer>
         requires nonzero { All (λ b. b ≢ 0) path.now }
         requires fits { Fits path.now list.old (unlink_stage self) }
-        ensures goes { (text : List ℕ) → hears text (unlink_of path.now list.old self) heard.now ≡ turned (unlink_of path.now list.new) (calls.Unlink path.now) result }
+        ensures goes { (text : List ℕ)
+            → hears text (unlink_of path.now list.old self) heard.now
+            ≡ turned (unlink_of path.now list.new) (calls.Unlink path.now) result }
         ensures fits { FitsOn unlink_stage path.now list.new result }
     {
         let next = match self {
@@ -206,7 +211,9 @@ impl Unlink {
     ) -> bool
         requires nonzero { All (λ b. b ≢ 0) path.now }
         requires fits { Fits path.now list.old (unlink_stage self.old) }
-        ensures goes { (text : List ℕ) → hears text (unlink_of path.now list.old self.old) heard.now ≡ stepped (unlink_of path.now list.new self.new) (calls.Unlink path.now) says.new result }
+        ensures goes { (text : List ℕ)
+            → hears text (unlink_of path.now list.old self.old) heard.now
+            ≡ stepped (unlink_of path.now list.new self.new) (calls.Unlink path.now) says.new result }
         ensures fits { result ≡ false → Fits path.now list.new (unlink_stage self.new) }
     {
         match self {
@@ -270,7 +277,8 @@ impl Unlink {
 /// A transaction is joined.
 fn begin(path: &[u8]) -> Unlink
     requires { All (λ b. b ≢ 0) path.now }
-    ensures program { (text : List ℕ) (heard : Heard) → hears text (unlink_of path.now [] unlinking.Join) heard ≡ unlink_of path.now [] result }
+    ensures program { (text : List ℕ) (heard : Heard)
+        → hears text (unlink_of path.now [] unlinking.Join) heard ≡ unlink_of path.now [] result }
     ensures fits { length (elements path.now) ≤ MOST_LISTED → Fits path.now [] (unlink_stage result) }
 {
     match next_element(path, 0) {
@@ -281,7 +289,9 @@ fn begin(path: &[u8]) -> Unlink
 
 /// What the directory has under the name.
 fn found(directory: u32, element: Element, sight: &Sight) -> Unlink
-    ensures program { (path list : List ℕ) → unlink_of path list result ≡ unlink_found path directory (name_in path element) list (face_or (sight_of sight.now).face) sight.now.found }
+    ensures program { (path list : List ℕ)
+        → unlink_of path list result
+        ≡ unlink_found path directory (name_in path element) list (face_or (sight_of sight.now).face) sight.now.found }
     ensures past { unlink_stage result ≡ Past }
 {
     match sight.found {
@@ -302,7 +312,8 @@ fn found(directory: u32, element: Element, sight: &Sight) -> Unlink
 fn walk_on(at: &mut Unlink, walk: Walk, heard: &Heard, path: &[u8], list: &mut Numbers)
     requires nonzero { All (λ b. b ≢ 0) path.now }
     requires fits { Fits path.now list.old (unlink_stage (unlinking.Walks walk)) }
-    ensures goes { (text : List ℕ) → hears text (unlink_of path.now list.old (unlinking.Walks walk)) heard.now ≡ unlink_of path.now list.new at.new }
+    ensures goes { (text : List ℕ)
+        → hears text (unlink_of path.now list.old (unlinking.Walks walk)) heard.now ≡ unlink_of path.now list.new at.new }
     ensures fits { Fits path.now list.new (unlink_stage at.new) }
 {
     *at = walked(walk.next(Goal::Parent, heard, path, list), path);
@@ -312,7 +323,9 @@ fn walk_on(at: &mut Unlink, walk: Walk, heard: &Heard, path: &[u8], list: &mut N
 fn go_on(at: &mut Unlink, heard: &Heard, path: &[u8], list: &mut Numbers, says: &mut Answer) -> bool
     requires nonzero { All (λ b. b ≢ 0) path.now }
     requires fits { Fits path.now list.old (unlink_stage at.old) }
-    ensures goes { (text : List ℕ) → hears text (unlink_of path.now list.old at.old) heard.now ≡ stepped (unlink_of path.now list.new at.new) (calls.Unlink path.now) says.new result }
+    ensures goes { (text : List ℕ)
+        → hears text (unlink_of path.now list.old at.old) heard.now
+        ≡ stepped (unlink_of path.now list.new at.new) (calls.Unlink path.now) says.new result }
     ensures fits { result ≡ false → Fits path.now list.new (unlink_stage at.new) }
 {
     (*at).next(heard, path, list).leave(at, says)

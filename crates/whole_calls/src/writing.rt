@@ -126,7 +126,8 @@ impl Write {
     pub fn next(self, heard: &Heard, bytes: &[u8]) -> Turn<Write, Answer>
         requires short { length bytes.now < 2 ^ 31 }
         requires fits { WriteFits bytes.now self }
-        ensures goes { (text : List ℕ) (fd : ℕ) → hears text (write_of fd bytes.now self) heard.now ≡ turned (write_of fd bytes.now) (calls.Write fd bytes.now) result }
+        ensures goes { (text : List ℕ) (fd : ℕ)
+            → hears text (write_of fd bytes.now self) heard.now ≡ turned (write_of fd bytes.now) (calls.Write fd bytes.now) result }
         ensures fits { WriteFitsOn bytes.now result }
     {
         match self {
@@ -148,7 +149,9 @@ impl Write {
     pub fn step(&mut self, heard: &Heard, bytes: &[u8], says: &mut Answer) -> bool
         requires short { length bytes.now < 2 ^ 31 }
         requires fits { WriteFits bytes.now self.old }
-        ensures goes { (text : List ℕ) (fd : ℕ) → hears text (write_of fd bytes.now self.old) heard.now ≡ stepped (write_of fd bytes.now self.new) (calls.Write fd bytes.now) says.new result }
+        ensures goes { (text : List ℕ) (fd : ℕ)
+            → hears text (write_of fd bytes.now self.old) heard.now
+            ≡ stepped (write_of fd bytes.now self.new) (calls.Write fd bytes.now) says.new result }
         ensures fits { result ≡ false → WriteFits bytes.now self.new }
     {
         (*self).next(heard, bytes).leave(self, says)
