@@ -1,5 +1,5 @@
 -- The checks see the recovered blocks outside the log alone.
-use Rattle.std.proofs.Common.{◌≡◌, ◌≢◌, inl, inr, ℕ, zero, suc, ◌+◌, ◌-◌, ◌/◌, ◌%◌, ◌<◌, ◌≤◌, ◌==◌, nat_lt, ◌&&◌, not, ℤ, pos, negsuc, ◌<ℤ◌, Bool, true, false, if◌then◌else◌, List, [], ◌∷◌, ◌++◌, length, slice_index, slice_index_or, take, drop, filter, Option, Some, None, map, replicate, refl, sym, ◌∙◌, ap, subst, arith, length-append}
+use Rattle.std.proofs.Common.{◌≡◌, ◌≢◌, inl, inr, ℕ, zero, suc, ◌+◌, ◌-◌, ◌/◌, ◌%◌, ◌<◌, ◌≤◌, ◌==◌, nat_lt, ◌&&◌, not, ℤ, pos, negsuc, ◌<ℤ◌, Bool, true, false, if◌then◌else◌, List, [], ◌∷◌, ◌++◌, length, slice_index, slice_index_or, take, drop, filter, Option, Some, None, map, refl, sym, ◌∙◌, ap, subst, arith, length-append}
 use Rattle.std.specs.List.{All}
 use Rattle.std.proofs.lemmas.Bool.{cases_eq, cases_lt, and_parts, eqb-true, ltb-true}
 use Rattle.std.proofs.lemmas.List.{get_or_append_left, get_or_past}
@@ -21,9 +21,7 @@ use Rattle.image_tree.specs.Views.{IsViewOf, ChecksSeeRecovered, TreesSeeRecover
 use Rattle.plain_tree.specs.declared.node.Kind.{Kind}
 use Rattle.plain_tree.specs.declared.node.Kind.TheVariants.{Directory, File, Device}
 use Rattle.plain_tree.specs.declared.node.Node.{Node}
-use Rattle.plain_tree.specs.TreeData.{TreeData}
-use Rattle.plain_tree.specs.Fresh.{fresh_hart}
-use Rattle.plain_tree.specs.Widths.{hart_count}
+use Rattle.plain_tree.specs.Fresh.{at_rest}
 use Rattle.image_tree.specs.Trees.{slot_of, is_file, kind_of, count_of, node_of, first_nodes, tree_in}
 
 pick : (t : Bool) (P : Bool → Type 0) → (t ≡ true → P true) → (t ≡ false → P false) → P t
@@ -295,7 +293,7 @@ module _ (d e : List (List ℕ)) (view : IsViewOf d e) (well : IsWellFormed d) w
   pub tree_same : tree_in e ≡ tree_in d
   tree_same =
       let nodes : first_nodes e (sizes_of e).ninodes ≡ first_nodes d (sizes_of d).ninodes = ap (λ (z : Super). first_nodes e z.ninodes) view.sizes ∙ nodes_same (sizes_of d).ninodes in
-      ap (λ (l : List (Option Node)). let t : TreeData = record { nodes = l; files = []; harts = replicate hart_count fresh_hart } in t) nodes
+      ap at_rest nodes
 
 pub trees_see_recovered : TreesSeeRecovered
 trees_see_recovered old new view well = tree_same old new view well

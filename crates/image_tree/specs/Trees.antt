@@ -1,5 +1,5 @@
 -- The tree that an image holds: its live nodes; no open files, no holds, and all harts in the root.
-use Rattle.std.specs.Prelude.{ℕ, zero, suc, ◌&&◌, ℤ, pos, negsuc, Bool, List, [], ◌∷◌, ◌++◌, map, replicate, Option, Some, None, if◌then◌else◌}
+use Rattle.std.specs.Prelude.{ℕ, zero, suc, ◌&&◌, ℤ, pos, negsuc, Bool, List, [], ◌∷◌, ◌++◌, map, Option, Some, None, if◌then◌else◌}
 use Rattle.fs_layout.specs.declared.inode.Dinode.{Dinode}
 use Rattle.fs_layout.specs.declared.entry.Dirent.{Dirent}
 use Rattle.fs_layout.specs.declared.entry.Dirent.TheVariants.{Free, Used}
@@ -9,8 +9,7 @@ use Rattle.plain_tree.specs.declared.node.Kind.{Kind}
 use Rattle.plain_tree.specs.declared.node.Kind.TheVariants.{Directory, File, Device}
 use Rattle.plain_tree.specs.declared.node.Node.{Node}
 use Rattle.plain_tree.specs.TreeData.{TreeData}
-use Rattle.plain_tree.specs.Fresh.{fresh_hart}
-use Rattle.plain_tree.specs.Widths.{hart_count}
+use Rattle.plain_tree.specs.Fresh.{at_rest}
 use Rattle.image_tree.specs.Inodes.{inode_of, is_node, is_live, is_number, is_directory, content_of, slots_of}
 
 -- a slot as the tree has it
@@ -46,4 +45,4 @@ first_nodes disk zero = []
 first_nodes disk (suc n) = first_nodes disk n ++ node_of disk n ∷ []
 
 abbrev pub tree_in : List (List ℕ) → TreeData
-tree_in disk = record { nodes = first_nodes disk (sizes_of disk).ninodes; files = []; harts = replicate hart_count fresh_hart }
+tree_in disk = at_rest (first_nodes disk (sizes_of disk).ninodes)

@@ -9,9 +9,7 @@ use Rattle.fs_layout.specs.Recovered.{sizes_of}
 use Rattle.plain_tree.specs.declared.node.Slot.{Slot}
 use Rattle.plain_tree.specs.declared.node.Kind.TheVariants.{Directory, File}
 use Rattle.plain_tree.specs.declared.node.Node.{Node}
-use Rattle.plain_tree.specs.TreeData.{TreeData}
-use Rattle.plain_tree.specs.Fresh.{fresh_hart}
-use Rattle.plain_tree.specs.Widths.{hart_count}
+use Rattle.plain_tree.specs.Fresh.{at_rest}
 use Rattle.image_tree.specs.Inodes.{inode_of, is_node, is_directory, is_number, slots_of, content_of}
 use Rattle.image_tree.specs.Trees.{slot_of, is_file, kind_of, node_of, first_nodes, tree_in}
 use Rattle.image_tree.proofs.EntryLemmas.{no_node_zero}
@@ -135,5 +133,4 @@ module _ (disk : List (List ℕ)) (ninodes : ℕ) (names contents : List (List �
 
   pub tree_is : tree_in disk ≡ stated_tree ninodes names contents
   tree_is =
-      let with_nodes : List (Option Node) → TreeData = λ nodes. record { nodes = nodes; files = []; harts = replicate hart_count fresh_hart } in
-      ap with_nodes nodes-are
+      ap at_rest nodes-are

@@ -1,5 +1,5 @@
 -- An image stays well formed where a node without a name is freed.
-use Rattle.std.proofs.Common.{◌≡◌, ◌≢◌, inl, inr, ℕ, zero, suc, ◌-◌, ◌/◌, ◌<◌, ◌≤◌, ◌==◌, nat_lt, ◌&&◌, not, ℤ, pos, ◌≤ℤ◌, ◌<ℤ◌, Bool, true, false, if◌then◌else◌, List, [], ◌∷◌, ◌++◌, length, get_or, slice_index_or, drop, filter, Option, Some, None, replicate, refl, sym, ◌∙◌, ap, subst, arith, Contains}
+use Rattle.std.proofs.Common.{◌≡◌, ◌≢◌, inl, inr, ℕ, zero, suc, ◌-◌, ◌/◌, ◌<◌, ◌≤◌, ◌==◌, nat_lt, ◌&&◌, not, ℤ, pos, ◌≤ℤ◌, ◌<ℤ◌, Bool, true, false, if◌then◌else◌, List, [], ◌∷◌, ◌++◌, length, get_or, slice_index_or, drop, filter, Option, Some, None, refl, sym, ◌∙◌, ap, subst, arith, Contains}
 use Rattle.std.specs.List.{All}
 use Rattle.std.proofs.lemmas.Bool.{cases_eq, cases_lt, and_parts, ltb-true, false≢true, ne_eqb}
 use Rattle.std.proofs.lemmas.List.{get_or_default}
@@ -17,9 +17,7 @@ use Rattle.image_tree.specs.Shape.{is_orphan}
 use Rattle.orphans.specs.Freeing.{IsFreed, FreedNodesLeaveImages}
 use Rattle.plain_tree.specs.declared.node.Kind.{Kind}
 use Rattle.plain_tree.specs.declared.node.Node.{Node}
-use Rattle.plain_tree.specs.TreeData.{TreeData}
-use Rattle.plain_tree.specs.Fresh.{fresh_hart}
-use Rattle.plain_tree.specs.Widths.{hart_count}
+use Rattle.plain_tree.specs.Fresh.{at_rest}
 use Rattle.image_tree.specs.Trees.{kind_of, count_of, node_of, first_nodes, tree_in}
 use Rattle.image_tree.proofs.Nodes.{node_is, directory_is}
 use Rattle.image_tree.proofs.NumberLists.{All-nil, numbers_by_free}
@@ -332,7 +330,7 @@ module _ (d e : List (List ℕ)) (i : ℕ) (orphan : is_orphan d i ≡ true) (f 
   pub tree_same : tree_in e ≡ tree_in d
   tree_same =
       let nodes : first_nodes e (sizes_of e).ninodes ≡ first_nodes d (sizes_of d).ninodes = ap (λ (z : Super). first_nodes e z.ninodes) f.sizes ∙ nodes_same (sizes_of d).ninodes in
-      ap (λ (l : List (Option Node)). let t : TreeData = record { nodes = l; files = []; harts = replicate hart_count fresh_hart } in t) nodes
+      ap at_rest nodes
 
 pub freed_nodes_leave_images : FreedNodesLeaveImages
 freed_nodes_leave_images old new i orphan freed well = (well_formed old new i orphan freed well, tree_same old new i orphan freed well)
