@@ -1,6 +1,7 @@
 // How the harts come to be over a device.
 ghost use Rattle.std.specs.Prelude.{◌≡◌, IfOk, IfErr};
 ghost use Rattle.block_device.specs.Blocks.{HasBytes, HasWholeBlocks};
+ghost use Rattle.block_device.specs.Calls.{ComesByCalls};
 ghost use Rattle.fs_layout.specs.Recovered.{sizes_of};
 ghost use Rattle.buffer_cache.specs.Limits.{buffer_count};
 ghost use Rattle.buffer_cache.specs.Seats.{unused_from};
@@ -32,12 +33,14 @@ struct Ready {
 }
 
 // Examines the image, takes the memory, recovers the disk, and frees the nodes without a name.
+#[tactic(auto, using(block_device::specs::CallLaws::by_calls))]
 fn prepare<D: Device>(alloc: Global, device: &mut D) -> Result<Ready, MountFault>
     ensures ready { IfOk result (λ r. (r.sizes ≡ sizes_of (D.contents device.old)) × (r.buffers ≡ unused_from 0 buffer_count) × (r.tables ≡ fresh) × AreIdle r.calls) }
     ensures ok { IfOk result (λ _. IsWellFormed (D.contents device.old) × IsSettled (D.contents device.old) (D.contents device.new)) }
     ensures placed { IfOk result (λ r. IsPlaced (D.contents device.new) r.sizes) }
     ensures blocks { IfOk result (λ _. HasWholeBlocks (D.contents device.new) × HasBytes (D.contents device.new)) }
     ensures faults { D.failures device.new ≡ faults_with result (D.failures device.old) }
+    ensures calls { ComesByCalls D.Called device.old device.new }
     ensures err { IfErr result (λ fault. HandsBack D.contents D.failures device.old device.new fault) }
 {
     let layout = examine_layout(alloc, device)?;
@@ -69,6 +72,8 @@ pub(crate) fn mount_harts<D: Device>(
 ) -> Result<(Harts<D>, Super), (D, MountFault)>
     ensures ok { IfOk result (λ r. IsWellFormed (D.contents device) × Rests D.contents D.failures device r.0 × (r.1 ≡ sizes_of (D.contents device))) }
     ensures err { IfErr result (λ e. HandsBack D.contents D.failures device e.0 e.1) }
+    ensures calls { IfOk result (λ r. ComesByCalls D.Called device r.0.core.log.cache.device) }
+    ensures back { IfErr result (λ e. ComesByCalls D.Called device e.0) }
 {
     let mut device = device;
     match prepare(alloc, &mut device) {

@@ -1,5 +1,6 @@
 // The world: eight harts with their calls on a mounted disk.
 ghost use Rattle.std.specs.Prelude.{◌≡◌, IfOk, IfErr, None, length};
+ghost use Rattle.block_device.specs.Calls.{ComesByCalls};
 ghost use Rattle.atomic_programs.specs.Calls.{Start as StartOf, Step as StepOf};
 ghost use Rattle.group_log.specs.Phases.{is_point};
 ghost use Rattle.fs_machine.specs.Machines.{CallsOnce};
@@ -54,6 +55,8 @@ impl<D: Device> World<D> {
     pub fn mount(alloc: Global, device: D) -> Result<World<D>, (D, MountFault)>
         ensures ok { IfOk result (λ w. IsWellFormed (D.contents device) × Rests D.contents D.failures device w.harts × (w.sizes ≡ sizes_of (D.contents device))) }
         ensures err { IfErr result (λ e. HandsBack D.contents D.failures device e.0 e.1) }
+        ensures calls { IfOk result (λ w. ComesByCalls D.Called device w.harts.core.log.cache.device) }
+        ensures back { IfErr result (λ e. ComesByCalls D.Called device e.0) }
     {
         match mount_harts(alloc, device) {
             Ok(mounted) => {
