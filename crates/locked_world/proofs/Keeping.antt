@@ -2,7 +2,8 @@
 use Rattle.std.proofs.Common.{◌≡◌, ℕ, zero, suc, ◌+◌, ◌<◌, ◌≤◌, inl, inr, Bool, true, false, Option, Some, None, List, [], ◌∷◌, ◌++◌, length, refl, sym, ap, ◌∙◌, subst, arith, slice_set, slice_index_or, get_or, length-append, length-set, append_assoc, append-nil, nat_eq, ◌==◌, if◌then◌else◌}
 use Rattle.std.proofs.lemmas.List.{get_or-set_same, get_or-set_other}
 use Rattle.std.proofs.lemmas.Bool.Decides.{eqb_tells}
-use Rattle.block_device.specs.Fuse.{Fuse}
+use Rattle.block_device.specs.Calls.{one_more}
+use Rattle.block_device.specs.Fuse.{Fuse, IsFusedCall}
 use Rattle.fs_layout.specs.declared.superblock.Super.{Super}
 use Rattle.plain_tree.specs.declared.answer.Reply.{Reply}
 use Rattle.plain_tree.specs.declared.call.Call.{Call}
@@ -12,6 +13,7 @@ use Rattle.atomic_programs.specs.Calls.{Start, Step, Outcome as OutcomeOf, Start
 use Rattle.atomic_programs.specs.Plain.{Plain, PlainMade}
 use Rattle.fs_machine.specs.declared.kind.Kind.{Kind}
 use Rattle.fs_machine.specs.LogPart.{Outside}
+use Rattle.fs_machine.specs.Machines.{CallsOnce}
 use Rattle.inode_machine.specs.Theory.{Refusal}
 use Rattle.calls_on_blocks.specs.Theory.{block_calls, block_code}
 use Rattle.hart_core.specs.declared.events.Event.{Event}
@@ -28,7 +30,7 @@ use Rattle.hart_core.specs.Starts.{reason_of}
 use Rattle.hart_core.specs.Worlds.{WorldOf, calls_of, Makes, Answers}
 use Rattle.hart_core.proofs.Histories.{history_more, one_each}
 use Rattle.locked_world.specs.HandedBack.{HandsBack, SpareFits}
-use Rattle.locked_world.specs.Kept.{StoredRun, with_event, contents, failures, IsRunOf, IsKept, replied_by, replies_in, replies_of, counts, count_in, shown_in}
+use Rattle.locked_world.specs.Kept.{StoredRun, with_event, contents, failures, device_of, ComesFromImage, IsRunOf, IsKept, replied_by, replies_in, replies_of, counts, count_in, shown_in}
 use Rattle.locked_world.specs.Told.{IsUnmoved}
 use Rattle.locked_world.proofs.Blocks.{answers_fit, may_here, started}
 use Rattle.locked_world.proofs.Spares.{Ends, step_keeps, step_ends, step_waits, start_refused}
@@ -107,19 +109,29 @@ run_more s w v run e c x sizes honest makes = record {
 abbrev AllFit : List (Option Call) → WorldOf Fuse → Type 0
 AllFit spares w = (k : ℕ) → SpareFits (get_or spares k None) ((calls_of contents failures w.sizes w.harts).running k)
 
+-- a step makes one call of the device, or none
+called_on : (s : StoredRun) (old new : Fuse) → ComesFromImage s old → CallsOnce IsFusedCall old new → ComesFromImage s new
+called_on s old new calls (inl same) = subst (ComesFromImage s) (sym same) calls
+called_on s old new calls (inr call) = one_more calls call
+
+-- a start makes none
+uncalled : (w v : WorldOf Fuse) → v.harts.core ≡ w.harts.core → CallsOnce IsFusedCall (device_of w) (device_of v)
+uncalled w v same = inl (λ i. (same i).log.cache.device)
+
 -- one event more
 kept_grow : (s : StoredRun) (total : ℕ) (w : WorldOf Fuse) (given : List ℕ) (spares : List (Option Call)) → IsKept s total w given spares
     → (e : Event) (c : Came) (x : Outside) (es : List Event) (cs : List Came) (total' : ℕ) (v : WorldOf Fuse) (given' : List ℕ) (spares' : List (Option Call))
     → es ≡ s.events ++ e ∷ [] → cs ≡ s.outcomes ++ c ∷ [] → total' ≡ total + counts (shown e c)
-    → v.sizes ≡ w.sizes → Answers contents failures w.sizes (with_answer (event_of e) x) w.harts → Makes contents failures w.sizes (with_answer (event_of e) x) w.harts (came_of c) v.harts
+    → v.sizes ≡ w.sizes → Answers contents failures w.sizes (with_answer (event_of e) x) w.harts → Makes contents failures w.sizes (with_answer (event_of e) x) w.harts (came_of c) v.harts → CallsOnce IsFusedCall (device_of w) (device_of v)
     → ((h : ℕ) → h < 8 → slice_index_or given' h 0 ≡ slice_index_or given h 0 + length (replied_by h (shown e c)))
     → AllFit spares' v → length spares' ≡ 8
     → IsKept (record { image = s.image; fuse = s.fuse; events = es; outcomes = cs }) total' v given' spares'
-kept_grow s total w given spares k e c x es cs total' v given' spares' p q t sizes honest makes gave fit eight =
+kept_grow s total w given spares k e c x es cs total' v given' spares' p q t sizes honest makes called gave fit eight =
     let same : shown_in (with_event s e c) ≡ shown_in s ++ shown e c ∷ [] = shown_more s.events s.outcomes e c (same_length s w k.run) in
     let all : IsKept (with_event s e c) total' v given' spares' =
     record {
       run = run_more s w v k.run e c x sizes honest makes;
+      calls = called_on s (device_of w) (device_of v) k.calls called;
       total_is = t ∙ ap (λ (n : ℕ). n + counts (shown e c)) k.total_is ∙ sym (count_more (shown_in s) (shown e c)) ∙ ap count_in (sym same);
       given_are = λ h lt. gave h lt ∙ ap (λ (n : ℕ). n + length (replied_by h (shown e c))) (k.given_are h lt) ∙ sym (length-append (replies_of h s) (replied_by h (shown e c))) ∙ ap length (sym (replies_more h (shown_in s) (shown e c))) ∙ ap (λ (ss : List Shown). length (replies_in h ss)) (sym same);
       eight = eight;
@@ -152,8 +164,9 @@ waits_unmoved w v h x makes =
     subst (λ (m : PlainMade (block_calls w.sizes) (block_code w.sizes)). m.came ≡ DidWait → m.after ≡ p) makes (step_waits w.sizes h x p (p.running h)) refl
 
 pub kept_waits : (s : StoredRun) (total : ℕ) (w : WorldOf Fuse) (given : List ℕ) (spares : List (Option Call)) → IsKept s total w given spares
-    → (h : ℕ) (x : Outside) (v : WorldOf Fuse) → v.sizes ≡ w.sizes → Makes contents failures w.sizes (Step h x) w.harts DidWait v.harts → IsKept s total v given spares
-kept_waits s total w given spares k h x v sizes makes =
+    → (h : ℕ) (x : Outside) (v : WorldOf Fuse) → v.sizes ≡ w.sizes → Makes contents failures w.sizes (Step h x) w.harts DidWait v.harts
+    → CallsOnce IsFusedCall (device_of w) (device_of v) → IsKept s total v given spares
+kept_waits s total w given spares k h x v sizes makes called =
     let same : calls_of contents failures w.sizes v.harts ≡ calls_of contents failures w.sizes w.harts = waits_unmoved w v h x makes in
     record {
       run = record {
@@ -170,6 +183,7 @@ kept_waits s total w given spares k h x v sizes makes =
         );
         sizes = sizes ∙ k.run.sizes;
       };
+      calls = called_on s (device_of w) (device_of v) k.calls called;
       total_is = k.total_is;
       eight = k.eight;
       given_are = k.given_are;
@@ -180,10 +194,10 @@ kept_waits s total w given spares k h x v sizes makes =
 pub kept_step : (s : StoredRun) (total : ℕ) (w : WorldOf Fuse) (given : List ℕ) (spares : List (Option Call)) → IsKept s total w given spares
     → (h : ℕ) (x : Outside) (o : Outcome) (es : List Event) (cs : List Came) (v : WorldOf Fuse)
     → shown_outcome h o ≡ Other → v.sizes ≡ w.sizes → Answers contents failures w.sizes (Step h x) w.harts → Makes contents failures w.sizes (Step h x) w.harts (outcome_of o) v.harts
-    → es ≡ s.events ++ event.Step h ∷ [] → cs ≡ s.outcomes ++ came.Stepped o ∷ []
+    → CallsOnce IsFusedCall (device_of w) (device_of v) → es ≡ s.events ++ event.Step h ∷ [] → cs ≡ s.outcomes ++ came.Stepped o ∷ []
     → IsKept (record { image = s.image; fuse = s.fuse; events = es; outcomes = cs }) total v given spares
-kept_step s total w given spares k h x o es cs v none sizes honest makes p q =
-    kept_grow s total w given spares k (event.Step h) (came.Stepped o) x es cs total v given spares p q (omega (arith, ap counts none)) sizes honest makes
+kept_step s total w given spares k h x o es cs v none sizes honest makes called p q =
+    kept_grow s total w given spares k (event.Step h) (came.Stepped o) x es cs total v given spares p q (omega (arith, ap counts none)) sizes honest makes called
     (λ j lt. omega (arith, ap (λ (z : Shown). length (replied_by j z)) none)) (fit_step s w v spares h x (outcome_of o) k.run sizes makes k.spares_fit) k.eight
 
 reply_counts : (given : List ℕ) (h j : ℕ) (r : Reply) → h < length given → slice_index_or (slice_set given h (slice_index_or given h 0 + 1)) j 0 ≡ slice_index_or given j 0 + length (replied_by j (Replied h r))
@@ -210,9 +224,9 @@ had_spare s total w given spares k h x r v makes =
 pub kept_done : (s : StoredRun) (total : ℕ) (w : WorldOf Fuse) (given : List ℕ) (spares : List (Option Call)) → IsKept s total w given spares
     → (h : ℕ) (x : Outside) (r : Reply) (es : List Event) (cs : List Came) (total' : ℕ) (v : WorldOf Fuse) (spares' : List (Option Call))
     → h < length given → v.sizes ≡ w.sizes → Answers contents failures w.sizes (Step h x) w.harts → Makes contents failures w.sizes (Step h x) w.harts (DidEnd r) v.harts
-    → es ≡ s.events ++ event.Step h ∷ [] → cs ≡ s.outcomes ++ came.Stepped (outcome.Done r) ∷ [] → total' ≡ total + 1 → spares' ≡ slice_set spares h None
+    → CallsOnce IsFusedCall (device_of w) (device_of v) → es ≡ s.events ++ event.Step h ∷ [] → cs ≡ s.outcomes ++ came.Stepped (outcome.Done r) ∷ [] → total' ≡ total + 1 → spares' ≡ slice_set spares h None
     → IsKept (record { image = s.image; fuse = s.fuse; events = es; outcomes = cs }) total' v (slice_set given h (slice_index_or given h 0 + 1)) spares'
-kept_done s total w given spares k h x r es cs total' v spares' lt sizes honest makes p q t left =
+kept_done s total w given spares k h x r es cs total' v spares' lt sizes honest makes called p q t left =
     let e = ended s w v spares h x r k.run makes k.spares_fit in
     let fit : AllFit spares v = fit_step s w v spares h x (DidEnd r) k.run sizes makes k.spares_fit in
     let gone : (calls_of contents failures v.sizes v.harts).running h ≡ None =
@@ -222,7 +236,7 @@ kept_done s total w given spares k h x r es cs total' v spares' lt sizes honest 
       | inl f ↦ subst (λ o. SpareFits (get_or (slice_set spares h None) j None) o) (sym (ap (calls_of contents failures v.sizes v.harts).running f.1 ∙ gone)) tt
       | inr f ↦ subst (λ (o : Option Call). SpareFits o ((calls_of contents failures v.sizes v.harts).running j)) (sym (get_or-set_other spares h j None None f.1)) (fit j)
     ] in
-    kept_grow s total w given spares k (event.Step h) (came.Stepped (outcome.Done r)) x es cs total' v (slice_set given h (slice_index_or given h 0 + 1)) spares' p q t sizes honest makes
+    kept_grow s total w given spares k (event.Step h) (came.Stepped (outcome.Done r)) x es cs total' v (slice_set given h (slice_index_or given h 0 + 1)) spares' p q t sizes honest makes called
     (λ j below. reply_counts given h j r lt) (subst (λ (o : List (Option Call)). AllFit o v) (sym left) there) (ap length left ∙ length-set spares h None ∙ k.eight)
 
 -- ---- starts
@@ -230,10 +244,10 @@ kept_done s total w given spares k h x r es cs total' v spares' lt sizes honest 
 -- a call begun
 pub kept_started : (s : StoredRun) (total : ℕ) (w : WorldOf Fuse) (given : List ℕ) (spares : List (Option Call)) → IsKept s total w given spares
     → (h : ℕ) (call copy : Call) (x : Outside) (es : List Event) (cs : List Came) (total' : ℕ) (v : WorldOf Fuse) (spares' : List (Option Call))
-    → copy ≡ call → v.sizes ≡ w.sizes → Makes contents failures w.sizes (Start h call) w.harts Started v.harts
+    → copy ≡ call → v.sizes ≡ w.sizes → Makes contents failures w.sizes (Start h call) w.harts Started v.harts → v.harts.core ≡ w.harts.core
     → es ≡ s.events ++ event.Start h call ∷ [] → cs ≡ s.outcomes ++ came.Started ∷ [] → total' ≡ total + 1 → spares' ≡ slice_set spares h (Some copy)
     → IsKept (record { image = s.image; fuse = s.fuse; events = es; outcomes = cs }) total' v given spares'
-kept_started s total w given spares k h call copy x es cs total' v spares' same sizes makes p q t laid =
+kept_started s total w given spares k h call copy x es cs total' v spares' same sizes makes core p q t laid =
     let b = started w.sizes h call (calls_of contents failures w.sizes w.harts) (calls_of contents failures w.sizes v.harts) makes in
     let now : (calls_of contents failures v.sizes v.harts).running ≡ changed (calls_of contents failures w.sizes w.harts).running h (Some b.prog) =
     subst (λ (z : Super). (calls_of contents failures z v.harts).running ≡ changed (calls_of contents failures w.sizes w.harts).running h (Some b.prog)) (sym sizes) b.running in
@@ -245,20 +259,20 @@ kept_started s total w given spares k h call copy x es cs total' v spares' same 
       | inr f ↦ subst (λ o. SpareFits (get_or (slice_set spares h (Some call)) j None) o) (sym (ap (λ (g : ℕ → Option _). g j) now ∙ ap (λ (z : Bool). if z then Some b.prog else (calls_of contents failures w.sizes w.harts).running j) f.0))
           (subst (λ (o : Option Call). SpareFits o ((calls_of contents failures w.sizes w.harts).running j)) (sym (get_or-set_other spares h j (Some call) None f.1)) (k.spares_fit j))
     ] in
-    kept_grow s total w given spares k (event.Start h call) came.Started x es cs total' v given spares' p q t sizes tt makes (λ j lt. omega arith)
+    kept_grow s total w given spares k (event.Start h call) came.Started x es cs total' v given spares' p q t sizes tt makes (uncalled w v core) (λ j lt. omega arith)
     (subst (λ (o : List (Option Call)). AllFit o v) (sym (laid ∙ ap (λ (c : Call). slice_set spares h (Some c)) same)) there) (ap length laid ∙ length-set spares h (Some copy) ∙ k.eight)
 
 -- a call refused
 pub kept_refused : (s : StoredRun) (total : ℕ) (w : WorldOf Fuse) (given : List ℕ) (spares : List (Option Call)) → IsKept s total w given spares
     → (h : ℕ) (call : Call) (why : StartRefused) (x : Outside) (es : List Event) (cs : List Came) (v : WorldOf Fuse)
-    → v.sizes ≡ w.sizes → Makes contents failures w.sizes (Start h call) w.harts (Refused (reason_of why)) v.harts
+    → v.sizes ≡ w.sizes → Makes contents failures w.sizes (Start h call) w.harts (Refused (reason_of why)) v.harts → v.harts.core ≡ w.harts.core
     → es ≡ s.events ++ event.Start h call ∷ [] → cs ≡ s.outcomes ++ came.Refused why ∷ []
     → IsKept (record { image = s.image; fuse = s.fuse; events = es; outcomes = cs }) total v given spares
-kept_refused s total w given spares k h call why x es cs v sizes makes p q =
+kept_refused s total w given spares k h call why x es cs v sizes makes core p q =
     let was : Plain (block_calls w.sizes) (block_code w.sizes) = calls_of contents failures w.sizes w.harts in
     let same : calls_of contents failures w.sizes v.harts ≡ was =
     subst (λ (m : PlainMade (block_calls w.sizes) (block_code w.sizes)). (y : Refusal) → m.came ≡ Refused y → m.after ≡ was) makes (start_refused w.sizes h call was (was.running h)) (reason_of why) refl in
-    kept_grow s total w given spares k (event.Start h call) (came.Refused why) x es cs total v given spares p q (omega arith) sizes tt makes (λ j lt. omega arith)
+    kept_grow s total w given spares k (event.Start h call) (came.Refused why) x es cs total v given spares p q (omega arith) sizes tt makes (uncalled w v core) (λ j lt. omega arith)
     (subst (λ (z : Super). (j : ℕ) → SpareFits (get_or spares j None) ((calls_of contents failures z v.harts).running j)) (sym sizes)
     (subst (λ (m : Plain (block_calls w.sizes) (block_code w.sizes)). (j : ℕ) → SpareFits (get_or spares j None) (m.running j)) (sym same) k.spares_fit)) k.eight
 

@@ -1,7 +1,8 @@
 -- A locked world before its first event.
 use Rattle.std.proofs.Common.{◌≡◌, ℕ, zero, suc, List, [], Option, None, replicate, get_or, refl, sym, ◌∙◌, ap, subst}
 use Rattle.fs_layout.specs.Recovered.{sizes_of}
-use Rattle.block_device.specs.Fuse.{Fuse}
+use Rattle.block_device.specs.Calls.{ComesByCalls}
+use Rattle.block_device.specs.Fuse.{Fuse, IsFusedCall}
 use Rattle.atomic_programs.specs.Machines.{program_at}
 use Rattle.syscalls.specs.Machines.{Running, running_of}
 use Rattle.hart_core.specs.declared.events.Event.{Event}
@@ -12,7 +13,7 @@ use Rattle.hart_core.specs.Worlds.{WorldOf, calls_of}
 use Rattle.hart_core.proofs.Histories.{no_history}
 use Rattle.hart_core.proofs.Stepping.{nones}
 use Rattle.locked_world.specs.HandedBack.{SpareFits}
-use Rattle.locked_world.specs.Kept.{StoredRun, IsKept, contents, failures, disk_of, opened}
+use Rattle.locked_world.specs.Kept.{StoredRun, IsKept, ComesFromImage, contents, failures, device_of, disk_of, opened}
 
 zeros : (n h : ℕ) → ◌≡◌ {A = ℕ} (get_or (replicate n 0) h 0) 0
 zeros zero zero = refl
@@ -27,10 +28,15 @@ mounted_on s disk w same rests sizes = record {
   sizes = sizes ∙ ap (λ (d : Fuse). sizes_of (contents d)) same;
 }
 
+-- calls have led there from the disk of what is stored
+pub called_from : (s : StoredRun) (disk : Fuse) (w : WorldOf Fuse) → disk ≡ disk_of s → ComesByCalls IsFusedCall disk (device_of w) → ComesFromImage s (device_of w)
+called_from s disk w same calls = subst (λ (d : Fuse). ComesByCalls IsFusedCall d (device_of w)) same calls
+
 -- nothing was started, and nothing is laid by
 pub kept_opened : (image : List ℕ) (fuse : ℕ) (es : List Event) (cs : List Came) (total : ℕ) (disk : Fuse) (w : WorldOf Fuse) → es ≡ [] → cs ≡ [] → total ≡ 0 → disk ≡ disk_of (opened image fuse)
-    → Rests contents failures disk w.harts → w.sizes ≡ sizes_of (contents disk) → IsKept (record { image = image; fuse = fuse; events = es; outcomes = cs }) total w (replicate 8 0) (replicate 8 None)
-kept_opened image fuse es cs total disk w p q t same rests sizes =
+    → Rests contents failures disk w.harts → w.sizes ≡ sizes_of (contents disk) → ComesByCalls IsFusedCall disk (device_of w)
+    → IsKept (record { image = image; fuse = fuse; events = es; outcomes = cs }) total w (replicate 8 0) (replicate 8 None)
+kept_opened image fuse es cs total disk w p q t same rests sizes calls =
     let idle : (h : ℕ) → (calls_of contents failures w.sizes w.harts).running h ≡ None =
     λ h. ap (λ (calls : List (Option Running)). program_at running_of (get_or calls h None)) rests.idle ∙ ap (program_at running_of) (nones 8 h) in
     let all : IsKept (opened image fuse) 0 w (replicate 8 0) (replicate 8 None) =
@@ -41,6 +47,7 @@ kept_opened image fuse es cs total disk w p q t same rests sizes =
         history = ([], no_history contents failures w.sizes w.harts);
         sizes = refl;
       };
+      calls = called_from (opened image fuse) disk w same calls;
       total_is = refl;
       eight = refl;
       given_are = λ h lt. zeros 8 h;

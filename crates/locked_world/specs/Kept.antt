@@ -1,7 +1,8 @@
 -- What is kept under a lock: an image, a fuse, and the events with what they came to, beside the world that they made; and what is left of it.
 use Rattle.std.specs.Prelude.{◌≡◌, ◌⊎◌, ℕ, ◌+◌, ◌<◌, ◌==◌, if◌then◌else◌, List, [], ◌∷◌, ◌++◌, length, Option, None, slice_index_or, get_or}
 use Rattle.block_device.specs.Blocks.{blocks_of}
-use Rattle.block_device.specs.Fuse.{Fuse}
+use Rattle.block_device.specs.Calls.{ComesByCalls}
+use Rattle.block_device.specs.Fuse.{Fuse, IsFusedCall}
 use Rattle.image_tree.specs.Trees.{tree_in}
 use Rattle.plain_tree.specs.declared.answer.Reply.{Reply}
 use Rattle.plain_tree.specs.declared.call.Call.{Call}
@@ -55,6 +56,10 @@ disk_of s = record { bytes = s.image; left = s.fuse; faults = 0 }
 abbrev pub device_of : WorldOf Fuse → Fuse
 device_of w = w.harts.core.log.cache.device
 
+-- calls lead from the image, on a disk that passes so many, to this one
+abbrev pub ComesFromImage : StoredRun → Fuse → Type 0
+ComesFromImage s d = ComesByCalls IsFusedCall (disk_of s) d
+
 -- what a world leaves that ends: what is stored, and its own disk
 abbrev pub closed_of : LockedRun → ClosedRun
 closed_of s = record { stored = s.stored; disk = (device_of s.world).bytes }
@@ -70,9 +75,9 @@ pub record IsRunOf (s : StoredRun) (w : WorldOf Fuse) : Type 0 where
 abbrev pub IsRun : LockedRun → Type 0
 IsRun s = IsRunOf s.stored s.world
 
--- the world of a run has this disk
+-- the world of a run has this disk, to which calls lead from the image
 abbrev pub LeavesDisk : StoredRun → List ℕ → Type 0
-LeavesDisk s bytes = (w : WorldOf Fuse) × IsRunOf s w × (bytes ≡ (device_of w).bytes)
+LeavesDisk s bytes = (w : WorldOf Fuse) × IsRunOf s w × (bytes ≡ (device_of w).bytes) × ComesFromImage s (device_of w)
 
 -- In this run of what is stored, if no step of it found no room, one list of tree steps explains all calls that were started, from the image's tree: as long as
 -- no path climbs, or where one hart has made all calls.
@@ -120,6 +125,7 @@ count_of s = count_in (shown_in s)
 -- the ledger's total, how many replies each hart has had, and the copies that are laid by
 pub record IsKept (s : StoredRun) (total : ℕ) (w : WorldOf Fuse) (given : List ℕ) (spares : List (Option Call)) : Type 0 where
   pub run : IsRunOf s w
+  pub calls : ComesFromImage s (device_of w)
   pub total_is : total ≡ count_of s
   pub eight : length spares ≡ 8
   pub given_are : (h : ℕ) → h < 8 → slice_index_or given h 0 ≡ length (replies_of h s)

@@ -1,6 +1,6 @@
 -- What a start and a step of the locked world answer, and what they make of the world.
-use Rattle.std.specs.Prelude.{◌≡◌, ℕ, ◌+◌, ◌-◌, length, Result, Ok, Err}
-use Rattle.block_device.specs.Fuse.{Fuse}
+use Rattle.std.specs.Prelude.{◌≡◌, ℕ, ◌+◌, length, Result, Ok, Err}
+use Rattle.block_device.specs.Fuse.{Fuse, IsFusedCall}
 use Rattle.plain_tree.specs.declared.call.Call.{Call}
 use Rattle.atomic_programs.specs.Calls.{Start as StartOf, Step as StepOf}
 use Rattle.fs_machine.specs.Machines.{CallsOnce}
@@ -25,10 +25,6 @@ use Rattle.locked_world.specs.declared.locked.Told.TheVariants as told
 
 -- ---- what is made of the world
 
--- a call of the device burns one of its fuse, where there is any
-abbrev pub Burns : Fuse → Fuse → Type 0
-Burns old new = new.left ≡ old.left - 1
-
 -- a start of the hart's call came to this, and made world v of w, without a call of the device
 pub record MakesStart (w : WorldOf Fuse) (h : ℕ) (call : Call) (c : Came) (v : WorldOf Fuse) : Type 0 where
   pub makes : Makes contents failures w.sizes (StartOf h call) w.harts (came_of c) v.harts
@@ -40,7 +36,7 @@ pub record MakesStep (w : WorldOf Fuse) (h : ℕ) (o : Outcome) (v : WorldOf Fus
   pub makes : Makes contents failures w.sizes (StepOf h (said o (shared_of contents failures v.harts))) w.harts (outcome_of o) v.harts
   pub honest : MayAnswer contents failures w.sizes (StepOf h (said o (shared_of contents failures v.harts))) w.harts
   pub sizes : v.sizes ≡ w.sizes
-  pub called : CallsOnce Burns (device_of w) (device_of v)
+  pub called : CallsOnce IsFusedCall (device_of w) (device_of v)
 
 -- the harts' calls, and all that they share, are as they were
 abbrev pub IsUnmoved : WorldOf Fuse → WorldOf Fuse → Type 0

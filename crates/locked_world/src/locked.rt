@@ -3,7 +3,7 @@ ghost use Rattle.std.specs.Prelude.{◌≡◌, ◌≢◌, ◌<◌, ◌≤◌, �
 ghost use Rattle.block_device.specs.Blocks.{blocks_of};
 ghost use Rattle.image_tree.specs.Damage.{IsWellFormed, JudgesFault};
 ghost use Rattle.hart_core.specs.Runs.{IsMounted, all_shown, shown};
-ghost use Rattle.locked_world.specs.Kept.{opened, closed_of, contents, failures, disk_of, count_of, replies_of, replies_in, replied_by, IsRun, HasOneHistory, LeavesDisk};
+ghost use Rattle.locked_world.specs.Kept.{opened, closed_of, contents, failures, disk_of, count_of, replies_of, replies_in, replied_by, IsRun, HasOneHistory, LeavesDisk, ComesFromImage, device_of};
 ghost use Rattle.locked_world.specs.Told.{Answers, StartAnswers, halt_for};
 
 use crate::closed::Closed;
@@ -182,6 +182,7 @@ impl<L: Ledger> Locked<L> {
         requires eight { blank.parts ≡ 8 }
         ensures opened { IfOk result (λ r. r.0.stored ≡ opened image.items fuse) }
         ensures mounted { IfOk result (λ r. IsMounted contents failures (disk_of r.0.stored) r.0.world) }
+        ensures fuse { IfOk result (λ r. ComesFromImage r.0.stored (device_of r.0.world)) }
         ensures well { IfOk result (λ _. IsWellFormed (blocks_of image.items)) }
         ensures harts { IfOk result (λ r. map (λ s. s.hart) r.1 ≡ 0 ∷ 1 ∷ 2 ∷ 3 ∷ 4 ∷ 5 ∷ 6 ∷ 7 ∷ []) }
         ensures nothing { IfOk result (λ r. All (λ s. s.tally.amount ≡ 0) r.1) }
@@ -301,9 +302,11 @@ impl<L: Ledger> Locked<L> {
     }
 
     /// A law, for a reader; nothing is done. What is stored is a run of this very world: one was mounted on the image, on a disk that
-    /// passes so many calls, and the events came to their outcomes, one after the other, and made this one of it.
+    /// passes so many calls, and the events came to their outcomes, one after the other, and made this one of it. And its device is
+    /// what calls have made of that disk: each has burned one of its fuse, and has failed where none was left.
     pub fn is_run(&self)
-        ensures { IsRun self.now }
+        ensures run { IsRun self.now }
+        ensures calls { ComesFromImage self.now.stored (device_of self.now.world) }
     {
         let _ = &self.world;
     }

@@ -15,7 +15,7 @@ pub invariant_of-self-in-Ok-start : goal.invariant_of-self-in-Ok-start
 invariant_of-self-in-Ok-start g c =
     let i = c.self.inside in
     kept_started (record { image = i.image.items; fuse = i.fuse; events = i.story.events; outcomes = i.story.outcomes }) i.book.total i.world i.given i.spare c.self.invariant c.args.hart c.args.call c.in-Ok.copies.spare Passes _ _ _ c.start.new.self _
-    c.in-Ok.ensures.1 c.in-Ok-start.ensures.sizes c.in-Ok-start.ensures.makes
+    c.in-Ok.ensures.1 c.in-Ok-start.ensures.sizes c.in-Ok-start.ensures.makes c.in-Ok-start.ensures.core
     (c.started.ensures.events ∙ (λ j. c.make_room.ensures.same.0 j ++ Start c.args.hart (c.in-Ok.ensures.0 j) ∷ []))
     (c.started.ensures.outcomes ∙ ap (λ (z : List Came). z ++ Started ∷ []) c.make_room.ensures.same.1)
     c.add.ensures.total c.lay_by.ensures
@@ -24,7 +24,7 @@ pub invariant_of-self-in-Err : goal.invariant_of-self-in-Err
 invariant_of-self-in-Err g c =
     let i = c.self.inside in
     kept_refused (record { image = i.image.items; fuse = i.fuse; events = i.story.events; outcomes = i.story.outcomes }) i.book.total i.world i.given i.spare c.self.invariant c.args.hart c.args.call c.in-Err.why Passes _ _ c.start.new.self
-    c.in-Err.ensures.sizes c.in-Err.ensures.makes
+    c.in-Err.ensures.sizes c.in-Err.ensures.makes c.in-Err.ensures.core
     (c.refused.ensures.events ∙ (λ j. c.make_room.ensures.same.0 j ++ Start c.args.hart ((c.one_of-event.ensures ∙ c.in-Ok.ensures.0) j) ∷ []))
     (c.refused.ensures.outcomes ∙ ap (λ (z : List Came). z ++ Refused c.in-Err.why ∷ []) c.make_room.ensures.same.1)
 

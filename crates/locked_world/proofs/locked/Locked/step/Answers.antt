@@ -18,7 +18,7 @@ pub invariant_of-self-in-Idle : goal.invariant_of-self-in-Idle
 invariant_of-self-in-Idle g c =
     let i = c.self.inside in
     kept_step (record { image = i.image.items; fuse = i.fuse; events = i.story.events; outcomes = i.story.outcomes }) i.book.total i.world i.given i.spare c.self.invariant c.args.hart Passes Idle _ _ c.step.new.self
-    refl c.in-Idle.ensures.sizes c.in-Idle.ensures.honest c.in-Idle.ensures.makes
+    refl c.in-Idle.ensures.sizes c.in-Idle.ensures.honest c.in-Idle.ensures.makes c.in-Idle.ensures.called
     (c.idle.ensures.events ∙ ap (λ (z : List Event). z ++ Step c.args.hart ∷ []) c.make_room.ensures.same.0)
     (c.idle.ensures.outcomes ∙ ap (λ (z : List Came). z ++ Stepped Idle ∷ []) c.make_room.ensures.same.1)
 
@@ -39,7 +39,7 @@ pub invariant_of-self-in-Waits : goal.invariant_of-self-in-Waits
 invariant_of-self-in-Waits g c =
     let i = c.self.inside in
     subst (λ (z : StoredRun). IsKept z i.book.total c.step.new.self i.given i.spare) (λ j. record { image = i.image.items; fuse = i.fuse; events = sym c.make_room.ensures.same.0 j; outcomes = sym c.make_room.ensures.same.1 j })
-    (kept_waits (record { image = i.image.items; fuse = i.fuse; events = i.story.events; outcomes = i.story.outcomes }) i.book.total i.world i.given i.spare c.self.invariant c.args.hart Passes c.step.new.self c.in-Waits.ensures.sizes c.in-Waits.ensures.makes)
+    (kept_waits (record { image = i.image.items; fuse = i.fuse; events = i.story.events; outcomes = i.story.outcomes }) i.book.total i.world i.given i.spare c.self.invariant c.args.hart Passes c.step.new.self c.in-Waits.ensures.sizes c.in-Waits.ensures.makes c.in-Waits.ensures.called)
 
 pub returns-in-Waits-clause-answer : goal.returns-in-Waits-clause-answer
 returns-in-Waits-clause-answer g c =
@@ -58,7 +58,7 @@ pub invariant_of-self-in-Ran : goal.invariant_of-self-in-Ran
 invariant_of-self-in-Ran g c =
     let i = c.self.inside in
     kept_step (record { image = i.image.items; fuse = i.fuse; events = i.story.events; outcomes = i.story.outcomes }) i.book.total i.world i.given i.spare c.self.invariant c.args.hart Passes (Ran c.in-Ran.kind) _ _ c.step.new.self
-    refl c.in-Ran.ensures.sizes c.in-Ran.ensures.honest c.in-Ran.ensures.makes
+    refl c.in-Ran.ensures.sizes c.in-Ran.ensures.honest c.in-Ran.ensures.makes c.in-Ran.ensures.called
     (c.ran.ensures.events ∙ ap (λ (z : List Event). z ++ Step c.args.hart ∷ []) c.make_room.ensures.same.0)
     (c.ran.ensures.outcomes ∙ ap (λ (z : List Came). z ++ Stepped (Ran c.in-Ran.kind) ∷ []) c.make_room.ensures.same.1)
 
@@ -79,7 +79,7 @@ pub invariant_of-self-in-Stopped : goal.invariant_of-self-in-Stopped
 invariant_of-self-in-Stopped g c =
     let i = c.self.inside in
     kept_step (record { image = i.image.items; fuse = i.fuse; events = i.story.events; outcomes = i.story.outcomes }) i.book.total i.world i.given i.spare c.self.invariant c.args.hart (said (Stopped c.in-Stopped.stop) (shared_of contents failures c.step.new.self.harts)) (Stopped c.in-Stopped.stop) _ _ c.step.new.self
-    refl c.in-Stopped.ensures.sizes c.in-Stopped.ensures.honest c.in-Stopped.ensures.makes
+    refl c.in-Stopped.ensures.sizes c.in-Stopped.ensures.honest c.in-Stopped.ensures.makes c.in-Stopped.ensures.called
     (c.stopped.ensures.events ∙ ap (λ (z : List Event). z ++ Step c.args.hart ∷ []) c.make_room.ensures.same.0)
     (c.stopped.ensures.outcomes ∙ ap (λ (z : List Came). z ++ Stepped (Stopped c.in-Stopped.stop) ∷ []) c.make_room.ensures.same.1)
 
@@ -117,7 +117,7 @@ invariant_of-self-in-Done g c =
     let had = had_spare (record { image = i.image.items; fuse = i.fuse; events = i.story.events; outcomes = i.story.outcomes }) i.book.total i.world i.given i.spare c.self.invariant c.args.hart Passes c.in-Done.reply c.step.new.self c.in-Done.ensures.makes in
     let below : c.args.hart < 8 = omega (arith, had.below, c.self.invariant.eight) in
     kept_done (record { image = i.image.items; fuse = i.fuse; events = i.story.events; outcomes = i.story.outcomes }) i.book.total i.world i.given i.spare c.self.invariant c.args.hart Passes c.in-Done.reply _ _ _ c.step.new.self _
-    (search (rules, below)) c.in-Done.ensures.sizes c.in-Done.ensures.honest c.in-Done.ensures.makes
+    (search (rules, below)) c.in-Done.ensures.sizes c.in-Done.ensures.honest c.in-Done.ensures.makes c.in-Done.ensures.called
     (c.done.ensures.events ∙ ap (λ (z : List Event). z ++ Step c.args.hart ∷ []) c.make_room.ensures.same.0)
     (c.done.ensures.outcomes ∙ (λ j. c.make_room.ensures.same.1 j ++ Stepped (Done (record { answer = c.in-Done.reply.answer; call = c.filled.ensures j })) ∷ []))
     c.add.ensures.total c.take_spare.ensures.left
