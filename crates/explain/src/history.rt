@@ -15,8 +15,7 @@ use std::alloc::Global;
 ///
 /// It is refused by the image's first damage; by 71 where a step found no room: where a reply says so, also where a path
 /// climbs as well, and where no list explains the run, as one does where every step found room and no path climbs; by 72
-/// where the path of a call that was started has the element ".."; by 33 where memory was refused, and where a step that is
-/// tried would change a node past the tree's table, as `ApplyRefused::NoMemory` says, which should not come about.
+/// where the path of a call that was started has the element ".."; by 33 where memory was refused.
 ///
 /// The events run beside a tree, on which each operation makes its move as it acts: the list is the one that comes about so, each step
 /// at the event at which it acted, and the failing steps of walks at the event of the unlink that removed their directory. That takes as
