@@ -11,12 +11,14 @@ use Rattle.console_parts.specs.declared.mode.Schedule.TheVariants.{Listed, Round
 -- the schedule of this name; the first one where none is named
 abbrev pub schedule_named : Option Text → Option Schedule
 schedule_named None = Some Listed
-schedule_named (Some name) = if bytes_eq name (codes "listed") then Some Listed else if bytes_eq name (codes "round") then Some Round else None
+schedule_named (Some name) =
+    if bytes_eq name (codes "listed") then Some Listed else if bytes_eq name (codes "round") then Some Round else None
 
 -- the number of a text that is a u32's, where one `+` may stand first; 0 where there is none
 abbrev pub IsNumber : Option Text → ℕ → Type 0
 IsNumber None n = n ≡ 0
-IsNumber (Some text) n = IsNumeral 10 (without_leading_plus text) → digits_value 10 (without_leading_plus text) < 2 ^ 32 → n ≡ digits_value 10 (without_leading_plus text)
+IsNumber (Some text) n = IsNumeral 10 (without_leading_plus text) → digits_value 10 (without_leading_plus text) < 2 ^ 32
+    → n ≡ digits_value 10 (without_leading_plus text)
 
 -- a flag that is given reads as "true", one that isn't as "false" or not at all
 pub record IsFlag (text : Option Text) (flag : Bool) : Type 0 where

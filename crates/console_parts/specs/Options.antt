@@ -22,7 +22,12 @@ threads_rule = record (new_rule (codes "threads")) { long = Some (codes "threads
 
 -- how many of the last events are printed, a u32
 abbrev pub last_rule : Rule
-last_rule = record (new_rule (codes "last")) { long = Some (codes "last"); value_names = 1; defaults = codes "0" ∷ []; parser = Some (Signed (pos 0) (pos (2 ^ 32 - 1))) }
+last_rule = record (new_rule (codes "last")) {
+  long = Some (codes "last");
+  value_names = 1;
+  defaults = codes "0" ∷ [];
+  parser = Some (Signed (pos 0) (pos (2 ^ 32 - 1)));
+}
 
 -- all events are printed
 abbrev pub timeline_rule : Rule

@@ -41,7 +41,8 @@ abbrev pub numbered_text : List ℕ → ℕ → List ℕ → List ℕ
 numbered_text word number name = word ++ codes " " ++ decimal number ++ codes " " ++ name
 
 abbrev pub stat_text : StatOf → List ℕ
-stat_text s = decimal s.device ++ codes " " ++ decimal s.inode ++ codes " " ++ decimal (type_number s.kind) ++ codes " " ++ decimal s.nlink ++ codes " " ++ decimal s.size
+stat_text s = decimal s.device ++ codes " " ++ decimal s.inode ++ codes " " ++ decimal (type_number s.kind) ++ codes " " ++ decimal s.nlink
+    ++ codes " " ++ decimal s.size
 
 abbrev pub answer_text : Call → Answer → List ℕ
 answer_text c (Fd fd) = codes "fd " ++ decimal fd
@@ -60,4 +61,5 @@ reply_line hart name r = told_line hart name (answer_text r.call r.answer)
 
 -- of an image that was examined and is well formed
 abbrev pub shape_line : Shape → List ℕ
-shape_line s = codes "clean live " ++ decimal s.live ++ codes " orphans " ++ decimal s.orphans ++ codes " blocks " ++ decimal s.blocks ++ codes "\n"
+shape_line s =
+    codes "clean live " ++ decimal s.live ++ codes " orphans " ++ decimal s.orphans ++ codes " blocks " ++ decimal s.blocks ++ codes "\n"

@@ -136,7 +136,8 @@ fn write_inode<W: Write>(out: &mut W, device: u32, inode: u16) -> io::Result<()>
 }
 
 fn write_state<W: Write>(out: &mut W, kind: u8, nlink: u16, size: u64) -> io::Result<()>
-    ensures { OnOk result (Appends (W.contents out.old) (W.contents out.new) (codes " " ++ decimal kind ++ codes " " ++ decimal nlink ++ codes " " ++ decimal size)) }
+    ensures { OnOk result (Appends (W.contents out.old) (W.contents out.new)
+        (codes " " ++ decimal kind ++ codes " " ++ decimal nlink ++ codes " " ++ decimal size)) }
 {
     write!(out, " {kind} {nlink} {size}")
 }

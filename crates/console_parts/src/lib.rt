@@ -1,4 +1,5 @@
-//! What the console needs besides a file system: its command line, how it runs, the lines of replies and of a history's entries, the last of
+//! What the console needs besides a file system: its command line, how it runs, the lines of replies and of a history's entries, the last
+//! of
 //! many events.
 #![tactic(auto)]
 

@@ -43,13 +43,15 @@ fn write_inode<W: Write>(
     device: u32,
     inode: u16,
 ) -> io::Result<()>
-    ensures { OnOk result (Appends (W.contents out.old) (W.contents out.new) (decimal hart ++ codes " " ++ name.now ++ codes " " ++ decimal device ++ codes " " ++ decimal inode)) }
+    ensures { OnOk result (Appends (W.contents out.old) (W.contents out.new)
+        (decimal hart ++ codes " " ++ name.now ++ codes " " ++ decimal device ++ codes " " ++ decimal inode)) }
 {
     write!(out, "{hart} {name} {device} {inode}")
 }
 
 fn write_state<W: Write>(out: &mut W, kind: u8, nlink: u16, size: u64) -> io::Result<()>
-    ensures { OnOk result (Appends (W.contents out.old) (W.contents out.new) (codes " " ++ decimal kind ++ codes " " ++ decimal nlink ++ codes " " ++ decimal size ++ codes "\n")) }
+    ensures { OnOk result (Appends (W.contents out.old) (W.contents out.new)
+        (codes " " ++ decimal kind ++ codes " " ++ decimal nlink ++ codes " " ++ decimal size ++ codes "\n")) }
 {
     writeln!(out, " {kind} {nlink} {size}")
 }
@@ -63,7 +65,8 @@ pub fn write_numbered<W: Write>(
     number: u8,
     why: &str,
 ) -> io::Result<()>
-    ensures { OnOk result (Appends (W.contents out.old) (W.contents out.new) (told_line hart name.now (numbered_text fate.now number why.now))) }
+    ensures { OnOk result (Appends (W.contents out.old) (W.contents out.new)
+        (told_line hart name.now (numbered_text fate.now number why.now))) }
 {
     writeln!(out, "{hart} {name} {fate} {number} {why}")
 }

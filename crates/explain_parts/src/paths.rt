@@ -38,7 +38,8 @@ fn first(bytes: &[u8], count: usize) -> &[u8]
 
 /// The first element of a path, and the path after it.
 pub(crate) fn next_element(path: &[u8]) -> Option<(&[u8], &[u8])>
-    ensures { MatchOption result (elements path.now ≡ []) (λ r. (elements path.now ≡ r.0.now ∷ elements r.1.now) × (length r.1.now < length path.now)) }
+    ensures { MatchOption result (elements path.now ≡ [])
+        (λ r. (elements path.now ≡ r.0.now ∷ elements r.1.now) × (length r.1.now < length path.now)) }
 {
     let mut rest = path;
     while !rest.is_empty() {

@@ -54,7 +54,16 @@ blocks =
 
 -- the code has all of it
 abbrev pub code : Code blocks
-code = record { Shared = State; Kind = Kind; shared = λ s. s; kind = kind_of; exec = exec; may = May; honest = Honest; begin = λ h call busy s. Begins s }
+code = record {
+  Shared = State;
+  Kind = Kind;
+  shared = λ s. s;
+  kind = kind_of;
+  exec = exec;
+  may = May;
+  honest = Honest;
+  begin = λ h call busy s. Begins s;
+}
 
 -- all harts' programs over what they share
 abbrev pub Programs : Type 0

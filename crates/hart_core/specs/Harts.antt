@@ -74,7 +74,8 @@ busy_in calls h = is_some (get_or calls h None)
 abbrev pub children_in : List (Option ℕ) → ℕ → Option ℕ
 children_in children h = get_or children h None
 
--- all that harts share, whether a failure of the device has stopped them, of each hart the child that the call reserves which it began last, and each hart's call
+-- all that harts share, whether a failure of the device has stopped them, of each hart the child that the call reserves which it began
+-- last, and each hart's call
 pub record HartsOf (D : Type 0) : Type 0 where
   pub core : Core D
   pub stopped : Bool

@@ -17,7 +17,8 @@ use Rattle.orphans.specs.Freeing.{AreNamed}
 use Rattle.fs_tables.specs.Fresh.{fresh}
 use Rattle.hart_core.specs.Harts.{HartsOf}
 
--- A disk that a mount has settled: it is a well-formed image of the same tree, its log is empty, each node has a name, and the blocks of those that had none
+-- A disk that a mount has settled: it is a well-formed image of the same tree, its log is empty, each node has a name, and the blocks of
+-- those that had none
 -- are free. Where each node had a name before, each block is as recovery would leave it.
 pub record IsSettled (old new : List (List ℕ)) : Type 0 where
   pub blocks : AreNamed old → (b : ℕ) → IsOutsideLog (sizes_of old) b → block_at new b ≡ recovered old b
@@ -29,7 +30,8 @@ pub record IsSettled (old new : List (List ℕ)) : Type 0 where
   pub freed : (i : ℕ) → is_orphan old i ≡ true → All (λ b. b ≢ 0 → is_marked new b ≡ false) (numbers_by old i)
 
 module _ {D : Type 0} (contents : D → List (List ℕ)) (failures : D → ℕ) where
-  -- Over this device, which has failed at no call, eight harts are idle; nothing is cached, recorded or open, and no inode but the root, which is every hart's
+  -- Over this device, which has failed at no call, eight harts are idle; nothing is cached, recorded or open, and no inode but the root,
+  -- which is every hart's
   -- directory, is referred to.
   pub record Rests (device : D) (w : HartsOf D) : Type 0 where
     pub disk : IsSettled (contents device) (contents w.core.log.cache.device)
@@ -50,7 +52,8 @@ module _ {D : Type 0} (contents : D → List (List ℕ)) (failures : D → ℕ) 
     pub children : w.children ≡ replicate hart_count None
     pub idle : w.calls ≡ replicate hart_count None
 
-  -- The device is handed back. It has failed only where that is the answer, and is as it was but for a recovery, or the freeing of a node, that it stopped.
+  -- The device is handed back. It has failed only where that is the answer, and is as it was but for a recovery, or the freeing of a node,
+  -- that it stopped.
   pub record HandsBack (device back : D) (fault : MountFault) : Type 0 where
     pub judges : JudgesFault (contents device) fault
     pub unwritten : fault ≢ DeviceFault → contents back ≡ contents device

@@ -28,10 +28,12 @@ pub record HasNothing (h : ℕ) (s : State) : Type 0 where
 abbrev pub NoneJoined : LogPart → Type 0
 NoneJoined l = (h : ℕ) → h < hart_count → is_joined l.members h ≡ false
 
--- The blocks as they are seen are a well-formed image; and so, of the same tree, is each disk of this length on which recovery would leave them.
+-- The blocks as they are seen are a well-formed image; and so, of the same tree, is each disk of this length on which recovery would leave
+-- them.
 pub record ShowsImage (l : LogPart) : Type 0 where
   pub well : IsWellFormed (disk_of l)
-  pub recovered : (disk : List (List ℕ)) → length disk ≡ length l.contents → IsRecoveredSo l.sizes (seen_of l) disk → IsWellFormed disk × (tree_in disk ≡ tree_in (disk_of l))
+  pub recovered : (disk : List (List ℕ)) → length disk ≡ length l.contents → IsRecoveredSo l.sizes (seen_of l) disk
+      → IsWellFormed disk × (tree_in disk ≡ tree_in (disk_of l))
 
 -- another hart has the lock of an inode in its hand, or a buffer
 abbrev pub InodeIsElsewhere : ℕ → State → Type 0
@@ -52,12 +54,16 @@ module _ {D : Type 0} (contents : D → List (List ℕ)) (failures : D → ℕ) 
   -- a step of any hart waits only where it must
   abbrev pub WaitsByTheRule : Super → HartsOf D → Type 0
   WaitsByTheRule sizes w =
-      (h : ℕ) (x : Outside) (v : HartsOf D) → Answers contents failures sizes (Step h x) w → Makes contents failures sizes (Step h x) w DidWait v → MustWait h (shared_of contents failures w)
+      (h : ℕ) (x : Outside) (v : HartsOf D) → Answers contents failures sizes (Step h x) w
+      → Makes contents failures sizes (Step h x) w DidWait v → MustWait h (shared_of contents failures w)
 
   -- a hart without a call has nothing in hand; and is in no transaction, unless a failure of the device has stopped the harts
   abbrev pub IdleHartsHaveNothing : HartsOf D → Type 0
   IdleHartsHaveNothing w =
-      (h : ℕ) → get_or w.calls h None ≡ None → HasNothing h (shared_of contents failures w) × (w.stopped ≡ false → h < hart_count → is_joined (shared_of contents failures w).log.members h ≡ false)
+      (h : ℕ) → get_or w.calls h None ≡ None
+      → HasNothing h (shared_of contents failures w)
+      × (w.stopped ≡ false → h < hart_count → is_joined (shared_of contents failures w).log.members h ≡ false)
 
   abbrev pub QuietBlocksAreAnImage : HartsOf D → Type 0
-  QuietBlocksAreAnImage w = w.stopped ≡ false → NoneJoined (shared_of contents failures w).log → ShowsImage (shared_of contents failures w).log
+  QuietBlocksAreAnImage w =
+      w.stopped ≡ false → NoneJoined (shared_of contents failures w).log → ShowsImage (shared_of contents failures w).log

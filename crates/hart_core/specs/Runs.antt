@@ -78,16 +78,21 @@ module _ (sizes : Super) where
   -- what the device answers in each of these events is possible
   abbrev pub AllAnswer : List (EventOf Call Outside) → Plain (block_calls sizes) (block_code sizes) → Type 0
   AllAnswer [] p = Unit {0}
-  AllAnswer (e ∷ es) p = PlainHonest (block_calls sizes) (block_code sizes) e p × AllAnswer es (plain_makes (block_calls sizes) (block_code sizes) e p).after
+  AllAnswer (e ∷ es) p =
+      PlainHonest (block_calls sizes) (block_code sizes) e p × AllAnswer es (plain_makes (block_calls sizes) (block_code sizes) e p).after
 
 module _ {D : Type 0} (contents : D → List (List ℕ)) (failures : D → ℕ) where
-  -- A history of a run from old to new: the same events with answers of the device, each of which is possible, at which they come to these outcomes, and make
+  -- A history of a run from old to new: the same events with answers of the device, each of which is possible, at which they come to these
+  -- outcomes, and make
   -- new of old, one after the other.
-  pub record IsHistory (sizes : Super) (old : HartsOf D) (events : List Event) (outcomes : List Came) (new : HartsOf D) (history : List (EventOf Call Outside)) : Type 0 where
+  pub record IsHistory (sizes : Super) (old : HartsOf D) (events : List Event) (outcomes : List Came) (new : HartsOf D)
+      (history : List (EventOf Call Outside)) : Type 0 where
     pub asks : all_asked history ≡ events_of events
     pub answers : AllAnswer sizes history (calls_of contents failures sizes old)
-    pub comes_to : plain_outcomes (block_calls sizes) (block_code sizes) history (calls_of contents failures sizes old) ≡ outcomes_of outcomes
-    pub makes : plain_run (block_calls sizes) (block_code sizes) history (calls_of contents failures sizes old) ≡ calls_of contents failures sizes new
+    pub comes_to : plain_outcomes (block_calls sizes) (block_code sizes) history (calls_of contents failures sizes old)
+        ≡ outcomes_of outcomes
+    pub makes : plain_run (block_calls sizes) (block_code sizes) history (calls_of contents failures sizes old)
+        ≡ calls_of contents failures sizes new
 
   abbrev pub HasHistory : Super → HartsOf D → List Event → List Came → HartsOf D → Type 0
   HasHistory sizes old events outcomes new = (history : List (EventOf Call Outside)) × IsHistory sizes old events outcomes new history
@@ -100,7 +105,9 @@ module _ {D : Type 0} (contents : D → List (List ℕ)) (failures : D → ℕ) 
   -- No step of this history, of a mounted world, found no room: neither one that replied so, nor one of a call that hasn't replied yet.
   abbrev pub FoundRoom : WorldOf D → List (EventOf Call Outside) → Type 0
   FoundRoom w history =
-      (block_calls w.sizes).M.Clean (run (block_calls w.sizes) history (fresh (block_calls w.sizes) (first (contents w.harts.core.log.cache.device) (failures w.harts.core.log.cache.device)))).world
+      (block_calls w.sizes).M.Clean
+      (run (block_calls w.sizes) history
+      (fresh (block_calls w.sizes) (first (contents w.harts.core.log.cache.device) (failures w.harts.core.log.cache.device)))).world
 
 -- no call's path has the element ".."
 abbrev pub NoneClimbs : Trace → Type 0
@@ -115,9 +122,12 @@ abbrev pub IsExplained : TreeData → Trace → Type 0
 IsExplained base t = (list : List Placed) × Explains base t list
 
 module _ {D : Type 0} (contents : D → List (List ℕ)) (failures : D → ℕ) where
-  -- Where the world was mounted, and in some history of the run no step found no room, one list of tree steps explains all calls that were started, from the
+  -- Where the world was mounted, and in some history of the run no step found no room, one list of tree steps explains all calls that were
+  -- started, from the
   -- image's tree: as long as no path climbs, or where one hart has made all calls.
   abbrev pub OneHistory : WorldOf D → List Event → List Came → HartsOf D → Type 0
   OneHistory w events outcomes new =
-      (device : D) (history : List (EventOf Call Outside)) → IsMounted contents failures device w → IsHistory contents failures w.sizes w.harts events outcomes new history
-      → FoundRoom contents failures w history → NoneClimbs (trace_in events outcomes) ⊎ OneHart (trace_in events outcomes) → IsExplained (tree_in (contents device)) (trace_in events outcomes)
+      (device : D) (history : List (EventOf Call Outside)) → IsMounted contents failures device w
+      → IsHistory contents failures w.sizes w.harts events outcomes new history
+      → FoundRoom contents failures w history → NoneClimbs (trace_in events outcomes) ⊎ OneHart (trace_in events outcomes)
+      → IsExplained (tree_in (contents device)) (trace_in events outcomes)

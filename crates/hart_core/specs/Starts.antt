@@ -26,7 +26,8 @@ longest_part = 524288
 
 -- a path is too long, or else has a zero byte
 abbrev pub path_fault : List ℕ → Option StartRefused
-path_fault path = if nat_lt longest_path (length path) then Some PathTooLong else (if list_any (λ b. b == 0) path then Some ZeroInPath else None)
+path_fault path =
+    if nat_lt longest_path (length path) then Some PathTooLong else (if list_any (λ b. b == 0) path then Some ZeroInPath else None)
 
 abbrev pub part_fault : List ℕ → Option StartRefused
 part_fault bytes = if nat_lt longest_part (length bytes) then Some TooLong else None
@@ -64,18 +65,24 @@ module _ {D : Type 0} (w : HartsOf D) where
   abbrev pub is_child : ℕ → Bool
   is_child g = reserved (busy_in w.calls) (children_in w.children) g
 
-  -- why a hart can't be the child of hart h's inherit: there is no such hart; it is h, has a call, or is another one's child; it has descriptors
+  -- why a hart can't be the child of hart h's inherit: there is no such hart; it is h, has a call, or is another one's child; it has
+  -- descriptors
   abbrev pub child_refusal : ℕ → ℕ → Option StartRefused
   child_refusal h child =
-      if nat_lt child hart_count then (if (child == h) || (busy_in w.calls child || is_child child) then Some start.Busy else (if has_file child w.core.tables then Some start.NotEmptyHart else None)) else Some start.NoSuchHart
+      if nat_lt child hart_count
+      then (if (child == h) || (busy_in w.calls child || is_child child) then Some start.Busy
+      else (if has_file child w.core.tables then Some start.NotEmptyHart else None)) else Some start.NoSuchHart
 
   abbrev pub others_refusal : ℕ → Call → Option StartRefused
   others_refusal h (Inherit child) = child_refusal h child
   others_refusal h call = None
 
-  -- Why hart h's call isn't started: there is no such hart; it has a call, or is the child of another one's; the call has a fault; or last its child can't be one.
+  -- Why hart h's call isn't started: there is no such hart; it has a call, or is the child of another one's; the call has a fault; or last
+  -- its child can't be one.
   abbrev pub refusal_of : ℕ → Call → Option StartRefused
-  refusal_of h call = if nat_lt h hart_count then (if busy_in w.calls h || is_child h then Some start.Busy else or_else (fault_of call) (others_refusal h call)) else Some start.NoSuchHart
+  refusal_of h call = if nat_lt h hart_count
+      then (if busy_in w.calls h || is_child h then Some start.Busy else or_else (fault_of call) (others_refusal h call))
+      else Some start.NoSuchHart
 
 -- the same reason in the words of the calls
 abbrev pub reason_of : StartRefused → calls.Refusal

@@ -47,7 +47,8 @@ up_to (Some n) = n + 1
 abbrev pub IsMarkedBy : Option ℕ → Option ℕ → ℕ → Type 0
 IsMarkedBy cut doubt k = (k ≡ up_to cut) ⊎ ((n : ℕ) × (doubt ≡ Some n) × (k ≡ n + 1))
 
--- One list of tree steps explains the trace, from this tree. The entries of its events up to the cut, or up to the doubt, are a beginning of it; and the
+-- One list of tree steps explains the trace, from this tree. The entries of its events up to the cut, or up to the doubt, are a beginning
+-- of it; and the
 -- disk's tree is what has names in the tree to which they lead.
 pub record HoldsABeginning (base : TreeData) (t : Trace) (disk : List (List ℕ)) (cut doubt : Option ℕ) : Type 0 where
   pub list : List Placed
@@ -60,7 +61,8 @@ pub record HoldsABeginning (base : TreeData) (t : Trace) (disk : List (List ℕ)
   pub leads : Chain (tree_of base) (before k list) tree
   pub named : IsNamedPart tree (tree_of (tree_in disk))
   -- a call that replied in these events has all its entries there
-  pub returned : (id : ℕ) (c : TracedCall) (now : ℕ) (reply : Reply) → slice_get t.calls id ≡ Some c → c.finished ≡ Some (now, reply) → now < k → acts_of id (before k list) ≡ acts_of id list
+  pub returned : (id : ℕ) (c : TracedCall) (now : ℕ) (reply : Reply) → slice_get t.calls id ≡ Some c → c.finished ≡ Some (now, reply)
+      → now < k → acts_of id (before k list) ≡ acts_of id list
 
 module _ (sizes : Super) where
   abbrev pub log_of : Plain (block_calls sizes) (block_code sizes) → LogPart
@@ -72,13 +74,15 @@ module _ (sizes : Super) where
   -- the marks after these events, with n before them, by where each took the commit
   abbrev pub marks_in : ℕ → List (EventOf Call Outside) → Plain (block_calls sizes) (block_code sizes) → Marks → Marks
   marks_in n [] p m = m
-  marks_in n (e ∷ es) p m = marks_in (n + 1) es (next_of e p) (marks_told (n + 1) (log_of p).phase (at_point (log_of p)) (log_of (next_of e p)).phase m)
+  marks_in n (e ∷ es) p m =
+      marks_in (n + 1) es (next_of e p) (marks_told (n + 1) (log_of p).phase (at_point (log_of p)) (log_of (next_of e p)).phase m)
 
 module _ {D : Type 0} (contents : D → List (List ℕ)) (failures : D → ℕ) where
   -- a history of a run, and the marks that it comes to
   abbrev pub HasMarks : Super → HartsOf D → List Event → List Came → HartsOf D → Marks → Type 0
   HasMarks sizes old events outcomes new m =
-      (history : List (EventOf Call Outside)) × IsHistory contents failures sizes old events outcomes new history × (marks_in sizes 0 history (calls_of contents failures sizes old) no_marks ≡ m)
+      (history : List (EventOf Call Outside)) × IsHistory contents failures sizes old events outcomes new history
+      × (marks_in sizes 0 history (calls_of contents failures sizes old) no_marks ≡ m)
 
   -- the marks of a mounted world's events
   abbrev pub marks_of : WorldOf D → List (EventOf Call Outside) → Marks
@@ -86,18 +90,25 @@ module _ {D : Type 0} (contents : D → List (List ℕ)) (failures : D → ℕ) 
 
   -- the harts after the first k events of a history
   abbrev pub after_first : (w : WorldOf D) → ℕ → List (EventOf Call Outside) → Plain (block_calls w.sizes) (block_code w.sizes)
-  after_first w k history = plain_run (block_calls w.sizes) (block_code w.sizes) (take k history) (calls_of contents failures w.sizes w.harts)
+  after_first w k history =
+      plain_run (block_calls w.sizes) (block_code w.sizes) (take k history) (calls_of contents failures w.sizes w.harts)
 
-  -- There is a history of the run, such that, where the world was mounted, the cut and the doubt are what its events mark; nobody is in a transaction after the
-  -- events up to them; and the cut has each step that began a commit, once its hart has replied. Where no step in it found no room, and no path climbs or one
+  -- There is a history of the run, such that, where the world was mounted, the cut and the doubt are what its events mark; nobody is in a
+  -- transaction after the
+  -- events up to them; and the cut has each step that began a commit, once its hart has replied. Where no step in it found no room, and no
+  -- path climbs or one
   -- hart has made all calls, the disk holds a beginning of the one list that explains the run.
-  pub record RunLeavesABeginning (w : WorldOf D) (events : List Event) (outcomes : List Came) (new : HartsOf D) (cut doubt : Option ℕ) : Type 0 where
+  pub record RunLeavesABeginning (w : WorldOf D) (events : List Event) (outcomes : List Came) (new : HartsOf D)
+      (cut doubt : Option ℕ) : Type 0 where
     pub history : List (EventOf Call Outside)
     pub is : IsHistory contents failures w.sizes w.harts events outcomes new history
     pub cut_is : (device : D) → IsMounted contents failures device w → cut ≡ last_of (marks_of w history).cut
     pub doubt_is : (device : D) → IsMounted contents failures device w → doubt ≡ doubt_of (marks_of w history).doubt
-    pub apart : (device : D) → IsMounted contents failures device w → (k : ℕ) → IsMarkedBy cut doubt k → joined (after_first w k history).shared.state.log.members ≡ 0
-    pub stored : (device : D) → IsMounted contents failures device w → (i j h : ℕ) (reply : Reply) → slice_get events i ≡ Some (event.Step h) → (marks_of w (take (i + 1) history)).begun ≡ i + 1
+    pub apart : (device : D) → IsMounted contents failures device w → (k : ℕ) → IsMarkedBy cut doubt k
+        → joined (after_first w k history).shared.state.log.members ≡ 0
+    pub stored : (device : D) → IsMounted contents failures device w → (i j h : ℕ) (reply : Reply)
+        → slice_get events i ≡ Some (event.Step h) → (marks_of w (take (i + 1) history)).begun ≡ i + 1
         → i < j → slice_get events j ≡ Some (event.Step h) → slice_get outcomes j ≡ Some (came.Stepped (outcome.Done reply)) → i < up_to cut
-    pub holds : (device : D) → IsMounted contents failures device w → FoundRoom contents failures w history → NoneClimbs (trace_in events outcomes) ⊎ OneHart (trace_in events outcomes)
+    pub holds : (device : D) → IsMounted contents failures device w → FoundRoom contents failures w history
+        → NoneClimbs (trace_in events outcomes) ⊎ OneHart (trace_in events outcomes)
         → HoldsABeginning (tree_in (contents device)) (trace_in events outcomes) (contents new.core.log.cache.device) cut doubt

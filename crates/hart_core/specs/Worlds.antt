@@ -26,11 +26,13 @@ pub record WorldOf (D : Type 0) : Type 0 where
 module _ {D : Type 0} (contents : D → List (List ℕ)) (failures : D → ℕ) (sizes : Super) where
   -- the harts as programs of calls on a disk of these sizes
   abbrev pub calls_of : HartsOf D → Plain (block_calls sizes) (block_code sizes)
-  calls_of w = plain_at (block_calls sizes) (block_code sizes) running_of (record { state = shared_of contents failures w; children = children_in w.children }) w.stopped w.calls
+  calls_of w = plain_at (block_calls sizes) (block_code sizes) running_of
+      (record { state = shared_of contents failures w; children = children_in w.children }) w.stopped w.calls
 
   -- an event makes these harts of those, and comes to this
   abbrev pub Makes : Event Call Outside → HartsOf D → Outcome Kind Reply Refusal → HartsOf D → Type 0
-  Makes event old came new = plain_makes (block_calls sizes) (block_code sizes) event (calls_of old) ≡ record { came = came; after = calls_of new }
+  Makes event old came new =
+      plain_makes (block_calls sizes) (block_code sizes) event (calls_of old) ≡ record { came = came; after = calls_of new }
 
   -- what the device answered in it is possible
   abbrev pub Answers : Event Call Outside → HartsOf D → Type 0

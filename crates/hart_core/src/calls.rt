@@ -127,12 +127,20 @@ impl Calls {
         stopped: &mut bool,
     ) -> Told
         requires eight { hart < HARTS }
-        requires may { stopped.old ≡ false → MayOf blocks code hart (state_of D.contents D.failures core.old) (program_at running_of (get_or self.old hart None)) }
+        requires may { stopped.old ≡ false
+            → MayOf blocks code hart (state_of D.contents D.failures core.old) (program_at running_of (get_or self.old hart None)) }
         requires fits { HartFits (state_of D.contents D.failures core.old) hart (get_or self.old hart None) }
         requires none { replied.old ≡ None }
-        ensures makes { hart_step blocks code hart (said (outcome_with result replied.new) (state_of D.contents D.failures core.new)) (state_of D.contents D.failures core.old) stopped.old (program_at running_of (get_or self.old hart None))
-            ≡ record { came = outcome_of (outcome_with result replied.new); left = program_at running_of (get_or self.new hart None); shared = state_of D.contents D.failures core.new; stopped = stopped.new } }
-        ensures honest { PlainHonestStep blocks code hart (said (outcome_with result replied.new) (state_of D.contents D.failures core.new)) (state_of D.contents D.failures core.old) stopped.old (program_at running_of (get_or self.old hart None)) }
+        ensures makes { hart_step blocks code hart (said (outcome_with result replied.new) (state_of D.contents D.failures core.new))
+            (state_of D.contents D.failures core.old) stopped.old (program_at running_of (get_or self.old hart None))
+            ≡ record {
+              came = outcome_of (outcome_with result replied.new);
+              left = program_at running_of (get_or self.new hart None);
+              shared = state_of D.contents D.failures core.new;
+              stopped = stopped.new;
+            } }
+        ensures honest { PlainHonestStep blocks code hart (said (outcome_with result replied.new) (state_of D.contents D.failures core.new))
+            (state_of D.contents D.failures core.old) stopped.old (program_at running_of (get_or self.old hart None)) }
         ensures fits { HartFits (state_of D.contents D.failures core.new) hart (get_or self.new hart None) }
         ensures kept { self.new ≡ slice_set self.old hart (get_or self.new hart None) }
         ensures told { IsTold result replied.new }

@@ -45,8 +45,11 @@ pub struct Run<D: Device> {
 impl<D: Device> World<D> {
     /// One event. It takes no memory, and makes at most one call of the device.
     pub fn event(&mut self, event: Event) -> Came
-        ensures makes { Makes D.contents D.failures self.old.sizes (with_answer (event_of event) (said_of result (shared_of D.contents D.failures self.new.harts))) self.old.harts (came_of result) self.new.harts }
-        ensures honest { Answers D.contents D.failures self.old.sizes (with_answer (event_of event) (said_of result (shared_of D.contents D.failures self.new.harts))) self.old.harts }
+        ensures makes { Makes D.contents D.failures self.old.sizes
+            (with_answer (event_of event) (said_of result (shared_of D.contents D.failures self.new.harts))) self.old.harts
+            (came_of result) self.new.harts }
+        ensures honest { Answers D.contents D.failures self.old.sizes
+            (with_answer (event_of event) (said_of result (shared_of D.contents D.failures self.new.harts))) self.old.harts }
         ensures sizes { self.new.sizes ≡ self.old.sizes }
         ensures called { CallsOnce D.Called self.old.harts.core.log.cache.device self.new.harts.core.log.cache.device }
     {

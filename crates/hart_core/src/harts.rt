@@ -119,7 +119,8 @@ impl<D: Device> Harts<D> {
         requires idle { slice_get self.old.calls hart ≡ Some None }
         requires faultless { fault_of call ≡ None }
         requires sized { IsSized sizes.now }
-        ensures makes { plain_makes blocks code (StartOf hart (plain ((block_calls sizes.now).program call))) (programs_of D.contents D.failures self.old) ≡ record { came = Started; after = programs_of D.contents D.failures self.new } }
+        ensures makes { plain_makes blocks code (StartOf hart (plain ((block_calls sizes.now).program call)))
+            (programs_of D.contents D.failures self.old) ≡ record { came = Started; after = programs_of D.contents D.failures self.new } }
         ensures core { self.new.core ≡ self.old.core }
         ensures children { self.new.children ≡ slice_set self.old.children hart child }
         ensures eight { length self.old.children ≡ HARTS }
@@ -135,8 +136,13 @@ impl<D: Device> Harts<D> {
     pub fn step(&mut self, replied: &mut Option<Reply>, hart: u8) -> Told
         requires may { MayStep hart (programs_of D.contents D.failures self.old) }
         requires none { replied.old ≡ None }
-        ensures makes { plain_makes blocks code (StepOf hart (said (outcome_with result replied.new) (shared_of D.contents D.failures self.new))) (programs_of D.contents D.failures self.old) ≡ record { came = outcome_of (outcome_with result replied.new); after = programs_of D.contents D.failures self.new } }
-        ensures honest { PlainHonest blocks code (StepOf hart (said (outcome_with result replied.new) (shared_of D.contents D.failures self.new))) (programs_of D.contents D.failures self.old) }
+        ensures makes { plain_makes blocks code
+            (StepOf hart (said (outcome_with result replied.new) (shared_of D.contents D.failures self.new)))
+            (programs_of D.contents D.failures self.old)
+            ≡ record { came = outcome_of (outcome_with result replied.new); after = programs_of D.contents D.failures self.new } }
+        ensures honest { PlainHonest blocks code
+            (StepOf hart (said (outcome_with result replied.new) (shared_of D.contents D.failures self.new)))
+            (programs_of D.contents D.failures self.old) }
         ensures children { self.new.children ≡ self.old.children }
         ensures told { IsTold result replied.new }
         ensures called { CallsOnce D.Called self.old.core.log.cache.device self.new.core.log.cache.device }

@@ -28,12 +28,20 @@ pub(crate) fn step<D: Device>(
     stopped: &mut bool,
 ) -> Told
     requires eight { hart < HARTS }
-    requires may { stopped.old ≡ false → MayOf blocks code hart (state_of D.contents D.failures core.old) (program_at running_of place.old) }
+    requires may { stopped.old ≡ false
+        → MayOf blocks code hart (state_of D.contents D.failures core.old) (program_at running_of place.old) }
     requires fits { HartFits (state_of D.contents D.failures core.old) hart place.old }
     requires none { replied.old ≡ None }
-    ensures makes { hart_step blocks code hart (said (outcome_with result replied.new) (state_of D.contents D.failures core.new)) (state_of D.contents D.failures core.old) stopped.old (program_at running_of place.old)
-        ≡ record { came = outcome_of (outcome_with result replied.new); left = program_at running_of place.new; shared = state_of D.contents D.failures core.new; stopped = stopped.new } }
-    ensures honest { PlainHonestStep blocks code hart (said (outcome_with result replied.new) (state_of D.contents D.failures core.new)) (state_of D.contents D.failures core.old) stopped.old (program_at running_of place.old) }
+    ensures makes { hart_step blocks code hart (said (outcome_with result replied.new) (state_of D.contents D.failures core.new))
+        (state_of D.contents D.failures core.old) stopped.old (program_at running_of place.old)
+        ≡ record {
+          came = outcome_of (outcome_with result replied.new);
+          left = program_at running_of place.new;
+          shared = state_of D.contents D.failures core.new;
+          stopped = stopped.new;
+        } }
+    ensures honest { PlainHonestStep blocks code hart (said (outcome_with result replied.new) (state_of D.contents D.failures core.new))
+        (state_of D.contents D.failures core.old) stopped.old (program_at running_of place.old) }
     ensures fits { HartFits (state_of D.contents D.failures core.new) hart place.new }
     ensures told { IsTold result replied.new }
     ensures others { LeavesTied hart (state_of D.contents D.failures core.old) (state_of D.contents D.failures core.new) }

@@ -35,7 +35,9 @@ struct Ready {
 // Examines the image, takes the memory, recovers the disk, and frees the nodes without a name.
 #[tactic(auto, using(block_device::specs::CallLaws::by_calls))]
 fn prepare<D: Device>(alloc: Global, device: &mut D) -> Result<Ready, MountFault>
-    ensures ready { IfOk result (λ r. (r.sizes ≡ sizes_of (D.contents device.old)) × (r.buffers ≡ unused_from 0 buffer_count) × (r.tables ≡ fresh) × AreIdle r.calls) }
+    ensures ready { IfOk result
+        (λ r. (r.sizes ≡ sizes_of (D.contents device.old)) × (r.buffers ≡ unused_from 0 buffer_count) × (r.tables ≡ fresh)
+        × AreIdle r.calls) }
     ensures ok { IfOk result (λ _. IsWellFormed (D.contents device.old) × IsSettled (D.contents device.old) (D.contents device.new)) }
     ensures placed { IfOk result (λ r. IsPlaced (D.contents device.new) r.sizes) }
     ensures blocks { IfOk result (λ _. HasWholeBlocks (D.contents device.new) × HasBytes (D.contents device.new)) }
@@ -70,7 +72,8 @@ pub(crate) fn mount_harts<D: Device>(
     alloc: Global,
     device: D,
 ) -> Result<(Harts<D>, Super), (D, MountFault)>
-    ensures ok { IfOk result (λ r. IsWellFormed (D.contents device) × Rests D.contents D.failures device r.0 × (r.1 ≡ sizes_of (D.contents device))) }
+    ensures ok { IfOk result (λ r. IsWellFormed (D.contents device) × Rests D.contents D.failures device r.0
+        × (r.1 ≡ sizes_of (D.contents device))) }
     ensures err { IfErr result (λ e. HandsBack D.contents D.failures device e.0 e.1) }
     ensures calls { IfOk result (λ r. ComesByCalls D.Called device r.0.core.log.cache.device) }
     ensures back { IfErr result (λ e. ComesByCalls D.Called device e.0) }

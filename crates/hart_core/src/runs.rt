@@ -66,7 +66,8 @@ fn run_all<D: Device, O: Observer>(
 ) -> Ran<D>
     requires empty { room.items ≡ [] }
     requires room { length events.items ≤ vec_capacity room }
-    ensures history { HasMarks D.contents D.failures world.sizes world.harts events.items result.outcomes.items result.world.harts result.marks }
+    ensures history { HasMarks D.contents D.failures world.sizes world.harts events.items result.outcomes.items
+        result.world.harts result.marks }
     ensures each { length result.outcomes.items ≡ length events.items }
     ensures sizes { result.world.sizes ≡ world.sizes }
 {
@@ -111,9 +112,11 @@ pub fn run<D: Device>(
     world: World<D>,
     events: &[Event],
 ) -> Result<Run<D>, (World<D>, NoMemory)>
-    ensures history { IfOk result (λ r. HasHistory D.contents D.failures world.sizes world.harts events.now r.outcomes.items r.world.harts) }
+    ensures history { IfOk result
+        (λ r. HasHistory D.contents D.failures world.sizes world.harts events.now r.outcomes.items r.world.harts) }
     ensures explained { IfOk result (λ r. OneHistory D.contents D.failures world events.now r.outcomes.items r.world.harts) }
-    ensures stops { IfOk result (λ r. RunLeavesABeginning D.contents D.failures world events.now r.outcomes.items r.world.harts r.cut r.doubt) }
+    ensures stops { IfOk result
+        (λ r. RunLeavesABeginning D.contents D.failures world events.now r.outcomes.items r.world.harts r.cut r.doubt) }
     ensures each { IfOk result (λ r. length r.outcomes.items ≡ length events.now) }
     ensures sizes { IfOk result (λ r. r.world.sizes ≡ world.sizes) }
     ensures err { IfErr result (λ e. e.0 ≡ world) }
@@ -128,9 +131,11 @@ pub fn run_noted<D: Device, O: Observer>(
     events: &[Event],
     observer: &mut O,
 ) -> Result<Run<D>, (World<D>, NoMemory)>
-    ensures history { IfOk result (λ r. HasHistory D.contents D.failures world.sizes world.harts events.now r.outcomes.items r.world.harts) }
+    ensures history { IfOk result
+        (λ r. HasHistory D.contents D.failures world.sizes world.harts events.now r.outcomes.items r.world.harts) }
     ensures explained { IfOk result (λ r. OneHistory D.contents D.failures world events.now r.outcomes.items r.world.harts) }
-    ensures stops { IfOk result (λ r. RunLeavesABeginning D.contents D.failures world events.now r.outcomes.items r.world.harts r.cut r.doubt) }
+    ensures stops { IfOk result
+        (λ r. RunLeavesABeginning D.contents D.failures world events.now r.outcomes.items r.world.harts r.cut r.doubt) }
     ensures each { IfOk result (λ r. length r.outcomes.items ≡ length events.now) }
     ensures sizes { IfOk result (λ r. r.world.sizes ≡ world.sizes) }
     ensures err { IfErr result (λ e. e.0 ≡ world) }

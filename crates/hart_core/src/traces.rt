@@ -58,7 +58,8 @@ fn begin(
     now: u64,
 ) -> Result<(), NoMemory>
     requires { AreUnfinished unfinished.old.items calls.old.items }
-    ensures calls { OnOk result (calls.new.items ≡ calls.old.items ++ record { hart = hart; start = now; call = call.now; finished = None } ∷ []) }
+    ensures calls { OnOk result
+        (calls.new.items ≡ calls.old.items ++ record { hart = hart; start = now; call = call.now; finished = None } ∷ []) }
     ensures unfinished { OnOk result (AreUnfinished unfinished.new.items calls.new.items) }
 {
     let call = call.clone()?;
@@ -81,7 +82,8 @@ fn note_step(
     now: u64,
 ) -> Result<(), NoMemory>
     requires { AreUnfinished unfinished.old.items calls.old.items }
-    ensures calls { OnOk result (calls.new.items ≡ (noted (record { calls = calls.old.items; events = now }) (shown_outcome hart outcome.now)).calls) }
+    ensures calls { OnOk result
+        (calls.new.items ≡ (noted (record { calls = calls.old.items; events = now }) (shown_outcome hart outcome.now)).calls) }
     ensures unfinished { OnOk result (AreUnfinished unfinished.new.items calls.new.items) }
 {
     match outcome {
@@ -103,7 +105,8 @@ fn note(
     now: u64,
 ) -> Result<(), NoMemory>
     requires { AreUnfinished unfinished.old.items calls.old.items }
-    ensures calls { OnOk result (calls.new.items ≡ (noted (record { calls = calls.old.items; events = now }) (shown event.now came.now)).calls) }
+    ensures calls { OnOk result
+        (calls.new.items ≡ (noted (record { calls = calls.old.items; events = now }) (shown event.now came.now)).calls) }
     ensures unfinished { OnOk result (AreUnfinished unfinished.new.items calls.new.items) }
 {
     match event {

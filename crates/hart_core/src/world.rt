@@ -53,7 +53,8 @@ impl<D: Device> World<D> {
     /// device failed in the recovery or behind it. Each hart is idle, in the root, and has no descriptors (xv6: `fsinit` with `readsb`,
     /// `initlog` and `ireclaim`; `binit`, `iinit`, `fileinit`).
     pub fn mount(alloc: Global, device: D) -> Result<World<D>, (D, MountFault)>
-        ensures ok { IfOk result (λ w. IsWellFormed (D.contents device) × Rests D.contents D.failures device w.harts × (w.sizes ≡ sizes_of (D.contents device))) }
+        ensures ok { IfOk result (λ w. IsWellFormed (D.contents device) × Rests D.contents D.failures device w.harts
+            × (w.sizes ≡ sizes_of (D.contents device))) }
         ensures err { IfErr result (λ e. HandsBack D.contents D.failures device e.0 e.1) }
         ensures calls { IfOk result (λ w. ComesByCalls D.Called device w.harts.core.log.cache.device) }
         ensures back { IfErr result (λ e. ComesByCalls D.Called device e.0) }
@@ -122,7 +123,8 @@ impl<D: Device> World<D> {
     /// another one's, at the call's own first fault, and last where the child can't be one; nothing has changed then. A stopped
     /// world takes starts as before. No start calls the device.
     pub fn start(&mut self, hart: u8, call: Call) -> Result<(), (Call, StartRefused)>
-        ensures makes { Makes D.contents D.failures self.old.sizes (StartOf hart call) self.old.harts (start_outcome result) self.new.harts }
+        ensures makes { Makes D.contents D.failures self.old.sizes (StartOf hart call) self.old.harts
+            (start_outcome result) self.new.harts }
         ensures sizes { self.new.sizes ≡ self.old.sizes }
         ensures core { self.new.harts.core ≡ self.old.harts.core }
         ensures back { IfErr result (λ e. (e.0 ≡ call) × (self.new ≡ self.old)) }
@@ -141,8 +143,10 @@ impl<D: Device> World<D> {
     /// device's failure in this very step, or since the device has failed before. At most one call of the device is made.
     #[inline(always)]
     pub fn step(&mut self, hart: u8) -> Outcome
-        ensures makes { Makes D.contents D.failures self.old.sizes (StepOf hart (said result (shared_of D.contents D.failures self.new.harts))) self.old.harts (outcome_of result) self.new.harts }
-        ensures honest { Answers D.contents D.failures self.old.sizes (StepOf hart (said result (shared_of D.contents D.failures self.new.harts))) self.old.harts }
+        ensures makes { Makes D.contents D.failures self.old.sizes
+            (StepOf hart (said result (shared_of D.contents D.failures self.new.harts))) self.old.harts (outcome_of result) self.new.harts }
+        ensures honest { Answers D.contents D.failures self.old.sizes
+            (StepOf hart (said result (shared_of D.contents D.failures self.new.harts))) self.old.harts }
         ensures sizes { self.new.sizes ≡ self.old.sizes }
         ensures called { CallsOnce D.Called self.old.harts.core.log.cache.device self.new.harts.core.log.cache.device }
     {

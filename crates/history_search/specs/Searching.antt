@@ -60,7 +60,8 @@ pub record IsOfCall (c : TracedCall) (acts : List Act) (s : Stand) (e : Option �
   pub agrees : AgreesWith c.finished c.call acts
 
 abbrev pub AreOfCalls : List TracedCall → List Placed → List Stand → List (Option ℕ) → Type 0
-AreOfCalls calls list stands ends = (id : ℕ) (c : TracedCall) → slice_get calls id ≡ Some c → IsOfCall c (acts_of id list) (slice_index_or stands id start) (slice_index_or ends id None)
+AreOfCalls calls list stands ends = (id : ℕ) (c : TracedCall) → slice_get calls id ≡ Some c
+    → IsOfCall c (acts_of id list) (slice_index_or stands id start) (slice_index_or ends id None)
 
 -- every call that has to go on may do so after the list
 abbrev pub Precedes : List Placed → List (Option ℕ) → Type 0
@@ -84,7 +85,8 @@ IsThrough p = (id : ℕ) → slice_index_or p.ends id None ≡ None
 pub record CanEnd (trace : Trace) (t : Tree) (list : List Placed) (lo : ℕ) (rest : List Placed) : Type 0 where
   pub rises : Rises lo rest
   pub leads : Leads t rest
-  pub written : (id : ℕ) (c : TracedCall) → slice_get trace.calls id ≡ Some c → IsWritten c.call (acts_of id list ++ acts_of id rest) c.finished
+  pub written : (id : ℕ) (c : TracedCall) → slice_get trace.calls id ≡ Some c
+      → IsWritten c.call (acts_of id list ++ acts_of id rest) c.finished
   pub belongs : AllBelong trace rest
 
 -- there is none
@@ -93,15 +95,18 @@ IsHopeless t p = (lo : ℕ) (rest : List Placed) → last_event p.list.items ≤
 
 -- None begins with a step of this call.
 abbrev pub IsDead : Trace → Position → ℕ → Type 0
-IsDead t p id = (lo : ℕ) (x : Placed) (rest : List Placed) → last_event p.list.items ≤ lo → x.call ≡ id → CanEnd t (tree_of p.tree) p.list.items lo (x ∷ rest) → ⊥
+IsDead t p id = (lo : ℕ) (x : Placed) (rest : List Placed) → last_event p.list.items ≤ lo → x.call ≡ id
+    → CanEnd t (tree_of p.tree) p.list.items lo (x ∷ rest) → ⊥
 
 -- None begins with a step of this call that takes this number for the node it makes; for 0: none with any step of it.
 abbrev pub IsDeadWith : Trace → Position → ℕ → ℕ → Type 0
-IsDeadWith t p id new = (lo : ℕ) (x : Placed) (rest : List Placed) → last_event p.list.items ≤ lo → x.call ≡ id → (new ≢ 0 → x.step.new ≡ new) → CanEnd t (tree_of p.tree) p.list.items lo (x ∷ rest) → ⊥
+IsDeadWith t p id new = (lo : ℕ) (x : Placed) (rest : List Placed) → last_event p.list.items ≤ lo → x.call ≡ id
+    → (new ≢ 0 → x.step.new ≡ new) → CanEnd t (tree_of p.tree) p.list.items lo (x ∷ rest) → ⊥
 
 -- Each that begins with a step of this call takes a number for a node that it makes.
 abbrev pub NeedsNumber : Trace → Position → ℕ → Type 0
-NeedsNumber t p id = (lo : ℕ) (x : Placed) (rest : List Placed) → last_event p.list.items ≤ lo → x.call ≡ id → CanEnd t (tree_of p.tree) p.list.items lo (x ∷ rest) → (1 ≤ x.step.new) × (x.step.new < (tree_of p.tree).ninodes)
+NeedsNumber t p id = (lo : ℕ) (x : Placed) (rest : List Placed) → last_event p.list.items ≤ lo → x.call ≡ id
+    → CanEnd t (tree_of p.tree) p.list.items lo (x ∷ rest) → (1 ≤ x.step.new) × (x.step.new < (tree_of p.tree).ninodes)
 
 -- the same list and the same tree
 pub record IsSame (p q : Position) : Type 0 where

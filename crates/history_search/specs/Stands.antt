@@ -35,7 +35,8 @@ abbrev pub start : Stand
 start = record { count = 0; done = false; failed = false; file = None; cause = None }
 
 abbrev pub after : Stand → StepAnswer → Stand
-after s a = record { count = s.count + 1; done = was_done a; failed = was_failed a; file = opened_file a; cause = first_of s.cause (cause_of a) }
+after s a =
+    record { count = s.count + 1; done = was_done a; failed = was_failed a; file = opened_file a; cause = first_of s.cause (cause_of a) }
 
 unfoldable pub stand_from : Stand → List Act → Stand
 stand_from s [] = s
@@ -54,7 +55,8 @@ abbrev pub open_from : List ℕ → ℕ → Stand → Option Action
 open_from path flags s = if s.count == 0 then Some (OpenStep path flags) else if s.count == 1 then truncate_from flags s.file else None
 
 abbrev pub write_from : ℕ → List ℕ → Stand → Option Action
-write_from fd bytes s = if s.failed then None else if nat_lt s.count (piece_count bytes) then Some (WritePartStep fd (piece bytes s.count)) else None
+write_from fd bytes s =
+    if s.failed then None else if nat_lt s.count (piece_count bytes) then Some (WritePartStep fd (piece bytes s.count)) else None
 
 abbrev pub link_from : List ℕ → List ℕ → Stand → Option Action
 link_from old new s =

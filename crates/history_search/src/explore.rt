@@ -181,7 +181,8 @@ impl Position {
 
 // From nothing on, every step is tried in turn.
 fn search(alloc: Global, base: &Tree, trace: &Trace, hints: &[Hint]) -> Attempt<Option<Vec<Placed>>>
-    ensures { IfOk result (λ o. MatchOption o ((list : List Placed) → Explains base.now trace.now list → ⊥) (λ v. Explains base.now trace.now v.items)) }
+    ensures { IfOk result (λ o. MatchOption o ((list : List Placed) → Explains base.now trace.now list → ⊥)
+        (λ v. Explains base.now trace.now v.items)) }
 {
     let mut position = Position::begin(alloc, base, trace)?;
     if position.explore(alloc, base, trace, hints, 0)? {
@@ -204,7 +205,8 @@ pub fn find_history(
     trace: &Trace,
     hints: &[Hint],
 ) -> Result<Option<Vec<Placed>>, NoMemory>
-    ensures { IfOk result (λ o. MatchOption o ((list : List Placed) → Explains base.now trace.now list → ⊥) (λ v. Explains base.now trace.now v.items)) }
+    ensures { IfOk result (λ o. MatchOption o ((list : List Placed) → Explains base.now trace.now list → ⊥)
+        (λ v. Explains base.now trace.now v.items)) }
 {
     let mut position = Position::begin(alloc, base, trace)?;
     position.follow(alloc, base, trace, hints)?;

@@ -7,7 +7,8 @@ const BLOCK_LEN: usize = 1024;
 // Each image has so many blocks.
 const BLOCKS: usize = 64;
 
-// Where what is looked at most stands, and how many bytes it has: the superblock, the log's head, inodes, the bitmap and a directory at home
+// Where what is looked at most stands, and how many bytes it has: the superblock, the log's head, inodes, the bitmap and a directory at
+// home
 // and in the log, the root and the indirect block.
 const LOOKED_AT: [(usize, usize); 10] = [
     (1024, 32),
