@@ -6,6 +6,7 @@ use Rattle.plain_tree.specs.declared.answer.Answer.TheVariants as answers
 use Rattle.plain_tree.specs.declared.answer.Full.TheVariants.{Descriptors}
 use Rattle.plain_tree.specs.Steps.{creates}
 use Rattle.plain_tree.specs.Tree.{elements}
+use Rattle.plain_tree.specs.Widths.{piece_len}
 use Rattle.atomic_programs.specs.Prog.{Do, unmarked}
 use Rattle.inode_machine.specs.Descriptors.{dup_on, close_on, stat_on, stat_reply, read_on, read_reply}
 use Rattle.inode_machine.specs.Inodes.{Face}
@@ -15,10 +16,11 @@ use Rattle.inode_machine.specs.Programs.{program}
 use Rattle.inode_machine.specs.World.{LockResult, NotLocked, LocksIt}
 use Rattle.inode_machine.specs.World.Op.{Leave}
 use Rattle.calls_on_blocks.specs.Theory.{is_served}
-use Rattle.run_laws.proofs.Fits.{AllFit}
+use Rattle.run_laws.proofs.Fits.{AllFit, AllFitUpTo}
 use Rattle.run_laws.proofs.InheritFits.{inherit_fits}
 use Rattle.run_laws.proofs.LinkFits.{link_fits}
 use Rattle.run_laws.proofs.MakeFits.{create_fits, mkdir_fits}
+use Rattle.run_laws.proofs.Names.{elements_short}
 use Rattle.run_laws.proofs.PathFits.{drop_fits, say_fits, chdir_fits, open_fits}
 use Rattle.run_laws.proofs.Telling.{dup_tells, read_tells}
 use Rattle.run_laws.proofs.UnlinkFits.{unlink_fits}
@@ -42,7 +44,12 @@ read_fits : (fd : ℕ) (buffer : List ℕ) (a : LockResult) → AllFit (read_on 
 read_fits fd buffer (NotLocked why) = tt
 read_fits fd buffer (LocksIt n offset) = (tt, λ _. refl, λ b. say_fits (read_reply fd buffer b))
 
-pub call_fits : (call : Call) → is_served call ≡ true → AllFit (program call)
+-- how much a call writes at once: a piece
+abbrev pub most_written : Call → ℕ
+most_written (calls.Write fd bytes) = piece_len
+most_written call = 0
+
+pub call_fits : (call : Call) → is_served call ≡ true → AllFitUpTo (most_written call) (program call)
 call_fits (calls.Dup fd) e = (tt, dup_tells fd, λ a. dup_fits fd a)
 call_fits (calls.Fstat fd) e = (tt, λ _. refl, λ a. stat_fits fd a)
 call_fits (calls.Close fd) e = (tt, λ _. refl, λ a. close_fits fd a)
@@ -50,7 +57,7 @@ call_fits (calls.Read fd buffer) e = (tt, read_tells fd (length buffer), λ a. r
 call_fits (calls.Open path flags) e = by (creates flags)
   where
     by : (b : Bool) → AllFit (if b then open_new path flags (elements path) else open_old path flags)
-    by true = create_fits path flags (elements path)
+    by true = create_fits path flags (elements path) (elements_short path)
     by false = open_fits path flags
 call_fits (calls.Write fd bytes) e = write_fits fd bytes e
 call_fits (calls.Link old new) e = link_fits old new

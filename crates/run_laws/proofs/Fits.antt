@@ -1,21 +1,27 @@
--- What is asked of whole inodes fits: a new one is a file or a directory, and what is written is bytes, and some. And a mark says that there was no room just
--- where the answer says so.
-use Rattle.std.proofs.Common.{◌≡◌, ◌<◌, length}
+-- What is asked of whole inodes fits: a new one is a file or a directory, a name fits into an entry, and what is written is bytes, and some, and not too many.
+-- And a mark says that there was no room just where the answer says so.
+use Rattle.std.proofs.Common.{◌≡◌, ◌<◌, ◌≤◌, ℕ, length}
 use Rattle.fs_layout.specs.Bytes.{IsBytes}
 use Rattle.atomic_programs.specs.Prog.{Ret, Do}
 use Rattle.inode_machine.specs.Parts.{P}
 use Rattle.inode_machine.specs.World.{Op, Answer}
-use Rattle.inode_machine.specs.World.Op.{Claim, WriteFile}
+use Rattle.inode_machine.specs.World.Op.{Claim, Enter, WriteFile}
 use Rattle.inodes_on_blocks.specs.Making.{IsMade}
 use Rattle.run_laws.specs.Rooms.{says_no_room}
 use Rattle.run_laws.proofs.Telling.{spoils}
 
-abbrev pub Fits : Op → Type 0
-Fits (Claim sort) = IsMade sort
-Fits (WriteFile fd n offset bytes) = (0 < length bytes) × IsBytes bytes
-Fits op = Unit {0}
+-- no more than so many bytes are written at once
+abbrev pub Fits : ℕ → Op → Type 0
+Fits most (Claim sort) = IsMade sort
+Fits most (Enter d e n) = length e ≤ 14
+Fits most (WriteFile fd n offset bytes) = (0 < length bytes) × IsBytes bytes × (length bytes ≤ most)
+Fits most op = Unit {0}
 
 -- each operation that the program makes, whatever the ones before it answer
+abbrev pub AllFitUpTo : ℕ → {A : Type 0} → P A → Type 0
+AllFitUpTo most (Ret a) = Unit {0}
+AllFitUpTo most (Do op m k) = Fits most op × ((a : Answer op) → spoils (m a) ≡ says_no_room op a) × ((a : Answer op) → AllFitUpTo most (k a))
+
+-- .. of one that writes nothing
 abbrev pub AllFit : {A : Type 0} → P A → Type 0
-AllFit (Ret a) = Unit {0}
-AllFit (Do op m k) = Fits op × ((a : Answer op) → spoils (m a) ≡ says_no_room op a) × ((a : Answer op) → AllFit (k a))
+AllFit p = AllFitUpTo 0 p

@@ -2,6 +2,7 @@ pub mod IdleCounts
 pub mod IdleRuns
 pub mod Idle
 pub mod Telling
+pub mod Names
 pub mod Fits
 pub mod PathFits
 pub mod MakeFits

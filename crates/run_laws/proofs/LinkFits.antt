@@ -13,6 +13,7 @@ use Rattle.inode_machine.specs.Parts.{is_there, failed, full, done, drop, give_u
 use Rattle.inode_machine.specs.World as above
 use Rattle.run_laws.proofs.PathFits.{drop_fits, give_up_fits, tail_fits, refused_fits, path_fits, parent_fits}
 use Rattle.run_laws.proofs.Fits.{AllFit}
+use Rattle.run_laws.proofs.Names.{AllShort, Short14, elements_short}
 use Rattle.run_laws.proofs.Telling.{bump_tells, link_tells, where_tells}
 
 module _ (old new : List ℕ) where
@@ -34,28 +35,28 @@ module _ (old new : List ℕ) where
   named_fits n d ns above.NoBlock = lost_fits n d (full (calls.Link old new) Blocks) ns
   named_fits n d ns above.NoSlot = lost_fits n d (full (calls.Link old new) Directory) ns
 
-  found_fits : (n d : ℕ) (e : Name) (ns : List ℕ) (o : Option ℕ) → AllFit (link_found old new n d e ns o)
-  found_fits n d e ns (Some m) = lost_fits n d (failed (calls.Link old new) Exists) ns
-  found_fits n d e ns None = (tt, link_tells, λ a. named_fits n d ns a)
+  found_fits : (n d : ℕ) (e : Name) (ns : List ℕ) → Short14 e → (o : Option ℕ) → AllFit (link_found old new n d e ns o)
+  found_fits n d e ns short (Some m) = lost_fits n d (failed (calls.Link old new) Exists) ns
+  found_fits n d e ns short None = (short, link_tells, λ a. named_fits n d ns a)
 
-  in_fits : (n d : ℕ) (e : Name) (ns : List ℕ) → AllFit (link_in old new n d e ns)
-  in_fits n d e ns = (tt, where_tells (actions.Enter new) is_there, λ a. by a.found (is_live_face a.face))
+  in_fits : (n d : ℕ) (e : Name) (ns : List ℕ) → Short14 e → AllFit (link_in old new n d e ns)
+  in_fits n d e ns short = (tt, where_tells (actions.Enter new) is_there, λ a. by a.found (is_live_face a.face))
     where
       by : (o : Option ℕ) (b : Bool) → AllFit (if b then link_found old new n d e ns o else give_up d (lower old new n (failed (calls.Link old new) NoEntry) ns))
-      by o true = found_fits n d e ns o
+      by o true = found_fits n d e ns short o
       by o false = lost_fits n d (failed (calls.Link old new) NoEntry) ns
 
-  name_fits : (n : ℕ) (ns : List ℕ) (es : List Name) → AllFit (link_name old new n ns es)
-  name_fits n ns [] = (tt, λ _. refl, λ _. lower_fits n (failed (calls.Link old new) NoEntry) ns)
-  name_fits n ns (e ∷ es) = (
+  name_fits : (n : ℕ) (ns : List ℕ) (es : List Name) → AllShort es → AllFit (link_name old new n ns es)
+  name_fits n ns [] short = (tt, λ _. refl, λ _. lower_fits n (failed (calls.Link old new) NoEntry) ns)
+  name_fits n ns (e ∷ es) short = (
     tt,
     λ _. refl,
-    λ _. parent_fits (actions.Enter new) (link_in old new n) (λ why ms. lower old new n (stopped (calls.Link old new) why) ms) (in_fits n) (λ why ms. lower_fits n (stopped (calls.Link old new) why) ms) new ns e es,
+    λ _. parent_fits (actions.Enter new) (link_in old new n) (λ why ms. lower old new n (stopped (calls.Link old new) why) ms) (in_fits n) (λ why ms. lower_fits n (stopped (calls.Link old new) why) ms) new ns e es short,
   )
 
   raise_fits : (n : ℕ) (ns : List ℕ) (f : Face) (o : Option Cause) → AllFit (link_raise old new n ns f o)
   raise_fits n ns f (Some c) = refused_fits n ns (failed (calls.Link old new) c)
-  raise_fits n ns f None = (tt, λ _. refl, λ _. name_fits n ns (elements new))
+  raise_fits n ns f None = (tt, λ _. refl, λ _. name_fits n ns (elements new) (elements_short new))
 
   at_fits : (n : ℕ) (ns : List ℕ) → AllFit (link_at old new n ns)
   at_fits n ns = (tt, λ a. bump_tells (face_or a.face), λ a. by (face_or a.face) (is_directory_sort (face_or a.face).sort))

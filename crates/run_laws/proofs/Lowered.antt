@@ -28,7 +28,7 @@ use Rattle.calls_on_blocks.specs.Theory.{begins, child_of, serves}
 use Rattle.calls_on_blocks.proofs.Lawful.{served_is}
 use Rattle.calls_on_blocks.proofs.Starting.{begun_here, below_count, joined_same, lower_laws, starts_both}
 use Rattle.run_laws.specs.WholeInodes.{inode_calls, lowered_inode_calls, operations, whole_inodes}
-use Rattle.run_laws.proofs.CallFits.{call_fits}
+use Rattle.run_laws.proofs.CallFits.{call_fits, most_written}
 use Rattle.run_laws.proofs.Operations.{all_within}
 use Rattle.run_laws.proofs.Whole.{whole_lawful, whole_laws}
 
@@ -59,7 +59,7 @@ all_lift sizes h call can B Q lasts n es w from todo base inv =
     let b = begun_here h call can.0 (shared_of can.1) t can.2 can.3 in
     let lt = below_count h b.hart in
     lift_within whole_inodes (layer sizes) (handlers sizes) whole_laws h (recorded_blocks operations) (λ r s. HasSpent sizes h s r.blocks) (program call)
-    (all_within sizes h lt (has_inodes sizes w.real.blocks w.seen from.shows.0 base.1) (program call) (call_fits call (served_is call b.serves_it))) unspent
+    (all_within sizes h lt (has_inodes sizes w.real.blocks w.seen from.shows.0 base.1) (most_written call) (program call) (call_fits call (served_is call b.serves_it))) unspent
     (affords operations (program call) unspent (transactions_are_small call)) nothing B Q lasts n es w (none_yet sizes h call w lt base.1 from) todo base inv
 
 pub lowered_lawful : (sizes : Super) → Lawful (lowered_inode_calls sizes)

@@ -17,6 +17,7 @@ use Rattle.inode_machine.specs.World.Mark.{Orphans}
 use Rattle.inode_machine.specs.World.Op.{Enter, Forget, Install}
 use Rattle.run_laws.proofs.PathFits.{give_up_fits, tail_fits, refused_fits, end_fits, open_at_fits, parent_fits}
 use Rattle.run_laws.proofs.Fits.{AllFit}
+use Rattle.run_laws.proofs.Names.{AllShort, Short14, elements_short}
 use Rattle.run_laws.proofs.Telling.{entry_tells, install_tells, mends_tell, new_tells, truncate_tells, where_tells}
 
 -- a new inode gets no name
@@ -50,35 +51,35 @@ module _ (path : List ℕ) (flags : ℕ) where
   named_fits n sort d ns above.NoBlock = unmake_fits n d ns (full (calls.Open path flags) Blocks)
   named_fits n sort d ns above.NoSlot = unmake_fits n d ns (full (calls.Open path flags) Directory)
 
-  file_fits : (d : ℕ) (e : Name) (ns : List ℕ) (n : ℕ) → AllFit (make_other path flags d e ns n)
-  file_fits d e ns n = (tt, λ _. refl, λ a. (tt, λ _. refl, λ _. (tt, entry_tells n, λ r. named_fits n (face_or a.face).sort d ns r)))
+  file_fits : (d : ℕ) (e : Name) (ns : List ℕ) (n : ℕ) → Short14 e → AllFit (make_other path flags d e ns n)
+  file_fits d e ns n short = (tt, λ _. refl, λ a. (tt, λ _. refl, λ _. (short, entry_tells n, λ r. named_fits n (face_or a.face).sort d ns r)))
 
-  file_with_fits : (d : ℕ) (e : Name) (ns : List ℕ) (a : above.ClaimResult) → AllFit (make_with path flags d e ns a)
-  file_with_fits d e ns above.NoInode = refused_fits d ns (full (calls.Open path flags) DiskInodes)
-  file_with_fits d e ns above.NoPlace = refused_fits d ns (full (calls.Open path flags) MemInodes)
-  file_with_fits d e ns (above.New n) = other_or n d ns (full (calls.Open path flags) MemInodes) (make_other path flags d e ns n) (file_fits d e ns n)
+  file_with_fits : (d : ℕ) (e : Name) (ns : List ℕ) → Short14 e → (a : above.ClaimResult) → AllFit (make_with path flags d e ns a)
+  file_with_fits d e ns short above.NoInode = refused_fits d ns (full (calls.Open path flags) DiskInodes)
+  file_with_fits d e ns short above.NoPlace = refused_fits d ns (full (calls.Open path flags) MemInodes)
+  file_with_fits d e ns short (above.New n) = other_or n d ns (full (calls.Open path flags) MemInodes) (make_other path flags d e ns n) (file_fits d e ns n short)
 
-  create_found_fits : (d : ℕ) (e : Name) (ns : List ℕ) (o : Option ℕ) → AllFit (create_found path flags d e ns o)
-  create_found_fits d e ns None = (tt, new_tells, λ a. file_with_fits d e ns a)
-  create_found_fits d e ns (Some n) = (tt, mends_tell, λ there. by there)
+  create_found_fits : (d : ℕ) (e : Name) (ns : List ℕ) → Short14 e → (o : Option ℕ) → AllFit (create_found path flags d e ns o)
+  create_found_fits d e ns short None = (tt, new_tells, λ a. file_with_fits d e ns short a)
+  create_found_fits d e ns short (Some n) = (tt, mends_tell, λ there. by there)
     where
       by : (there : Bool) → AllFit (if there then give_up d (open_at path flags n ns) else give_up d (tail ns (full (calls.Open path flags) MemInodes)))
       by true = give_up_fits d (open_at path flags n ns) (open_at_fits path flags n ns)
       by false = refused_fits d ns (full (calls.Open path flags) MemInodes)
 
-  create_in_fits : (d : ℕ) (e : Name) (ns : List ℕ) → AllFit (create_in path flags d e ns)
-  create_in_fits d e ns = (tt, where_tells (actions.Open path flags) is_there, λ a. by a.found (is_live_face a.face))
+  create_in_fits : (d : ℕ) (e : Name) (ns : List ℕ) → Short14 e → AllFit (create_in path flags d e ns)
+  create_in_fits d e ns short = (tt, where_tells (actions.Open path flags) is_there, λ a. by a.found (is_live_face a.face))
     where
       by : (o : Option ℕ) (b : Bool) → AllFit (if b then create_found path flags d e ns o else give_up d (tail ns (failed (calls.Open path flags) NoEntry)))
-      by o true = create_found_fits d e ns o
+      by o true = create_found_fits d e ns short o
       by o false = refused_fits d ns (failed (calls.Open path flags) NoEntry)
 
-  pub create_fits : (es : List Name) → AllFit (open_new path flags es)
-  create_fits [] = (tt, λ _. refl, λ _. tail_fits [] (failed (calls.Open path flags) NoEntry))
-  create_fits (e ∷ es) = (
+  pub create_fits : (es : List Name) → AllShort es → AllFit (open_new path flags es)
+  create_fits [] short = (tt, λ _. refl, λ _. tail_fits [] (failed (calls.Open path flags) NoEntry))
+  create_fits (e ∷ es) short = (
     tt,
     λ _. refl,
-    λ _. parent_fits (actions.Open path flags) (create_in path flags) (λ why ns. tail ns (stopped (calls.Open path flags) why)) create_in_fits (λ why ns. tail_fits ns (stopped (calls.Open path flags) why)) path [] e es,
+    λ _. parent_fits (actions.Open path flags) (create_in path flags) (λ why ns. tail ns (stopped (calls.Open path flags) why)) create_in_fits (λ why ns. tail_fits ns (stopped (calls.Open path flags) why)) path [] e es short,
   )
 
 -- ---- mkdir
@@ -93,36 +94,36 @@ module _ (path : List ℕ) where
   raised_fits d f n ns above.NoBlock = unmake_fits n d ns (full (calls.Mkdir path) Blocks)
   raised_fits d f n ns above.NoSlot = unmake_fits n d ns (full (calls.Mkdir path) Directory)
 
-  directory_fits : (d : ℕ) (e : Name) (ns : List ℕ) (f : Face) (n : ℕ) → AllFit (mkdir_other path d e ns f n)
-  directory_fits d e ns f n = (tt, λ _. refl, λ _. (tt, λ _. refl, λ _. (tt, mends_tell, λ there. by there)))
+  directory_fits : (d : ℕ) (e : Name) (ns : List ℕ) (f : Face) (n : ℕ) → Short14 e → AllFit (mkdir_other path d e ns f n)
+  directory_fits d e ns f n short = (tt, λ _. refl, λ _. (tt, λ _. refl, λ _. (tt, mends_tell, λ there. by there)))
     where
       by : (there : Bool) → AllFit (if there then Do (Enter d e n) (entered_file n) (name_directory path d f n ns) else unmake n d ns (full (calls.Mkdir path) Blocks))
-      by true = (tt, entry_tells n, λ r. raised_fits d f n ns r)
+      by true = (short, entry_tells n, λ r. raised_fits d f n ns r)
       by false = unmake_fits n d ns (full (calls.Mkdir path) Blocks)
 
-  directory_with_fits : (d : ℕ) (e : Name) (ns : List ℕ) (f : Face) (a : above.ClaimResult) → AllFit (mkdir_with path d e ns f a)
-  directory_with_fits d e ns f above.NoInode = refused_fits d ns (full (calls.Mkdir path) DiskInodes)
-  directory_with_fits d e ns f above.NoPlace = refused_fits d ns (full (calls.Mkdir path) MemInodes)
-  directory_with_fits d e ns f (above.New n) = other_or n d ns (full (calls.Mkdir path) MemInodes) (mkdir_other path d e ns f n) (directory_fits d e ns f n)
+  directory_with_fits : (d : ℕ) (e : Name) (ns : List ℕ) (f : Face) → Short14 e → (a : above.ClaimResult) → AllFit (mkdir_with path d e ns f a)
+  directory_with_fits d e ns f short above.NoInode = refused_fits d ns (full (calls.Mkdir path) DiskInodes)
+  directory_with_fits d e ns f short above.NoPlace = refused_fits d ns (full (calls.Mkdir path) MemInodes)
+  directory_with_fits d e ns f short (above.New n) = other_or n d ns (full (calls.Mkdir path) MemInodes) (mkdir_other path d e ns f n) (directory_fits d e ns f n short)
 
-  on_fits : (d : ℕ) (e : Name) (ns : List ℕ) (f : Face) (o : Option Cause) → AllFit (mkdir_on path d e ns f o)
-  on_fits d e ns f (Some c) = refused_fits d ns (failed (calls.Mkdir path) c)
-  on_fits d e ns f None = (tt, new_tells, λ a. directory_with_fits d e ns f a)
+  on_fits : (d : ℕ) (e : Name) (ns : List ℕ) (f : Face) → Short14 e → (o : Option Cause) → AllFit (mkdir_on path d e ns f o)
+  on_fits d e ns f short (Some c) = refused_fits d ns (failed (calls.Mkdir path) c)
+  on_fits d e ns f short None = (tt, new_tells, λ a. directory_with_fits d e ns f short a)
 
-  mkdir_in_fits : (d : ℕ) (e : Name) (ns : List ℕ) → AllFit (mkdir_in path d e ns)
-  mkdir_in_fits d e ns = (tt, where_tells (actions.Mkdir path) (λ a. is_refused (mkdir_refused a.found (face_or a.face))), λ a. by (face_or a.face) (mkdir_refused a.found (face_or a.face)) (is_live_face a.face))
+  mkdir_in_fits : (d : ℕ) (e : Name) (ns : List ℕ) → Short14 e → AllFit (mkdir_in path d e ns)
+  mkdir_in_fits d e ns short = (tt, where_tells (actions.Mkdir path) (λ a. is_refused (mkdir_refused a.found (face_or a.face))), λ a. by (face_or a.face) (mkdir_refused a.found (face_or a.face)) (is_live_face a.face))
     where
       by : (f : Face) (o : Option Cause) (b : Bool) → AllFit (if b then mkdir_on path d e ns f o else give_up d (tail ns (failed (calls.Mkdir path) NoEntry)))
-      by f o true = on_fits d e ns f o
+      by f o true = on_fits d e ns f short o
       by f o false = refused_fits d ns (failed (calls.Mkdir path) NoEntry)
 
-  parent_in : (es : List Name) → AllFit (in_parent (calls.Mkdir path) (actions.Mkdir path) path (mkdir_in path) es)
-  parent_in [] = (tt, λ _. refl, λ _. tail_fits [] (failed (calls.Mkdir path) NoEntry))
-  parent_in (e ∷ es) = (
+  parent_in : (es : List Name) → AllShort es → AllFit (in_parent (calls.Mkdir path) (actions.Mkdir path) path (mkdir_in path) es)
+  parent_in [] short = (tt, λ _. refl, λ _. tail_fits [] (failed (calls.Mkdir path) NoEntry))
+  parent_in (e ∷ es) short = (
     tt,
     λ _. refl,
-    λ _. parent_fits (actions.Mkdir path) (mkdir_in path) (λ why ns. tail ns (stopped (calls.Mkdir path) why)) mkdir_in_fits (λ why ns. tail_fits ns (stopped (calls.Mkdir path) why)) path [] e es,
+    λ _. parent_fits (actions.Mkdir path) (mkdir_in path) (λ why ns. tail ns (stopped (calls.Mkdir path) why)) mkdir_in_fits (λ why ns. tail_fits ns (stopped (calls.Mkdir path) why)) path [] e es short,
   )
 
   pub mkdir_fits : AllFit (mkdir_program path)
-  mkdir_fits = parent_in (elements path)
+  mkdir_fits = parent_in (elements path) (elements_short path)

@@ -35,7 +35,7 @@ use Rattle.inodes_on_blocks.specs.Programs.{handlers}
 use Rattle.calls_on_blocks.specs.Layer.{layer}
 use Rattle.run_laws.specs.WholeInodes.{operations, whole_inodes}
 use Rattle.run_laws.proofs.Beside.{within_beside}
-use Rattle.run_laws.proofs.Fits.{AllFit, Fits}
+use Rattle.run_laws.proofs.Fits.{AllFitUpTo, Fits}
 use Rattle.run_laws.proofs.Whole.{keeps_whole, whole_laws}
 
 -- ---- the operations
@@ -57,41 +57,41 @@ module _ (sizes : Super) (h : ℕ) where
     spend = programs_spend sizes
 
     module _ (inodes : HasInodes sizes) where
-      within : (op : above.Op) (m : above.Answer op → Option above.Mark) → Fits op → Within op m
-      within (Take n looking) m fits = acting (Take n looking) m (spend.take n looking) (take_acts operations whole_laws keeps_whole h lt sizes n looking m)
-      within (Give n) m fits = acting (Give n) m (spend.give n) (give_acts operations whole_laws keeps_whole h lt n m sizes)
-      within (UpStart absolute) m fits = acting (UpStart absolute) m (spend.up_start absolute) (up_start_acts operations whole_laws keeps_whole h lt absolute m sizes)
-      within (Up n) m fits = acting (Up n) m (spend.up n) (up_acts operations whole_laws keeps_whole h lt n m sizes)
-      within (WalkDown n) m fits = acting (WalkDown n) m (spend.walk_down n) (walk_down_acts operations whole_laws keeps_whole h lt n m sizes)
-      within (Down n) m fits = acting (Down n) m (spend.down n) (down_acts operations whole_laws keeps_whole h lt n m sizes)
-      within (Free n) m fits = recorded (Free n) m (free_within sizes operations whole_laws keeps_whole h lt n m)
-      within (Forget n) m fits = acting (Forget n) m (spend.forget n) (forget_acts operations whole_laws keeps_whole h lt n m sizes)
-      within (Claim sort) m fits = recorded (Claim sort) m (claim_within sizes operations whole_laws keeps_whole h lt sort fits inodes m)
-      within (Store n count) m fits = recorded (Store n count) m (store_within sizes operations whole_laws keeps_whole h lt n count m)
-      within (Fill n d) m fits = recorded (Fill n d) m (fill_within sizes operations whole_laws keeps_whole h lt n d m)
-      within (Enter d e n) m fits = recorded (Enter d e n) m (enter_within sizes operations whole_laws keeps_whole h lt d e n m)
-      within (Clear n e) m fits = recorded (Clear n e) m (clear_within sizes operations whole_laws keeps_whole h lt n e m)
-      within (Empty n) m fits = recorded (Empty n) m (empty_within sizes operations whole_laws keeps_whole h lt n m)
-      within Slot m fits = acting Slot m spend.slot (slot_acts operations whole_laws keeps_whole h lt m sizes)
-      within (Install f sort) m fits = acting (Install f sort) m (spend.install f sort) (install_acts operations whole_laws keeps_whole h lt f sort m sizes)
-      within (StatFile fd) m fits = acting (StatFile fd) m (spend.stat_file fd) (stat_acts operations whole_laws keeps_whole h lt sizes fd m)
-      within (LockFile fd) m fits = acting (LockFile fd) m (spend.lock_file fd) (file_acts operations whole_laws keeps_whole h lt sizes fd m)
-      within (ReadFile fd n offset count) m fits = acting (ReadFile fd n offset count) m (spend.read_file fd n offset count) (read_acts operations whole_laws keeps_whole h lt sizes fd n offset count m)
-      within (CheckFile fd) m fits = acting (CheckFile fd) m (spend.check_file fd) (check_acts operations whole_laws keeps_whole h lt fd m sizes)
-      within (JoinFile fd) m fits = acting (JoinFile fd) m (spend.join_file fd) (join_file_acts operations whole_laws keeps_whole h lt fd m sizes)
-      within (LockOpen fd n) m fits = acting (LockOpen fd n) m (spend.lock_open fd n) (open_acts operations whole_laws keeps_whole h lt sizes fd n m)
-      within (WriteFile fd n offset bytes) m fits = recorded (WriteFile fd n offset bytes) m (write_within sizes operations whole_laws keeps_whole h lt fd n offset bytes fits.0 fits.1 m)
-      within (Double fd) m fits = acting (Double fd) m (spend.double fd) (double_acts operations whole_laws keeps_whole h lt fd m sizes)
-      within (Shut fd) m fits = acting (Shut fd) m (spend.close fd) (close_acts operations whole_laws keeps_whole h lt fd m sizes)
-      within (Settle n) m fits = acting (Settle n) m (spend.settle n) (settle_acts operations whole_laws keeps_whole h lt n m sizes)
-      within (Lend child from) m fits = acting (Lend child from) m (spend.lend child from) (lend_acts operations whole_laws keeps_whole h lt child from m sizes)
-      within (LendDirectory child) m fits = acting (LendDirectory child) m (spend.lend_directory child) (lend_directory_acts operations whole_laws keeps_whole h lt child m sizes)
-      within (Release child) m fits = acting (Release child) m (spend.release child) (release_acts operations whole_laws keeps_whole h lt child m sizes)
-      within Join m fits = acting Join m spend.join (join_acts operations whole_laws keeps_whole h lt m sizes)
-      within Leave m fits = acting Leave m spend.leave (leave_acts operations whole_laws keeps_whole h lt m sizes)
-      within Say m fits = acting Say m spend.say (say_acts operations whole_laws keeps_whole h lt m sizes)
+      within : (most : ℕ) (op : above.Op) (m : above.Answer op → Option above.Mark) → Fits most op → Within op m
+      within most (Take n looking) m fits = acting (Take n looking) m (spend.take n looking) (take_acts operations whole_laws keeps_whole h lt sizes n looking m)
+      within most (Give n) m fits = acting (Give n) m (spend.give n) (give_acts operations whole_laws keeps_whole h lt n m sizes)
+      within most (UpStart absolute) m fits = acting (UpStart absolute) m (spend.up_start absolute) (up_start_acts operations whole_laws keeps_whole h lt absolute m sizes)
+      within most (Up n) m fits = acting (Up n) m (spend.up n) (up_acts operations whole_laws keeps_whole h lt n m sizes)
+      within most (WalkDown n) m fits = acting (WalkDown n) m (spend.walk_down n) (walk_down_acts operations whole_laws keeps_whole h lt n m sizes)
+      within most (Down n) m fits = acting (Down n) m (spend.down n) (down_acts operations whole_laws keeps_whole h lt n m sizes)
+      within most (Free n) m fits = recorded (Free n) m (free_within sizes operations whole_laws keeps_whole h lt n m)
+      within most (Forget n) m fits = acting (Forget n) m (spend.forget n) (forget_acts operations whole_laws keeps_whole h lt n m sizes)
+      within most (Claim sort) m fits = recorded (Claim sort) m (claim_within sizes operations whole_laws keeps_whole h lt sort fits inodes m)
+      within most (Store n count) m fits = recorded (Store n count) m (store_within sizes operations whole_laws keeps_whole h lt n count m)
+      within most (Fill n d) m fits = recorded (Fill n d) m (fill_within sizes operations whole_laws keeps_whole h lt n d m)
+      within most (Enter d e n) m fits = recorded (Enter d e n) m (enter_within sizes operations whole_laws keeps_whole h lt d e n m)
+      within most (Clear n e) m fits = recorded (Clear n e) m (clear_within sizes operations whole_laws keeps_whole h lt n e m)
+      within most (Empty n) m fits = recorded (Empty n) m (empty_within sizes operations whole_laws keeps_whole h lt n m)
+      within most Slot m fits = acting Slot m spend.slot (slot_acts operations whole_laws keeps_whole h lt m sizes)
+      within most (Install f sort) m fits = acting (Install f sort) m (spend.install f sort) (install_acts operations whole_laws keeps_whole h lt f sort m sizes)
+      within most (StatFile fd) m fits = acting (StatFile fd) m (spend.stat_file fd) (stat_acts operations whole_laws keeps_whole h lt sizes fd m)
+      within most (LockFile fd) m fits = acting (LockFile fd) m (spend.lock_file fd) (file_acts operations whole_laws keeps_whole h lt sizes fd m)
+      within most (ReadFile fd n offset count) m fits = acting (ReadFile fd n offset count) m (spend.read_file fd n offset count) (read_acts operations whole_laws keeps_whole h lt sizes fd n offset count m)
+      within most (CheckFile fd) m fits = acting (CheckFile fd) m (spend.check_file fd) (check_acts operations whole_laws keeps_whole h lt fd m sizes)
+      within most (JoinFile fd) m fits = acting (JoinFile fd) m (spend.join_file fd) (join_file_acts operations whole_laws keeps_whole h lt fd m sizes)
+      within most (LockOpen fd n) m fits = acting (LockOpen fd n) m (spend.lock_open fd n) (open_acts operations whole_laws keeps_whole h lt sizes fd n m)
+      within most (WriteFile fd n offset bytes) m fits = recorded (WriteFile fd n offset bytes) m (write_within sizes operations whole_laws keeps_whole h lt fd n offset bytes fits.0 fits.1 m)
+      within most (Double fd) m fits = acting (Double fd) m (spend.double fd) (double_acts operations whole_laws keeps_whole h lt fd m sizes)
+      within most (Shut fd) m fits = acting (Shut fd) m (spend.close fd) (close_acts operations whole_laws keeps_whole h lt fd m sizes)
+      within most (Settle n) m fits = acting (Settle n) m (spend.settle n) (settle_acts operations whole_laws keeps_whole h lt n m sizes)
+      within most (Lend child from) m fits = acting (Lend child from) m (spend.lend child from) (lend_acts operations whole_laws keeps_whole h lt child from m sizes)
+      within most (LendDirectory child) m fits = acting (LendDirectory child) m (spend.lend_directory child) (lend_directory_acts operations whole_laws keeps_whole h lt child m sizes)
+      within most (Release child) m fits = acting (Release child) m (spend.release child) (release_acts operations whole_laws keeps_whole h lt child m sizes)
+      within most Join m fits = acting Join m spend.join (join_acts operations whole_laws keeps_whole h lt m sizes)
+      within most Leave m fits = acting Leave m spend.leave (leave_acts operations whole_laws keeps_whole h lt m sizes)
+      within most Say m fits = acting Say m spend.say (say_acts operations whole_laws keeps_whole h lt m sizes)
 
       -- so do all of a program
-      pub all_within : {A : Type 0} (p : P A) → AllFit p → Uses whole_inodes Within p
-      all_within (Ret a) fits = tt
-      all_within (Do op m k) fits = (within op m fits.0, λ a. all_within (k a) (fits.2 a))
+      pub all_within : (most : ℕ) {A : Type 0} (p : P A) → AllFitUpTo most p → Uses whole_inodes Within p
+      all_within most (Ret a) fits = tt
+      all_within most (Do op m k) fits = (within most op m fits.0, λ a. all_within most (k a) (fits.2 a))

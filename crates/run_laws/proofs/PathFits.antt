@@ -16,6 +16,7 @@ use Rattle.inode_machine.specs.Parts.{P, Stop, NotThere, NoMemory, with_last, ow
 use Rattle.inode_machine.specs.World.Op.{Empty, Free, Give, Forget, Install, Settle}
 use Rattle.inode_machine.specs.World.Mark.{Frees}
 use Rattle.run_laws.proofs.Fits.{AllFit}
+use Rattle.run_laws.proofs.Names.{AllShort, Short14}
 use Rattle.run_laws.proofs.Telling.{install_tells, looks_tell, mends_tell, quits_tell, starts_tell}
 
 -- ---- what calls are made of
@@ -87,20 +88,20 @@ module _ (s : Action) (found : ℕ → List ℕ → P Reply) (lost : Stop → Li
   pub path_fits : (path ns : List ℕ) → AllFit (start s path ns (λ d. walk s d (elements path) ns found lost) lost)
   path_fits path ns = start_fits lost lost_fits s path ns (λ d. walk s d (elements path) ns found lost) (λ d. walk_fits (elements path) d ns)
 
-module _ (s : Action) (found : ℕ → Name → List ℕ → P Reply) (lost : Stop → List ℕ → P Reply) (found_fits : (n : ℕ) (e : Name) (ns : List ℕ) → AllFit (found n e ns)) (lost_fits : (why : Stop) (ns : List ℕ) → AllFit (lost why ns)) where
-  see_fits : (e : Name) (d : ℕ) (ns : List ℕ) → AllFit (see_parent s d ns (found d e) lost)
-  see_fits e d ns = (tt, λ a. quits_tell s (is_directory_face a.face), λ a. by (is_directory_face a.face))
+module _ (s : Action) (found : ℕ → Name → List ℕ → P Reply) (lost : Stop → List ℕ → P Reply) (found_fits : (n : ℕ) (e : Name) (ns : List ℕ) → Short14 e → AllFit (found n e ns)) (lost_fits : (why : Stop) (ns : List ℕ) → AllFit (lost why ns)) where
+  see_fits : (e : Name) → Short14 e → (d : ℕ) (ns : List ℕ) → AllFit (see_parent s d ns (found d e) lost)
+  see_fits e short d ns = (tt, λ a. quits_tell s (is_directory_face a.face), λ a. by (is_directory_face a.face))
     where
       by : (b : Bool) → AllFit (if b then Do (Give d) unmarked (λ _. found d e ns) else leave_directory d ns (lost NotThere))
-      by true = (tt, λ _. refl, λ _. found_fits d e ns)
+      by true = (tt, λ _. refl, λ _. found_fits d e ns short)
       by false = leave_fits d ns (lost NotThere) (lost_fits NotThere)
 
-  parent_walk_fits : (e : Name) (es : List Name) (d : ℕ) (ns : List ℕ) → AllFit (walk_parent s d e es ns found lost)
-  parent_walk_fits e [] d ns = see_fits e d ns
-  parent_walk_fits e (e' ∷ es) d ns = (tt, looks_tell s, λ a. step_fits lost lost_fits d ns (λ j ms. walk_parent s j e' es ms found lost) (parent_walk_fits e' es) a.found)
+  parent_walk_fits : (e : Name) (es : List Name) → AllShort (e ∷ es) → (d : ℕ) (ns : List ℕ) → AllFit (walk_parent s d e es ns found lost)
+  parent_walk_fits e [] short d ns = see_fits e short.0 d ns
+  parent_walk_fits e (e' ∷ es) short d ns = (tt, looks_tell s, λ a. step_fits lost lost_fits d ns (λ j ms. walk_parent s j e' es ms found lost) (parent_walk_fits e' es short.1) a.found)
 
-  pub parent_fits : (path ns : List ℕ) (e : Name) (es : List Name) → AllFit (start s path ns (λ d. walk_parent s d e es ns found lost) lost)
-  parent_fits path ns e es = start_fits lost lost_fits s path ns (λ d. walk_parent s d e es ns found lost) (λ d. parent_walk_fits e es d ns)
+  pub parent_fits : (path ns : List ℕ) (e : Name) (es : List Name) → AllShort (e ∷ es) → AllFit (start s path ns (λ d. walk_parent s d e es ns found lost) lost)
+  parent_fits path ns e es short = start_fits lost lost_fits s path ns (λ d. walk_parent s d e es ns found lost) (λ d. parent_walk_fits e es short d ns)
 
 -- ---- chdir
 

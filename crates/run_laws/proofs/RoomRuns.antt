@@ -34,8 +34,8 @@ use Rattle.hart_core.specs.Worlds.{WorldOf}
 use Rattle.run_laws.specs.Laws.{IsRunFrom, RefinesWholeInodes, operations_made, operations_of}
 use Rattle.run_laws.specs.Rooms.{RoomIsToldByAnswers, finds_no_room, says_no_room}
 use Rattle.run_laws.specs.WholeInodes.{IsRunOf, IsStep, Operation, lowered_inode_calls, told_by, unreserved}
-use Rattle.run_laws.proofs.CallFits.{call_fits}
-use Rattle.run_laws.proofs.Fits.{AllFit}
+use Rattle.run_laws.proofs.CallFits.{call_fits, most_written}
+use Rattle.run_laws.proofs.Fits.{AllFitUpTo}
 use Rattle.run_laws.proofs.Running.{Goes, goes_on, kept_of}
 use Rattle.run_laws.proofs.Telling.{spoils}
 use Rattle.run_laws.proofs.Worlds.{worlds_refine}
@@ -81,12 +81,12 @@ step_clean t u h e s same =
 
 -- ---- marks tell what answers do
 
-in_run : {A : Type 0} (p : P machine A) (es : List Operation) (r : A) (x : Operation) → AllFit p → IsRunOf p es r → In x es → spoils x.mark ≡ says_no_room x.op x.answer
-in_run (Ret a) [] r x f g i = absurd i
-in_run (Ret a) (e ∷ es) r x f g i = absurd g
-in_run (Do op m k) [] r x f g i = absurd i
-in_run (Do op m k) (e ∷ es) r x f g (inl q) = subst (λ (z : Operation). spoils z.mark ≡ says_no_room z.op z.answer) (sym (q ∙ g.2)) (f.1 g.0)
-in_run (Do op m k) (e ∷ es) r x f g (inr i) = in_run (k g.0) es r x (f.2 g.0) g.3 i
+in_run : (most : ℕ) {A : Type 0} (p : P machine A) (es : List Operation) (r : A) (x : Operation) → AllFitUpTo most p → IsRunOf p es r → In x es → spoils x.mark ≡ says_no_room x.op x.answer
+in_run most (Ret a) [] r x f g i = absurd i
+in_run most (Ret a) (e ∷ es) r x f g i = absurd g
+in_run most (Do op m k) [] r x f g i = absurd i
+in_run most (Do op m k) (e ∷ es) r x f g (inl q) = subst (λ (z : Operation). spoils z.mark ≡ says_no_room z.op z.answer) (sym (q ∙ g.2)) (f.1 g.0)
+in_run most (Do op m k) (e ∷ es) r x f g (inr i) = in_run most (k g.0) es r x (f.2 g.0) g.3 i
 
 in_more : {A : Type 0} (x : A) (es rest : List A) → In x es → In x (es ++ rest)
 in_more x [] rest i = absurd i
@@ -170,20 +170,20 @@ module _ (sizes : Super) where
     was : IsTraced L (λ x. In x (happened L events (fresh L w))) (run L events (fresh L w))
     was = traced L w events
 
-    finished_fits : (f : FinishedCall L) → In f s.finished → AllFit (program f.call)
+    finished_fits : (f : FinishedCall L) → In f s.finished → AllFitUpTo (most_written f.call) (program f.call)
     finished_fits f i = call_fits f.call (served_is f.call (happened_served events (fresh L w) _ f.start f.hart f.call (was.started f i) refl))
 
-    running_fits : (h : ℕ) (r : Run L) → s.running h ≡ Some r → AllFit (program r.call)
+    running_fits : (h : ℕ) (r : Run L) → s.running h ≡ Some r → AllFitUpTo (most_written r.call) (program r.call)
     running_fits h r i = call_fits r.call (served_is r.call (happened_served events (fresh L w) _ r.start h r.call (was.under_way h r i) refl))
 
     tells : (e : PlacedStep L) → In e (operations_made sizes s) → spoils e.step.mark ≡ says_no_room e.step.op e.step.answer
     tells e i = at (runs.owned e i)
       where
         at : IsOfCall L s e → spoils e.step.mark ≡ says_no_room e.step.op e.step.answer
-        at (inl x) = in_run (program (x.0).call) (operations_of sizes s (x.0).start) (x.0).reply e.step (finished_fits x.0 x.1) (runs.whole x.0 x.1).runs (in_steps (x.0).start (operations_made sizes s) e i (sym x.3))
+        at (inl x) = in_run (most_written (x.0).call) (program (x.0).call) (operations_of sizes s (x.0).start) (x.0).reply e.step (finished_fits x.0 x.1) (runs.whole x.0 x.1).runs (in_steps (x.0).start (operations_made sizes s) e i (sym x.3))
         at (inr x) =
             let b = runs.begun e.hart x.0 x.1 in
-            in_run (program (x.0).call) (operations_of sizes s (x.0).start ++ b.0) b.1 e.step (running_fits e.hart x.0 x.1) b.2.runs
+            in_run (most_written (x.0).call) (program (x.0).call) (operations_of sizes s (x.0).start ++ b.0) b.1 e.step (running_fits e.hart x.0 x.1) b.2.runs
             (in_more e.step (operations_of sizes s (x.0).start) b.0 (in_steps (x.0).start (operations_made sizes s) e i (sym x.2)))
 
     run_clean : s.world.seen.clean ≡ (none_finds (operations_made sizes s) && base.clean)

@@ -13,6 +13,7 @@ use Rattle.inode_machine.specs.Parts.{P, failed, full, done, give_up, tail, stop
 use Rattle.inode_machine.specs.World.Op.{Store}
 use Rattle.run_laws.proofs.PathFits.{give_up_fits, tail_fits, refused_fits, parent_fits}
 use Rattle.run_laws.proofs.Fits.{AllFit}
+use Rattle.run_laws.proofs.Names.{AllShort, elements_short}
 use Rattle.run_laws.proofs.Telling.{if_tells, mends_tell, where_tells}
 
 module _ (path : List ℕ) where
@@ -62,13 +63,13 @@ module _ (path : List ℕ) where
       by true = (tt, where_tells (actions.Unlink path) always, λ a. refused_fits d ns (failed (calls.Unlink path) (or_missing DotName (is_live_face a.face))))
       by false = (tt, where_tells (actions.Unlink path) is_missing, λ a. found_fits d e ns (face_or a.face) a.found)
 
-  parent_in : (es : List Name) → AllFit (in_parent (calls.Unlink path) (actions.Unlink path) path (unlink_in path) es)
-  parent_in [] = (tt, λ _. refl, λ _. tail_fits [] (failed (calls.Unlink path) NoEntry))
-  parent_in (e ∷ es) = (
+  parent_in : (es : List Name) → AllShort es → AllFit (in_parent (calls.Unlink path) (actions.Unlink path) path (unlink_in path) es)
+  parent_in [] short = (tt, λ _. refl, λ _. tail_fits [] (failed (calls.Unlink path) NoEntry))
+  parent_in (e ∷ es) short = (
     tt,
     λ _. refl,
-    λ _. parent_fits (actions.Unlink path) (unlink_in path) (λ why ns. tail ns (stopped (calls.Unlink path) why)) in_fits (λ why ns. tail_fits ns (stopped (calls.Unlink path) why)) path [] e es,
+    λ _. parent_fits (actions.Unlink path) (unlink_in path) (λ why ns. tail ns (stopped (calls.Unlink path) why)) (λ d e ns short. in_fits d e ns) (λ why ns. tail_fits ns (stopped (calls.Unlink path) why)) path [] e es short,
   )
 
   pub unlink_fits : AllFit (unlink_program path)
-  unlink_fits = parent_in (elements path)
+  unlink_fits = parent_in (elements path) (elements_short path)

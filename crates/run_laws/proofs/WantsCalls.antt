@@ -45,22 +45,7 @@ use Rattle.inode_machine.specs.World.Mark.{Frees}
 use Rattle.run_laws.specs.Searches.{NameFits}
 use Rattle.run_laws.specs.Wanted.{wanted}
 use Rattle.run_laws.proofs.Running.{none_claimed, some_answer}
-
--- ---- names
-
-abbrev pub Short14 : Name → Type 0
-Short14 e = length e ≤ 14
-
-abbrev pub AllShort : List Name → Type 0
-AllShort [] = Unit {0}
-AllShort (e ∷ es) = Short14 e × AllShort es
-
-cut_short : (es : List (List ℕ)) → AllShort (map (λ e. take 14 e) es)
-cut_short [] = tt
-cut_short (e ∷ es) = (let a = length-take 14 e in omega (arith, a), cut_short es)
-
-pub elements_short : (p : List ℕ) → AllShort (elements p)
-elements_short p = cut_short (filter (λ e. not (is_empty e)) (pieces [] p))
+use Rattle.run_laws.proofs.Names.{AllShort, Short14, elements_short}
 
 -- ---- kinds of room
 

@@ -17,8 +17,7 @@ use Rattle.inode_machine.specs.Theory.{are_bytes}
 use Rattle.inode_machine.specs.World.{JoinResult, NotJoined, Joined, Wrote, Whole, Refused, Short}
 use Rattle.inode_machine.specs.World.Op.{Join}
 use Rattle.inodes_on_blocks.proofs.Records.{drop_bytes, take_bytes}
-use Rattle.run_laws.proofs.PathFits.{say_fits}
-use Rattle.run_laws.proofs.Fits.{AllFit}
+use Rattle.run_laws.proofs.Fits.{AllFitUpTo}
 use Rattle.run_laws.proofs.Telling.{join_tells, piece_tells}
 
 -- ---- the pieces
@@ -55,7 +54,17 @@ piece_some bytes i some lt =
     let d = length-drop (piece_len * i) bytes in
     omega (arith, a, t, d)
 
+-- and no more than a piece has
+pub piece_few : (bytes : List ℕ) (i : ℕ) → length (piece bytes i) ≤ 3072
+piece_few bytes i = let t = length-take piece_len (drop (piece_len * i) bytes) in omega (arith, t)
+
 -- ---- the call
+
+abbrev AllFit : {A : Type 0} → P A → Type 0
+AllFit p = AllFitUpTo 3072 p
+
+say_fits : (r : Reply) → AllFit (say r)
+say_fits r = (tt, λ _. refl, λ _. tt)
 
 module _ (fd n b : ℕ) (bs : List ℕ) (are : IsBytes (b ∷ bs)) where
   abbrev bytes : List ℕ
@@ -71,7 +80,7 @@ module _ (fd n b : ℕ) (bs : List ℕ) (are : IsBytes (b ∷ bs)) where
     tt,
     λ _. refl,
     λ at. (
-      (piece_some bytes i (omega arith) below, piece_bytes bytes i are),
+      (piece_some bytes i (omega arith) below, piece_bytes bytes i are, piece_few bytes i),
       piece_tells fd (piece bytes i),
       λ a. (tt, λ _. refl, λ _. wrote_fits more uses a),
     ),
@@ -88,6 +97,6 @@ joined_fits fd b bs are (Joined n) = from_fits fd n b bs are (piece_count (b ∷
     some : (k : ℕ) → 0 < k → 0 + (k - 1) + 1 ≡ k
     some k pos = omega (arith, pos)
 
-pub write_fits : (fd : ℕ) (bytes : List ℕ) → are_bytes bytes ≡ true → AllFit (write_program fd bytes)
+pub write_fits : (fd : ℕ) (bytes : List ℕ) → are_bytes bytes ≡ true → AllFitUpTo 3072 (write_program fd bytes)
 write_fits fd [] are = (tt, λ _. refl, λ o. tt)
 write_fits fd (b ∷ bs) are = (tt, join_tells fd (piece (b ∷ bs) 0), λ a. joined_fits fd b bs (bytes_are (b ∷ bs) are) a)

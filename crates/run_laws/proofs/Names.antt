@@ -1,0 +1,18 @@
+-- The names of a path fit into entries.
+use Rattle.std.proofs.Common.{◌≤◌, ℕ, not, List, [], ◌∷◌, length, take, map, filter, arith}
+use Rattle.std.proofs.lemmas.List.{length-take}
+use Rattle.plain_tree.specs.Tree.{Name, elements, is_empty, pieces}
+
+abbrev pub Short14 : Name → Type 0
+Short14 e = length e ≤ 14
+
+abbrev pub AllShort : List Name → Type 0
+AllShort [] = Unit {0}
+AllShort (e ∷ es) = Short14 e × AllShort es
+
+cut_short : (es : List (List ℕ)) → AllShort (map (λ e. take 14 e) es)
+cut_short [] = tt
+cut_short (e ∷ es) = (let a = length-take 14 e in omega (arith, a), cut_short es)
+
+pub elements_short : (p : List ℕ) → AllShort (elements p)
+elements_short p = cut_short (filter (λ e. not (is_empty e)) (pieces [] p))
