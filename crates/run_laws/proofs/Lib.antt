@@ -35,4 +35,10 @@ pub mod Wants
 pub mod Searches
 pub mod SearchEnds
 pub mod Seen
+pub mod Recording
+pub mod RecordingParts
+pub mod RecordingWrites
+pub mod RecordingCalls
+pub mod Members
+pub mod Transactions
 pub mod Answered

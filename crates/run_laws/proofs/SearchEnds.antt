@@ -51,10 +51,10 @@ use Rattle.run_laws.proofs.Searches.{fetched, in_back, in_front, read_back, read
 
 -- ---- names
 
-spelled : (n : ℕ) (e : Name) → length e ≤ 14 → length (spell_dirent (Used n e)) ≡ 16
+pub spelled : (n : ℕ) (e : Name) → length e ≤ 14 → length (spell_dirent (Used n e)) ≡ 16
 spelled n e fits = simp (length-append, length-u16_bytes, length-replicate) (omega (arith, fits))
 
-dots_spelled : (n d : ℕ) → length (dots n d) ≡ 32
+pub dots_spelled : (n d : ℕ) → length (dots n d) ≡ 32
 dots_spelled n d =
     length-append (spell_dirent (Used n dot)) (spell_dirent (Used d dotdot))
     ∙ (λ i. spelled n dot (omega arith) i + spelled d dotdot (omega arith) i)

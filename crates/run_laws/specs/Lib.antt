@@ -8,4 +8,5 @@ pub mod OneList
 pub mod Wants
 pub mod Searches
 pub mod Seen
+pub mod Transactions
 pub mod Answered

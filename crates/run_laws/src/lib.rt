@@ -1,5 +1,6 @@
 //! Every run of the calls on blocks is a run of the machine of whole inodes, has one list of tree steps, finds no room only where there is
-//! none, and leaves nothing behind in an idle hart. The functions do nothing: each carries a law.
+//! none, records at most ten blocks in a transaction, and leaves nothing behind in an idle hart. The functions do nothing: each carries a
+//! law.
 #![tactic(auto)]
 
 ghost use Rattle.run_laws.specs.Answered.{CallsFindNoneWhereThereIsNone};
@@ -9,6 +10,7 @@ ghost use Rattle.run_laws.specs.OneList.{RunsHaveOneList};
 ghost use Rattle.run_laws.specs.Rooms.{RoomIsToldByAnswers};
 ghost use Rattle.run_laws.specs.Searches.{ClaimsFindReferences, SearchesSeeAll};
 ghost use Rattle.run_laws.specs.Seen.{CallsLookEverywhere};
+ghost use Rattle.run_laws.specs.Transactions.{TransactionsRecordAtMostTen};
 ghost use Rattle.run_laws.specs.Wants.{NoRoomOnlyWhereThereIsNone};
 ghost use Rattle.run_laws.specs.Worlds.{WorldsRefineWholeInodes};
 
@@ -70,6 +72,15 @@ pub fn searches_see_all()
 /// the disk, and the inode had a type there, or a reference to it stood as the block's free ones were to be claimed.
 pub fn calls_look_everywhere<D: Device>(world: &World<D>)
     ensures { CallsLookEverywhere D.contents D.failures world.now }
+{
+    let _ = world;
+}
+
+/// In each run of a mounted world a hart's transaction records at most ten different blocks, from its join to its leave or to the end of
+/// the run. Those count as well that the group had already, of which the log keeps no account. The log has the hart in a transaction just
+/// where its steps have joined one and not left it, and no step records a block but in one.
+pub fn transactions_record_at_most_ten_blocks<D: Device>(world: &World<D>)
+    ensures { TransactionsRecordAtMostTen D.contents D.failures world.now }
 {
     let _ = world;
 }
