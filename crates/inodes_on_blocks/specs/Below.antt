@@ -16,8 +16,8 @@ pub record World : Type 0 where
   pub state : State
   -- for the proof
   pub owner : ℕ → ℕ  -- the inode whose a block is, 0 where it is nobody's
-  pub left : ℕ → Bool  -- a bit that is set though the block is no inode's: left over of the mounted image,
-      or of a block that a hart has taken
+  -- a bit that is set though the block is no inode's: left over of the mounted image, or of a block that a hart has taken
+  pub left : ℕ → Bool
   pub taken : ℕ → Option ℕ  -- the hart that has set a block's bit, until an inode names the block
   pub commits : Option ℕ  -- the hart that makes the commit which is under way
   pub new : ℕ → Option ℕ  -- the hart that has claimed an inode, until its record has a type
