@@ -2,6 +2,7 @@
 ghost use Rattle.std.specs.Prelude.{◌≡◌, ◌<◌, length, IfOk};
 ghost use Rattle.block_device.specs.Blocks.{faults_after};
 
+use crate::told::holds;
 use block_device::{BLOCK_LEN, Device, Fault, Fused, MemoryDisk};
 use std::alloc::{AllocError, Global};
 use std::test::Fail;
@@ -36,20 +37,17 @@ fn keeps_the_bytes_behind_the_last_block(rt: HostRuntime) -> Result<(), Fail> {
     let given = counted(rt.alloc(), 2500)?;
     let mut disk = MemoryDisk::new(given.clone()?);
     assert!(rt; 1 < disk.blocks());
-    assert_eq!(rt;
-        write_and_read(&mut disk, 1, &[7; BLOCK_LEN]),
-        Ok([7; BLOCK_LEN])
-    );
+    assert!(rt; write_and_read(&mut disk, 1, &[7; BLOCK_LEN]) == Ok([7; BLOCK_LEN]));
     let mut first = [0; BLOCK_LEN];
-    assert_eq!(rt; disk.read(0, &mut first), Ok(()));
+    assert!(rt; disk.read(0, &mut first) == Ok(()));
     for (&was, &read) in given.iter().zip(first.iter()) {
-        assert_eq!(rt; read, was);
+        assert!(rt; read == was);
     }
     let bytes = disk.into_bytes();
-    assert_eq!(rt; bytes.len(), 2500);
+    assert!(rt; bytes.len() == 2500);
     for (i, (&was, &byte)) in given.iter().zip(bytes.iter()).enumerate() {
         let want = if 1024 <= i && i < 2048 { 7 } else { was };
-        assert_eq!(rt; byte, want, "byte {i}");
+        holds(&rt, byte == want, "byte", i);
     }
     Ok(())
 }
@@ -67,13 +65,13 @@ fn passes_as_many_calls_as_the_fuse(rt: HostRuntime) -> Result<(), Fail> {
                 done = done.saturating_add(1);
             }
         }
-        assert_eq!(rt; done, good, "of fuse {k}");
-        assert_eq!(rt; disk.faults(), faults, "of fuse {k}");
+        holds(&rt, done == good, "fuse", k);
+        holds(&rt, disk.faults() == faults, "fuse", k);
         let bytes = disk.into_disk().into_bytes();
-        assert_eq!(rt; bytes.len(), 2048);
+        assert!(rt; bytes.len() == 2048);
         for (i, &byte) in bytes.iter().enumerate() {
             let want = if i < 1024 { 0 } else { last };
-            assert_eq!(rt; byte, want, "byte {i} of fuse {k}");
+            holds(&rt, byte == want, "byte", i);
         }
     }
     Ok(())

@@ -18,3 +18,5 @@ mod plain_buffers;
 mod records;
 #[cfg(test)]
 mod tables;
+#[cfg(test)]
+mod told;

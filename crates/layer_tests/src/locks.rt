@@ -45,13 +45,13 @@ fn row_of_fifty(rt: &impl Abort, alloc: Global) -> Result<Slots<Box<u64>>, Alloc
 fn a_slot_gives_and_takes_back(rt: HostRuntime) -> Result<(), Fail> {
     let mut slot: Slot<u16> = Slot::new(7, Box::new(rt.alloc(), 40)?);
     let mut guard = slot.try_take(3).expect(&rt, "a new slot is not out");
-    assert_eq!(rt; (guard.number(), guard.hart(), *guard.value()), (7, 3, 40));
+    assert!(rt; (guard.number(), guard.hart(), *guard.value()) == (7, 3, 40));
     *guard.value_mut() += 1;
-    assert_eq!(rt; guard.replace(50), 41);
+    assert!(rt; guard.replace(50) == 41);
     slot.put(guard);
 
     let guard = slot.try_take(4).expect(&rt, "it was put back");
-    assert_eq!(rt; (guard.number(), guard.hart(), *guard.value()), (7, 4, 50));
+    assert!(rt; (guard.number(), guard.hart(), *guard.value()) == (7, 4, 50));
     let ended = slot.retire();
     guard.retire(&ended);
     Ok(())
@@ -60,10 +60,10 @@ fn a_slot_gives_and_takes_back(rt: HostRuntime) -> Result<(), Fail> {
 #[test]
 fn a_row_of_fifty_ends_with_three_out(rt: HostRuntime) -> Result<(), Fail> {
     let mut row = row_of_fifty(&rt, rt.alloc())?;
-    assert_eq!(rt; row.len(), ROW as usize);
+    assert!(rt; row.len() == ROW as usize);
     for number in 0..ROW {
         let guard = row.lock(1, number).expect(&rt, "nothing is out");
-        assert_eq!(rt; **guard.value(), 100 + number as u64);
+        assert!(rt; **guard.value() == 100 + number as u64);
         row.unlock(guard);
     }
 
@@ -73,17 +73,11 @@ fn a_row_of_fifty_ends_with_three_out(rt: HostRuntime) -> Result<(), Fail> {
     if let Some(_guard) = row.lock(7, 17) {
         panic!(rt; "it is out");
     }
-    assert_eq!(rt;
-        (**first.value(), **middle.value(), **last.value()),
-        (100, 117, 149)
-    );
+    assert!(rt; (**first.value(), **middle.value(), **last.value()) == (100, 117, 149));
 
     row.unlock(middle);
     let middle = row.lock(7, 17).expect(&rt, "it was given back");
-    assert_eq!(rt;
-        (middle.number(), middle.hart(), **middle.value()),
-        (17, 7, 117)
-    );
+    assert!(rt; (middle.number(), middle.hart(), **middle.value()) == (17, 7, 117));
     let ended = row.retire();
     assert!(rt; (first.number() as usize) < ended.count());
     assert!(rt; (last.number() as usize) < ended.count());

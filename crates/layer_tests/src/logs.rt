@@ -4,6 +4,7 @@ ghost use Rattle.fs_layout.specs.Recovered.{logged};
 ghost use Rattle.group_log.specs.Soundness.{IsPlaced};
 
 use crate::images::fresh;
+use crate::told::holds;
 use arrayvec::ArrayVec;
 use block_device::{BLOCK_LEN, Device, Fault, Fused, MemoryDisk};
 use buffer_cache::{BUFFERS_OF_A_HART, Buffers, Cache, Got, HARTS};
@@ -33,7 +34,7 @@ fn disk(rt: &impl Abort, alloc: Global, sizes: &Super) -> Result<MemoryDisk, All
     let mut block = [0; BLOCK_LEN];
     write_super(&mut block, sizes);
     assert!(rt; 1 < disk.blocks());
-    assert_eq!(rt; disk.write(1, &block), Ok(()));
+    assert!(rt; disk.write(1, &block) == Ok(()));
     Ok(disk)
 }
 
@@ -177,12 +178,12 @@ fn a_commit_writes_in_order(rt: HostRuntime) -> Result<(), Fail> {
     let mut log = open(&rt, rt.alloc(), disk)?;
     let mut txn = join(&rt, &mut log, 0).expect(&rt, "there is room");
     for (b, byte) in [(48, 1), (46, 2), (48, 3)] {
-        assert_eq!(rt; change(&rt, &mut log, &mut txn, b, byte), Ok(()));
+        assert!(rt; change(&rt, &mut log, &mut txn, b, byte) == Ok(()));
     }
     assert!(rt; log.is_recorded(46) && log.is_recorded(48) && !log.is_recorded(47));
     assert!(rt; log.is_home(46) && !log.is_home(1) && !log.is_home(32) && !log.is_home(2000));
-    assert_eq!(rt; leave(&rt, &mut log, txn), Left::Commits);
-    assert_eq!(rt; commit(&rt, &mut log, 0), (6, Progress::Ended));
+    assert!(rt; leave(&rt, &mut log, txn) == Left::Commits);
+    assert!(rt; commit(&rt, &mut log, 0) == (6, Progress::Ended));
     assert!(rt; !log.is_recorded(46));
     let (_ended, _slots, disk) = log.retire();
     let Watched {
@@ -190,11 +191,16 @@ fn a_commit_writes_in_order(rt: HostRuntime) -> Result<(), Fail> {
         writes,
         named,
     } = disk;
-    assert_eq!(rt; writes.as_slice(), [3, 4, 2, 48, 46, 2].as_slice());
-    assert_eq!(rt; named.as_slice(), [2, 0].as_slice());
+    assert!(rt; writes.as_slice() == [3, 4, 2, 48, 46, 2].as_slice());
+    assert!(rt; named.as_slice() == [2, 0].as_slice());
     let bytes = disk.into_disk().into_bytes();
     for (b, byte) in [(46usize, 2), (48, 3), (3, 3), (4, 2), (2, 0)] {
-        assert_eq!(rt; bytes.get(b * BLOCK_LEN).copied(), Some(byte), "block {b}");
+        holds(
+            &rt,
+            bytes.get(b * BLOCK_LEN).copied() == Some(byte),
+            "block",
+            b,
+        );
     }
     Ok(())
 }
@@ -210,12 +216,12 @@ fn a_join_waits_for_room(rt: HostRuntime) -> Result<(), Fail> {
             Some(txn) => {
                 assert!(rt; third);
                 waits(&rt, &mut log, 3);
-                assert_eq!(rt; leave(&rt, &mut log, txn), Left::Free);
+                assert!(rt; leave(&rt, &mut log, txn) == Left::Free);
             }
             None => assert!(rt; !third),
         }
-        assert_eq!(rt; leave(&rt, &mut log, first), Left::Free);
-        assert_eq!(rt; leave(&rt, &mut log, second), Left::Free);
+        assert!(rt; leave(&rt, &mut log, first) == Left::Free);
+        assert!(rt; leave(&rt, &mut log, second) == Left::Free);
         let _ = log.retire();
     }
     Ok(())
@@ -226,18 +232,18 @@ fn a_join_counts_what_was_recorded(rt: HostRuntime) -> Result<(), Fail> {
     let mut log = open(&rt, rt.alloc(), disk(&rt, rt.alloc(), &FRESH)?)?;
     let mut first = join(&rt, &mut log, 0).expect(&rt, "there is room");
     for b in 47..57 {
-        assert_eq!(rt; change(&rt, &mut log, &mut first, b, 1), Ok(()));
+        assert!(rt; change(&rt, &mut log, &mut first, b, 1) == Ok(()));
     }
     assert!(rt; log.is_member(&first) && !log.has_room(&first));
     let mut second = join(&rt, &mut log, 1).expect(&rt, "ten are recorded, and one is in");
-    assert_eq!(rt; change(&rt, &mut log, &mut second, 57, 1), Ok(()));
-    assert_eq!(rt; leave(&rt, &mut log, first), Left::Free);
+    assert!(rt; change(&rt, &mut log, &mut second, 57, 1) == Ok(()));
+    assert!(rt; leave(&rt, &mut log, first) == Left::Free);
     waits(&rt, &mut log, 2);
-    assert_eq!(rt; leave(&rt, &mut log, second), Left::Commits);
+    assert!(rt; leave(&rt, &mut log, second) == Left::Commits);
     waits(&rt, &mut log, 2);
-    assert_eq!(rt; commit(&rt, &mut log, 1), (24, Progress::Ended));
+    assert!(rt; commit(&rt, &mut log, 1) == (24, Progress::Ended));
     let again = join(&rt, &mut log, 2).expect(&rt, "nothing is recorded");
-    assert_eq!(rt; leave(&rt, &mut log, again), Left::Free);
+    assert!(rt; leave(&rt, &mut log, again) == Left::Free);
     let _ = log.retire();
     Ok(())
 }
@@ -251,29 +257,30 @@ fn a_group_is_there_whole_or_not_at_all(rt: HostRuntime) -> Result<(), Fail> {
         let mut log = open(&rt, rt.alloc(), disk)?;
         let mut txn = join(&rt, &mut log, 7).expect(&rt, "there is room");
         for b in 48..51 {
-            assert_eq!(rt; change(&rt, &mut log, &mut txn, b, 9), Ok(()));
+            assert!(rt; change(&rt, &mut log, &mut txn, b, 9) == Ok(()));
         }
-        assert_eq!(rt; leave(&rt, &mut log, txn), Left::Commits);
+        assert!(rt; leave(&rt, &mut log, txn) == Left::Commits);
         let want = if writes < 8 {
             Progress::Failed
         } else {
             Progress::Ended
         };
         let made = if writes < 8 { writes } else { 8 };
-        assert_eq!(rt; commit(&rt, &mut log, 7), (made, want));
+        assert!(rt; commit(&rt, &mut log, 7) == (made, want));
         if writes < 8 {
             waits(&rt, &mut log, 0);
         }
         let (_ended, _slots, disk) = log.retire();
         let mut disk = disk.into_disk();
-        assert_eq!(rt; recover(&mut disk), Ok(()));
+        assert!(rt; recover(&mut disk) == Ok(()));
         let bytes = disk.into_bytes();
         let byte = if writes < 4 { 0 } else { 9 };
         for b in 48..51 {
-            assert_eq!(rt;
-                bytes.get(b * BLOCK_LEN).copied(),
-                Some(byte),
-                "block {b} after {writes} writes"
+            holds(
+                &rt,
+                bytes.get(b * BLOCK_LEN).copied() == Some(byte),
+                "after writes",
+                writes,
             );
         }
     }
@@ -301,9 +308,9 @@ fn marks_say_which_commit_stands(rt: HostRuntime) -> Result<(), Fail> {
         };
         for before in [9u8, 19] {
             let mut txn = join(&rt, &mut log, 5).expect(&rt, "there is room");
-            assert_eq!(rt; change(&rt, &mut log, &mut txn, 48, before), Ok(()));
+            assert!(rt; change(&rt, &mut log, &mut txn, 48, before) == Ok(()));
             marks = marks.after_leave(u64::from(before), leave(&rt, &mut log, txn));
-            assert_eq!(rt; marks.begun, u64::from(before) + 1);
+            assert!(rt; marks.begun == u64::from(before) + 1);
             for _ in 0..4 {
                 if log.phase() != Phase::Halted {
                     let at_point = log.is_at_point();
@@ -311,15 +318,16 @@ fn marks_say_which_commit_stands(rt: HostRuntime) -> Result<(), Fail> {
                 }
             }
         }
-        assert_eq!(rt; (marks.begun, marks.cut, marks.doubt), (20, cut, doubt));
+        assert!(rt; (marks.begun, marks.cut, marks.doubt) == (20, cut, doubt));
         let (_ended, _slots, disk) = log.retire();
         let mut disk = disk.into_disk();
-        assert_eq!(rt; recover(&mut disk), Ok(()));
+        assert!(rt; recover(&mut disk) == Ok(()));
         let byte = if writes < 2 { 9 } else { 19 };
-        assert_eq!(rt;
-            disk.into_bytes().get(48 * BLOCK_LEN).copied(),
-            Some(byte),
-            "after {writes} writes"
+        holds(
+            &rt,
+            disk.into_bytes().get(48 * BLOCK_LEN).copied() == Some(byte),
+            "after writes",
+            writes,
         );
     }
     Ok(())
@@ -332,26 +340,21 @@ fn harts_join_and_leave_for_a_hundred_commits(rt: HostRuntime) -> Result<(), Fai
         let (one, other) = (round % HARTS, (round + 1) % HARTS);
         let mut first = join(&rt, &mut log, one).expect(&rt, "there is room");
         let mut second = join(&rt, &mut log, other).expect(&rt, "there is room");
-        assert_eq!(rt;
-            change(&rt, &mut log, &mut first, 48 + (round % 5) as u32, round),
-            Ok(())
-        );
-        assert_eq!(rt; leave(&rt, &mut log, first), Left::Free);
-        assert_eq!(rt;
-            change(&rt, &mut log, &mut second, 53 + (round % 5) as u32, round),
-            Ok(())
-        );
-        assert_eq!(rt; leave(&rt, &mut log, second), Left::Commits);
-        assert_eq!(rt; commit(&rt, &mut log, other), (6, Progress::Ended));
+        assert!(rt; change(&rt, &mut log, &mut first, 48 + (round % 5) as u32, round) == Ok(()));
+        assert!(rt; leave(&rt, &mut log, first) == Left::Free);
+        assert!(rt; change(&rt, &mut log, &mut second, 53 + (round % 5) as u32, round) == Ok(()));
+        assert!(rt; leave(&rt, &mut log, second) == Left::Commits);
+        assert!(rt; commit(&rt, &mut log, other) == (6, Progress::Ended));
     }
     let (_ended, _slots, disk) = log.retire();
     let bytes = disk.into_bytes();
     for n in 0..5u8 {
         for b in [48 + n as usize, 53 + n as usize] {
-            assert_eq!(rt;
-                bytes.get(b * BLOCK_LEN).copied(),
-                Some(95 + n),
-                "block {b}"
+            holds(
+                &rt,
+                bytes.get(b * BLOCK_LEN).copied() == Some(95 + n),
+                "block",
+                b,
             );
         }
     }
@@ -362,7 +365,7 @@ fn harts_join_and_leave_for_a_hundred_commits(rt: HostRuntime) -> Result<(), Fai
 fn a_log_ends_at_any_moment(rt: HostRuntime) -> Result<(), Fail> {
     let mut log = open(&rt, rt.alloc(), disk(&rt, rt.alloc(), &FRESH)?)?;
     let mut txn = join(&rt, &mut log, 3).expect(&rt, "there is room");
-    assert_eq!(rt; change(&rt, &mut log, &mut txn, 48, 1), Ok(()));
+    assert!(rt; change(&rt, &mut log, &mut txn, 48, 1) == Ok(()));
     assert!(rt; log.held_by(3) < BUFFERS_OF_A_HART && log.is_outside(48));
     match log.get(3, 48) {
         Got::Waits => panic!(rt; "nothing is out"),
@@ -371,7 +374,7 @@ fn a_log_ends_at_any_moment(rt: HostRuntime) -> Result<(), Fail> {
             assert!(rt; (guard.number() as usize) < slots.count());
             guard.retire_in_row(&slots);
             txn.retire(&ended);
-            assert_eq!(rt; disk.into_bytes().get(48 * BLOCK_LEN).copied(), Some(0));
+            assert!(rt; disk.into_bytes().get(48 * BLOCK_LEN).copied() == Some(0));
         }
     }
     Ok(())

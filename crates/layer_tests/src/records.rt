@@ -33,7 +33,7 @@ fn superblock_of_a_fresh_disk(rt: HostRuntime) {
     };
     write_super(&mut block, &fresh);
     assert!(rt; block.starts_with(&SUPERBLOCK));
-    assert_eq!(rt; read_super(&block), Some(fresh));
+    assert!(rt; read_super(&block) == Some(fresh));
 }
 
 #[test]
@@ -50,8 +50,8 @@ fn root_inode(rt: HostRuntime) {
         addrs,
     };
     write_dinode(&mut block, 1, &root);
-    assert_eq!(rt; &block[64..80], ROOT.as_slice());
-    assert_eq!(rt; read_dinode(&block, 1), root);
+    assert!(rt; &block[64..80] == ROOT.as_slice());
+    assert!(rt; read_dinode(&block, 1) == root);
 }
 
 #[test]
@@ -63,9 +63,9 @@ fn inode_37_at_byte_320_with_extreme_counts(rt: HostRuntime) {
         inode.nlink = nlink;
         inode.addrs[12] = 0x0102_0304;
         write_dinode(&mut block, place, &inode);
-        assert_eq!(rt; &block[326..328], bytes.as_slice());
-        assert_eq!(rt; &block[380..384], [4, 3, 2, 1].as_slice());
-        assert_eq!(rt; read_dinode(&block, place).nlink, nlink);
+        assert!(rt; &block[326..328] == bytes.as_slice());
+        assert!(rt; &block[380..384] == [4, 3, 2, 1].as_slice());
+        assert!(rt; read_dinode(&block, place).nlink == nlink);
     }
 }
 
@@ -87,18 +87,9 @@ fn entry_bytes(number: u16, name: &[u8]) -> Option<[u8; 16]> {
 
 #[test]
 fn names_of_1_13_and_14_bytes(rt: HostRuntime) {
-    assert_eq!(rt;
-        entry_bytes(1, b"."),
-        Some(*b"\x01\0.\0\0\0\0\0\0\0\0\0\0\0\0\0")
-    );
-    assert_eq!(rt;
-        entry_bytes(258, b"thirteenbytes"),
-        Some(*b"\x02\x01thirteenbytes\0")
-    );
-    assert_eq!(rt;
-        entry_bytes(3, b"fourteen_bytes"),
-        Some(*b"\x03\0fourteen_bytes")
-    );
+    assert!(rt; entry_bytes(1, b".") == Some(*b"\x01\0.\0\0\0\0\0\0\0\0\0\0\0\0\0"));
+    assert!(rt; entry_bytes(258, b"thirteenbytes") == Some(*b"\x02\x01thirteenbytes\0"));
+    assert!(rt; entry_bytes(3, b"fourteen_bytes") == Some(*b"\x03\0fourteen_bytes"));
     for bad in [&b""[..], b"a/b", b"a\0b", b"fifteen_bytes__"] {
         assert!(rt; Name::new(bad).is_none());
     }
@@ -108,15 +99,15 @@ fn names_of_1_13_and_14_bytes(rt: HostRuntime) {
 fn free_slot_and_no_entry(rt: HostRuntime) {
     let mut block = [0xff; BLOCK_LEN];
     write_dirent(&mut block, 1, &Dirent::Free);
-    assert_eq!(rt; &block[16..32], [0; 16].as_slice());
+    assert!(rt; &block[16..32] == [0; 16].as_slice());
     assert!(rt; matches!(read_dirent(&block, 1), Some(Dirent::Free)));
     block[31] = b'x';
     assert!(rt; read_dirent(&block, 1).is_none());
     let name: [u8; NAME_LEN] = [0xff; NAME_LEN];
     match read_dirent(&block, 0) {
         Some(Dirent::Used { number, name: read }) => {
-            assert_eq!(rt; number, 0xffff);
-            assert_eq!(rt; read.as_bytes(), name.as_slice());
+            assert!(rt; number == 0xffff);
+            assert!(rt; read.as_bytes() == name.as_slice());
         }
         _ => assert!(rt; false),
     }
@@ -129,24 +120,18 @@ fn bits_47_and_48_of_a_fresh_bitmap(rt: HostRuntime) {
     assert!(rt; bit(&block, 47));
     assert!(rt; !bit(&block, 48));
     set_bit(&mut block, 48);
-    assert_eq!(rt;
-        &block[..8],
-        [0xff, 0xff, 0xff, 0xff, 0xff, 0xff, 1, 0].as_slice()
-    );
+    assert!(rt; &block[..8] == [0xff, 0xff, 0xff, 0xff, 0xff, 0xff, 1, 0].as_slice());
     clear_bit(&mut block, 47);
-    assert_eq!(rt;
-        &block[..8],
-        [0xff, 0xff, 0xff, 0xff, 0xff, 0x7f, 1, 0].as_slice()
-    );
+    assert!(rt; &block[..8] == [0xff, 0xff, 0xff, 0xff, 0xff, 0x7f, 1, 0].as_slice());
 }
 
 #[test]
 fn log_head_of_three_blocks(rt: HostRuntime) {
     let mut block = [0; BLOCK_LEN];
     write_log_head(&mut block, &[46, 48, 33]);
-    assert_eq!(rt; &block[..16], HEAD.as_slice());
+    assert!(rt; &block[..16] == HEAD.as_slice());
     match read_log_head(&block) {
-        Some(head) => assert_eq!(rt; head.blocks.as_slice(), [46, 48, 33].as_slice()),
+        Some(head) => assert!(rt; head.blocks.as_slice() == [46, 48, 33].as_slice()),
         None => assert!(rt; false),
     }
     block[0] = 255;
@@ -159,12 +144,12 @@ fn log_head_of_three_blocks(rt: HostRuntime) {
 fn numbers_of_an_indirect_block(rt: HostRuntime) {
     let mut block = [0; BLOCK_LEN];
     write_number(&mut block, 255, 0x0102_0304);
-    assert_eq!(rt; &block[1020..], [4, 3, 2, 1].as_slice());
-    assert_eq!(rt; read_number(&block, 255), 0x0102_0304);
+    assert!(rt; &block[1020..] == [4, 3, 2, 1].as_slice());
+    assert!(rt; read_number(&block, 255) == 0x0102_0304);
     let mut numbers = read_numbers(&block);
-    assert_eq!(rt; numbers[255], 0x0102_0304);
+    assert!(rt; numbers[255] == 0x0102_0304);
     numbers[0] = 48;
     write_numbers(&mut block, &numbers);
-    assert_eq!(rt; &block[..8], [48, 0, 0, 0, 0, 0, 0, 0].as_slice());
-    assert_eq!(rt; read_number(&block, 0), 48);
+    assert!(rt; &block[..8] == [48, 0, 0, 0, 0, 0, 0, 0].as_slice());
+    assert!(rt; read_number(&block, 0) == 48);
 }

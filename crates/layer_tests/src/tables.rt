@@ -89,10 +89,10 @@ fn a_lock_waits_while_it_is_out(rt: HostRuntime) -> Result<(), Fail> {
     let guard = loaded(&tables, guard, file(3));
     tables.unlock(0, guard);
     let guard = tables.lock(1, ROOT).expect(&rt, "it was given back");
-    assert_eq!(rt; guard.hart(), 1);
+    assert!(rt; guard.hart() == 1);
     match guard.value().content {
         None => panic!(rt; "it was loaded"),
-        Some(inode) => assert_eq!(rt; inode.nlink, 3),
+        Some(inode) => assert!(rt; inode.nlink == 3),
     }
     tables.unlock(1, guard);
     match tables.lock(1, 7) {
@@ -130,14 +130,11 @@ fn fifty_inodes_are_referred_to(rt: HostRuntime) -> Result<(), Fail> {
         None => {}
         Some(_reference) => panic!(rt; "each place is referred to"),
     }
-    assert_eq!(rt; tables.references(51), 0);
+    assert!(rt; tables.references(51) == 0);
     let again = up(&rt, &mut tables, 50).expect(&rt, "it has its place");
-    assert_eq!(rt;
-        (tables.references(50), tables.references(ROOT)),
-        (2, HARTS as u32)
-    );
+    assert!(rt; (tables.references(50), tables.references(ROOT)) == (2, HARTS as u32));
     down(&rt, &mut tables, 0, again);
-    assert_eq!(rt; tables.references(50), 1);
+    assert!(rt; tables.references(50) == 1);
     held.retire(&tables.retire());
     Ok(())
 }
@@ -147,15 +144,15 @@ fn the_last_reference_to_a_dead_inode_is_told(rt: HostRuntime) -> Result<(), Fai
     let mut tables = Tables::new(rt.alloc())?;
     let reference = up(&rt, &mut tables, 9).expect(&rt, "there is a place");
     match load_and_drop(&rt, &mut tables, 4, reference, file(1)) {
-        Dropped::Counted => assert_eq!(rt; tables.references(9), 0),
+        Dropped::Counted => assert!(rt; tables.references(9) == 0),
         Dropped::Dying(_reference, _guard) => panic!(rt; "it has a name"),
     }
     let reference = up(&rt, &mut tables, 9).expect(&rt, "there is a place");
     match load_and_drop(&rt, &mut tables, 4, reference, file(0)) {
         Dropped::Counted => panic!(rt; "it has no name"),
         Dropped::Dying(reference, guard) => {
-            assert_eq!(rt; (reference.number(), guard.hart()), (9, 4));
-            assert_eq!(rt; tables.references(9), 1);
+            assert!(rt; (reference.number(), guard.hart()) == (9, 4));
+            assert!(rt; tables.references(9) == 1);
             let ended = tables.retire();
             assert!(rt; (guard.number() as usize) < ended.count());
             guard.retire_in_row(&ended);
@@ -172,7 +169,7 @@ fn a_hart_opens_sixteen_files(rt: HostRuntime) -> Result<(), Fail> {
         let reference = up(&rt, &mut tables, 2).expect(&rt, "there is a place");
         assert!(rt; tables.take_place(3));
         match tables.open(3, reference, READABLE) {
-            Ok(given) => assert_eq!(rt; given, fd),
+            Ok(given) => assert!(rt; given == fd),
             Err(_reference) => panic!(rt; "a descriptor is free"),
         }
     }
@@ -193,7 +190,7 @@ fn a_hart_opens_sixteen_files(rt: HostRuntime) -> Result<(), Fail> {
         Shut::Closed => panic!(rt; "it alone named the file"),
     }
     match tables.double(3, 9) {
-        Doubled::Gave(fd) => assert_eq!(rt; fd, 5),
+        Doubled::Gave(fd) => assert!(rt; fd == 5),
         Doubled::BadDescriptor => panic!(rt; "it is open"),
         Doubled::Full => panic!(rt; "one is free"),
     }
@@ -202,12 +199,9 @@ fn a_hart_opens_sixteen_files(rt: HostRuntime) -> Result<(), Fail> {
         Shut::BadDescriptor => panic!(rt; "it is open"),
         Shut::Last(_reference) => panic!(rt; "another names the file"),
     }
-    assert_eq!(rt;
-        tables.check(3, Want::Stat, 9),
-        Some(Refused::BadDescriptor)
-    );
-    assert_eq!(rt; tables.check(3, Want::Write, 5), Some(Refused::BadMode));
-    assert_eq!(rt; tables.check(3, Want::Read, 5), None);
+    assert!(rt; tables.check(3, Want::Stat, 9) == Some(Refused::BadDescriptor));
+    assert!(rt; tables.check(3, Want::Write, 5) == Some(Refused::BadMode));
+    assert!(rt; tables.check(3, Want::Read, 5) == None);
     let _ = tables.retire();
     Ok(())
 }
@@ -242,7 +236,7 @@ fn a_child_is_given_what_its_parent_has(rt: HostRuntime) -> Result<(), Fail> {
     }
     for (from, fd, more) in [(0, 0, true), (1, 2, false)] {
         match give(&rt, &mut tables, 0, 7, from) {
-            Given::Descriptor(given, has_more) => assert_eq!(rt; (given, has_more), (fd, more)),
+            Given::Descriptor(given, has_more) => assert!(rt; (given, has_more) == (fd, more)),
             Given::Directory(_reference) => panic!(rt; "there are more descriptors"),
         }
     }
@@ -250,13 +244,10 @@ fn a_child_is_given_what_its_parent_has(rt: HostRuntime) -> Result<(), Fail> {
         Given::Descriptor(_, _) => panic!(rt; "there are no more descriptors"),
         Given::Directory(old) => old,
     };
-    assert_eq!(rt; (old.number(), tables.references(ROOT)), (ROOT, 9));
+    assert!(rt; (old.number(), tables.references(ROOT)) == (ROOT, 9));
     down(&rt, &mut tables, 0, old);
-    assert_eq!(rt; tables.check(7, Want::Read, 2), None);
-    assert_eq!(rt;
-        tables.check(7, Want::Read, 1),
-        Some(Refused::BadDescriptor)
-    );
+    assert!(rt; tables.check(7, Want::Read, 2) == None);
+    assert!(rt; tables.check(7, Want::Read, 1) == Some(Refused::BadDescriptor));
     let _ = tables.retire();
     Ok(())
 }
