@@ -1,14 +1,11 @@
-//! Tests of the console that no stored script can be: a device, a script or answers that fail, images that no maker makes, the bytes of an
-//! image, and short memory. What scripts print is shown by examples/rows/. They stand here, above the crate that they run, and beside the
-//! tests of images, so that the gate proves both at once.
+//! Tests of the console that no stored script can be: a device, a script or answers that fail, the bytes of an image, and
+//! short memory. What scripts print is shown by examples/rows/. They stand here, above the crate that they run.
 #![tactic(auto)]
 
 #[cfg(test)]
 mod commits;
 #[cfg(test)]
 mod faults;
-#[cfg(test)]
-mod images;
 #[cfg(test)]
 mod parts;
 #[cfg(test)]

@@ -1,8 +1,9 @@
 //! What the examination of images answers that are made by hand.
-use crate::by_hand::{Change, FRESH, RICH, SMALL, fresh, put, with};
+use crate::by_hand::{Change, FRESH, RICH, SMALL, fresh, with};
+use crate::told::holds;
 use block_device::{Device, Fused, MemoryDisk};
 use image_tree::{MountFault, Shape};
-use plain_tree::{Kind, Slot, Tree};
+use plain_tree::{Kind, Node, Slot, Tree};
 use std::alloc::{AllocError, Global};
 use std::test::Fail;
 
@@ -30,167 +31,61 @@ fn answer(outcome: &Result<Shape, MountFault>) -> u8 {
     }
 }
 
-#[test]
-fn fresh_images_are_well_formed(rt: HostRuntime) -> Result<(), Fail> {
-    let mut disk = fresh(rt.alloc(), &[])?;
-    let shape = Shape {
-        size: 2000,
-        ninodes: 200,
-        live: 1,
-        orphans: 0,
-        blocks: 1,
-    };
-    assert_eq!(rt; examine(rt.alloc(), &mut disk), Ok(shape));
-    let mut disk = MemoryDisk::new(with(rt.alloc(), 40, &SMALL)?);
-    let shape = Shape {
-        size: 40,
-        ninodes: 16,
-        live: 1,
-        orphans: 0,
-        blocks: 1,
-    };
-    assert_eq!(rt; examine(rt.alloc(), &mut disk), Ok(shape));
-    Ok(())
+fn shape_of(size: u32, ninodes: u32, live: u32, orphans: u32, blocks: u32) -> Shape {
+    Shape {
+        size,
+        ninodes,
+        live,
+        orphans,
+        blocks,
+    }
 }
 
-#[test]
-fn changed_bytes_are_damage(rt: HostRuntime) -> Result<(), Fail> {
-    let rows: [(&[Change], u8); 24] = [
-        (&[(1024, b"\x41")], 52),
-        (&[(33862, b"\x02")], 61),
-        (&[(33862, b"\x00")], 62),
-        (&[(33863, b"\x80")], 54),
-        (&[(33856, b"\x04")], 54),
-        (&[(33856, b"\x02")], 62),
-        (&[(33868, b"\x2e")], 55),
-        (&[(33868, b"\x00")], 58),
-        (&[(33868, b"\x30")], 57),
-        (&[(33872, b"\x2f")], 56),
-        (&[(33864, b"\x10")], 58),
-        (&[(33865, b"\x00")], 58),
-        (&[(47109, b"\x7f")], 57),
-        (&[(48128, b"\x02")], 59),
-        (&[(48144, b"\x02")], 59),
-        (&[(48162, b"\x61")], 59),
-        (&[(48160, b"\x01"), (48162, b"\x61")], 60),
-        (&[(2048, b"\x01")], 53),
-        (&[(2048, b"\x1f")], 53),
-        (&[(2048, b"\x01"), (2052, b"\x21")], 62),
-        (&[(1029, b"\x1f")], 51),
-        (&[(1029, b"\x20")], 52),
-        (&[(1044, b"\xff\xff\xff\xff")], 52),
-        (&[], 0),
-    ];
-    for (changes, want) in rows {
-        let mut disk = fresh(rt.alloc(), changes)?;
-        assert_eq!(rt; answer(&examine(rt.alloc(), &mut disk)), want);
-    }
-    Ok(())
-}
+// In a fresh image a file without a name.
+const ORPHAN: [Change; 2] = [
+    (33920, b"\x02\0\0\0\0\0\0\0\x01\0\0\0\x30"),
+    (47110, b"\x01"),
+];
 
 #[test]
 fn shapes_count_nodes_and_blocks(rt: HostRuntime) -> Result<(), Fail> {
-    let mut disk = MemoryDisk::new(with(rt.alloc(), 64, &RICH)?);
-    let shape = Shape {
-        size: 64,
-        ninodes: 16,
-        live: 4,
-        orphans: 1,
-        blocks: 17,
-    };
-    assert_eq!(rt; examine(rt.alloc(), &mut disk), Ok(shape));
-    let orphan: [Change; 2] = [
-        (33920, b"\x02\0\0\0\0\0\0\0\x01\0\0\0\x30"),
-        (47110, b"\x01"),
-    ];
-    let mut disk = fresh(rt.alloc(), &orphan)?;
-    let shape = Shape {
-        size: 2000,
-        ninodes: 200,
-        live: 1,
-        orphans: 1,
-        blocks: 2,
-    };
-    assert_eq!(rt; examine(rt.alloc(), &mut disk), Ok(shape));
+    for (mut disk, shape) in [
+        (fresh(rt.alloc(), &[])?, shape_of(2000, 200, 1, 0, 1)),
+        (
+            MemoryDisk::new(with(rt.alloc(), 40, &SMALL)?),
+            shape_of(40, 16, 1, 0, 1),
+        ),
+        (
+            MemoryDisk::new(with(rt.alloc(), 64, &RICH)?),
+            shape_of(64, 16, 4, 1, 17),
+        ),
+        (fresh(rt.alloc(), &ORPHAN)?, shape_of(2000, 200, 1, 1, 2)),
+    ] {
+        assert!(rt; examine(rt.alloc(), &mut disk) == Ok(shape));
+    }
     Ok(())
 }
 
-#[test]
-fn whole_trees_are_judged(rt: HostRuntime) -> Result<(), Fail> {
-    // The directories 2 and 3 are each the parent of the other.
-    let cycle: [Change; 4] = [
-        (33920, b"\x01\0\0\0\0\0\x02\0\x30\0\0\0\x30"),
-        (33984, b"\x01\0\0\0\0\0\x02\0\x30\0\0\0\x31"),
-        (47110, b"\x03"),
-        (
-            49152,
-            b"\x02\0.\0\0\0\0\0\0\0\0\0\0\0\0\0\x03\0..\0\0\0\0\0\0\0\0\0\0\0\0\x03\0b",
-        ),
-    ];
-    let mut image = with(rt.alloc(), 2000, &FRESH)?;
-    for change in cycle {
-        put(&mut image, change.0, change.1);
-    }
-    put(
-        &mut image,
-        50176,
-        b"\x03\0.\0\0\0\0\0\0\0\0\0\0\0\0\0\x02\0..\0\0\0\0\0\0\0\0\0\0\0\0\x02\0a",
-    );
-    assert_eq!(rt;
-        answer(&examine(rt.alloc(), &mut MemoryDisk::new(image))),
-        60
-    );
-    // "/a" and "/b" are files with the one block 48.
-    let shared: [Change; 4] = [
-        (33920, b"\x02\0\0\0\0\0\x01\0\x01\0\0\0\x30"),
-        (33984, b"\x02\0\0\0\0\0\x01\0\x01\0\0\0\x30"),
-        (47110, b"\x01"),
-        (48160, b"\x02\0a\0\0\0\0\0\0\0\0\0\0\0\0\0\x03\0b"),
-    ];
-    let mut disk = fresh(rt.alloc(), &shared)?;
-    assert_eq!(rt; answer(&examine(rt.alloc(), &mut disk)), 56);
-    // The second name of "/f" is "f" too.
-    let rows: [(&[Change], u8); 6] = [
-        (&[(34866, b"d")], 59),
-        (&[(35872, b"\0\0\0")], 61),
-        (&[(35856, b"\x02")], 60),
-        (&[(35872, b"\x02")], 60),
-        (&[(35874, b"g\0h")], 59),
-        (&[(35874, b"/")], 59),
-    ];
-    for (changes, want) in rows {
-        let mut image = with(rt.alloc(), 64, &RICH)?;
-        for change in changes {
-            put(&mut image, change.0, change.1);
-        }
-        assert_eq!(rt;
-            answer(&examine(rt.alloc(), &mut MemoryDisk::new(image))),
-            want
-        );
-    }
-    Ok(())
+// Examines an image, of which so many bytes are left: the answer, and the image.
+fn examine_cut(alloc: Global, image: Vec<u8>, length: usize) -> (u8, Vec<u8>) {
+    let mut image = image;
+    image.truncate(length);
+    let mut disk = MemoryDisk::new(image);
+    let answer = answer(&examine(alloc, &mut disk));
+    (answer, disk.into_bytes())
 }
 
 #[test]
 fn cut_images_are_too_short(rt: HostRuntime) -> Result<(), Fail> {
     let mut image = with(rt.alloc(), 2000, &FRESH)?;
-    image.truncate(1500);
-    for blocks in 0..2u64 {
-        let mut disk = MemoryDisk::new(image);
-        assert_eq!(rt;
-            answer(&examine(rt.alloc(), &mut disk)),
-            51,
-            "with {blocks} blocks"
-        );
-        image = disk.into_bytes();
-        image.truncate(1024);
-    }
-    let mut image = with(rt.alloc(), 2000, &FRESH)?;
+    let mut answer;
     for blocks in 1..2000usize {
-        image.truncate(2_048_000 - 1024 * blocks);
-        let mut disk = MemoryDisk::new(image);
-        assert_eq!(rt; answer(&examine(rt.alloc(), &mut disk)), 51);
-        image = disk.into_bytes();
+        (answer, image) = examine_cut(rt.alloc(), image, 2_048_000 - 1024 * blocks);
+        holds(&rt, answer == 51, "blocks less", blocks);
+    }
+    for length in [1500, 1024] {
+        (answer, _) = examine_cut(rt.alloc(), with(rt.alloc(), 2000, &FRESH)?, length);
+        holds(&rt, answer == 51, "bytes", length);
     }
     Ok(())
 }
@@ -205,11 +100,11 @@ fn each_call_of_the_device_can_fail(rt: HostRuntime) -> Result<(), Fail> {
             Err(fault) => fault.number(),
         };
         if number == 0 {
-            assert_eq!(rt; disk.faults(), 0);
+            assert!(rt; disk.faults() == 0);
             passes = k;
             break;
         }
-        assert_eq!(rt; (number, disk.faults()), (31, 1), "after {k} calls");
+        holds(&rt, (number, disk.faults()) == (31, 1), "after calls", k);
     }
     assert!(rt; 100 < passes);
     Ok(())
@@ -260,13 +155,10 @@ fn every_turned_byte_is_judged(rt: HostRuntime) -> Result<(), Fail> {
         1, 33, 34, 35, 36, 37, 38, 39, 40, 41, 42, 43, 44, 45, 46, 47,
     ];
     let counts = turned(rt.alloc(), image, &blocks, 0xff)?;
-    assert_eq!(rt; counts, [14872, 0, 25, 0, 399, 40, 0, 19, 4, 1024, 0, 1, 0]);
+    assert!(rt; counts == [14872, 0, 25, 0, 399, 40, 0, 19, 4, 1024, 0, 1, 0]);
     let image = with(rt.alloc(), 64, &RICH)?;
     let counts = turned(rt.alloc(), image, &[1, 2, 3, 33, 34, 35, 48], 0x01)?;
-    assert_eq!(rt;
-        counts,
-        [5664, 2, 26, 6, 15, 1268, 15, 8, 14, 133, 3, 11, 3]
-    );
+    assert!(rt; counts == [5664, 2, 26, 6, 15, 1268, 15, 8, 14, 133, 3, 11, 3]);
     Ok(())
 }
 
@@ -277,65 +169,84 @@ fn is_slot(slot: Option<&Option<Slot>>, name: &[u8], number: u16) -> bool {
     }
 }
 
+// The slots of a directory of so many links.
+fn slots_of(tree: &Tree, number: usize, links: u16) -> &[Option<Slot>] {
+    match tree.node(number) {
+        Some(
+            Node {
+                count,
+                kind: Kind::Directory { slots },
+            },
+        ) if *count == links => slots.as_slice(),
+        _ => &[],
+    }
+}
+
+// The bytes of a file of so many links.
+fn bytes_of(tree: &Tree, number: usize, links: u16) -> &[u8] {
+    match tree.node(number) {
+        Some(
+            Node {
+                count,
+                kind: Kind::File { bytes },
+            },
+        ) if *count == links => bytes.as_slice(),
+        _ => &[],
+    }
+}
+
+fn is_device(node: Option<&Node>) -> bool {
+    matches!(
+        node,
+        Some(Node {
+            count: 1,
+            kind: Kind::Device {
+                major: 1,
+                minor: 2,
+                size: 0
+            }
+        })
+    )
+}
+
+// Whether each hart stands in the root, and has nothing.
+fn are_harts_new(tree: &Tree) -> bool {
+    for hart in 0..8u8 {
+        let is_there = tree.directory(hart) == 1;
+        if !is_there || tree.hold(hart).is_some() || tree.descriptor(hart, 0).is_some() {
+            return false;
+        }
+    }
+    true
+}
+
+const ROOT_NAMES: [(&[u8], u16); 5] = [(b".", 1), (b"..", 1), (b"d", 2), (b"f", 3), (b"t", 4)];
+
+fn are_slots(slots: &[Option<Slot>], names: &[(&[u8], u16)]) -> bool {
+    for (s, (name, number)) in names.iter().enumerate() {
+        if !is_slot(slots.get(s), *name, *number) {
+            return false;
+        }
+    }
+    slots.len() == names.len()
+}
+
 #[test]
 fn trees_have_what_the_image_has(rt: HostRuntime) -> Result<(), Fail> {
     let mut disk = MemoryDisk::new(with(rt.alloc(), 64, &RICH)?);
     let Ok(tree) = tree_of(rt.alloc(), &mut disk) else {
         return Err(Fail::new("no tree"));
     };
-    assert_eq!(rt; tree.ninodes(), 16);
+    assert!(rt; tree.ninodes() == 16 && are_harts_new(&tree));
     for number in [0, 5, 6, 15, 16] {
-        assert!(rt; tree.node(number).is_none(), "node {number}");
+        holds(&rt, tree.node(number).is_none(), "node", number);
     }
-    for hart in 0..8u8 {
-        assert_eq!(rt; tree.directory(hart), 1);
-        assert!(rt; tree.hold(hart).is_none());
-        assert!(rt; tree.descriptor(hart, 0).is_none());
-    }
-    let Some(root) = tree.node(1) else {
-        return Err(Fail::new("another node"))
-    };
-    assert_eq!(rt; root.count, 2);
-    let Kind::Directory { slots } = &root.kind else {
-        return Err(Fail::new("another node"))
-    };
-    let slots = slots.as_slice();
-    assert_eq!(rt; slots.len(), 5);
-    let names: [(&[u8], u16); 5] = [(b".", 1), (b"..", 1), (b"d", 2), (b"f", 3), (b"t", 4)];
-    for (s, (name, number)) in names.iter().enumerate() {
-        assert!(rt; is_slot(slots.get(s), name, *number), "slot {s}");
-    }
-    let Some(d) = tree.node(2) else {
-        return Err(Fail::new("another node"))
-    };
-    assert_eq!(rt; d.count, 1);
-    let Kind::Directory { slots } = &d.kind else {
-        return Err(Fail::new("another node"))
-    };
-    let slots = slots.as_slice();
-    assert_eq!(rt; slots.len(), 4);
-    assert!(rt; is_slot(slots.get(2), b"g", 3));
-    assert!(rt; slots.last().is_some_and(|slot| slot.is_none()));
-    let Some(f) = tree.node(3) else {
-        return Err(Fail::new("another node"))
-    };
-    assert_eq!(rt; f.count, 2);
-    let Kind::File { bytes } = &f.kind else {
-        return Err(Fail::new("another node"))
-    };
-    let bytes = bytes.as_slice();
-    assert_eq!(rt; bytes.len(), 12_293);
-    assert_eq!(rt; bytes.get(0), Some(&b'A'));
-    assert_eq!(rt; bytes.get(1), Some(&0));
-    assert!(rt; bytes.ends_with(b"\0hello"));
-    let Some(t) = tree.node(4) else {
-        return Err(Fail::new("another node"))
-    };
-    assert_eq!(rt; t.count, 1);
-    let Kind::Device { major, minor, size } = &t.kind else {
-        return Err(Fail::new("another node"))
-    };
-    assert_eq!(rt; (*major, *minor, *size), (1, 2, 0));
+    assert!(rt; are_slots(slots_of(&tree, 1, 2), &ROOT_NAMES));
+    let d = slots_of(&tree, 2, 1);
+    assert!(rt; d.len() == 4 && is_slot(d.get(2), b"g", 3) && matches!(d.last(), Some(None)));
+    let f = bytes_of(&tree, 3, 2);
+    assert!(rt; f.len() == 12_293 && f.starts_with(b"A\0") && f.ends_with(b"\0hello"));
+    assert!(rt; is_device(tree.node(4)));
     Ok(())
 }
 
@@ -348,8 +259,8 @@ fn refused_memory_changes_nothing(rt: HostRuntime) -> Result<(), Fail> {
         Ok(_) => 0,
         Err(fault) => fault.number(),
     };
-    assert!(rt; number == 0 || number == 33, "answer {number}");
-    assert_eq!(rt; disk.faults(), 0);
+    holds(&rt, number == 0 || number == 33, "answer", number);
+    assert!(rt; disk.faults() == 0);
     assert!(rt; disk.into_bytes().as_slice() == image.as_slice());
     Ok(())
 }

@@ -13,3 +13,5 @@ mod nameless;
 mod recoveries;
 #[cfg(test)]
 mod short;
+#[cfg(test)]
+mod told;

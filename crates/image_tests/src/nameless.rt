@@ -5,6 +5,7 @@ ghost use Rattle.image_tree.specs.Damage.{IsWellFormed};
 
 use crate::by_hand::{Change, fresh, with};
 use crate::images::examine;
+use crate::told::holds;
 use block_device::{Device, Fused, MemoryDisk};
 use image_tree::{Layout, MountFault, Shape, examine_layout};
 use orphans::settle;
@@ -87,7 +88,7 @@ fn stopped(alloc: Global, disk: MemoryDisk, calls: u64) -> Result<(bool, MemoryD
 fn an_orphan_goes_in_six_writes(rt: HostRuntime) -> Result<(), Fail> {
     for calls in [0, 7, 8, 9, 10, 13, 14, 15, 16, 17, 213, 214u64] {
         let (done, disk) = stopped(rt.alloc(), fresh(rt.alloc(), &ORPHAN)?, calls)?;
-        assert_eq!(rt; done, calls == 214, "after {calls} calls");
+        holds(&rt, done == (calls == 214), "after calls", calls);
         let mut disk = disk;
         let shape = Shape {
             size: 2000,
@@ -96,10 +97,11 @@ fn an_orphan_goes_in_six_writes(rt: HostRuntime) -> Result<(), Fail> {
             orphans: u32::from(calls < 10),
             blocks: if calls < 10 { 2 } else { 1 },
         };
-        assert_eq!(rt;
-            examine(rt.alloc(), &mut disk),
-            Ok(shape),
-            "after {calls} calls"
+        holds(
+            &rt,
+            examine(rt.alloc(), &mut disk) == Ok(shape),
+            "after calls",
+            calls,
         );
         let bytes = disk.into_bytes();
         for (at, written, before, after) in [
@@ -117,11 +119,7 @@ fn an_orphan_goes_in_six_writes(rt: HostRuntime) -> Result<(), Fail> {
             } else {
                 after
             };
-            assert_eq!(rt;
-                byte_at(&bytes, at),
-                Some(want),
-                "byte {at} after {calls} calls"
-            );
+            holds(&rt, byte_at(&bytes, at) == Some(want), "byte", at);
         }
     }
     Ok(())
@@ -135,7 +133,7 @@ fn three_go_wherever_the_device_fails(rt: HostRuntime) -> Result<(), Fail> {
         let (done, disk) = stopped(rt.alloc(), image, calls)?;
         ended = done;
         let (again, disk) = stopped(rt.alloc(), disk, 80)?;
-        assert!(rt; again, "after {calls} calls");
+        holds(&rt, again, "after calls", calls);
         let mut disk = disk;
         let shape = Shape {
             size: 64,
@@ -144,10 +142,11 @@ fn three_go_wherever_the_device_fails(rt: HostRuntime) -> Result<(), Fail> {
             orphans: 0,
             blocks: 2,
         };
-        assert_eq!(rt;
-            examine(rt.alloc(), &mut disk),
-            Ok(shape),
-            "after {calls} calls"
+        holds(
+            &rt,
+            examine(rt.alloc(), &mut disk) == Ok(shape),
+            "after calls",
+            calls,
         );
         // The bitmap keeps the blocks up to the root's, and that of "/f".
         let bytes = disk.into_bytes();
@@ -158,11 +157,7 @@ fn three_go_wherever_the_device_fails(rt: HostRuntime) -> Result<(), Fail> {
             (14339, 0x80),
             (2048, 0),
         ] {
-            assert_eq!(rt;
-                byte_at(&bytes, at),
-                Some(byte),
-                "byte {at} after {calls} calls"
-            );
+            holds(&rt, byte_at(&bytes, at) == Some(byte), "byte", at);
         }
     }
     assert!(rt; ended);

@@ -1,6 +1,7 @@
 //! Recovery that is stopped at each call of the device in turn.
 use crate::by_hand::fresh;
 use crate::images::examine;
+use crate::told::holds;
 use block_device::{Device, Fused, MemoryDisk};
 use image_tree::{Damage, MountFault, Shape, recover, recovered_tree};
 use plain_tree::{Kind, Tree};
@@ -48,18 +49,20 @@ fn recovery_goes_on_where_it_stopped(rt: HostRuntime) -> Result<(), Fail> {
         } else {
             Ok(())
         };
-        assert_eq!(rt; recover(&mut disk), want, "after {calls} calls");
+        holds(&rt, recover(&mut disk) == want, "after calls", calls);
         let mut disk = disk.into_disk();
-        assert_eq!(rt;
-            examine(rt.alloc(), &mut disk),
-            Ok(shape),
-            "after {calls} calls"
+        holds(
+            &rt,
+            examine(rt.alloc(), &mut disk) == Ok(shape),
+            "after calls",
+            calls,
         );
-        assert_eq!(rt; recover(&mut disk), Ok(()), "after {calls} calls");
-        assert_eq!(rt;
-            examine(rt.alloc(), &mut disk),
-            Ok(shape),
-            "after {calls} calls"
+        holds(&rt, recover(&mut disk) == Ok(()), "after calls", calls);
+        holds(
+            &rt,
+            examine(rt.alloc(), &mut disk) == Ok(shape),
+            "after calls",
+            calls,
         );
         let bytes = disk.into_bytes();
         for (at, byte) in [
@@ -71,11 +74,7 @@ fn recovery_goes_on_where_it_stopped(rt: HostRuntime) -> Result<(), Fail> {
             (49152, b'n'),
             (49154, b'w'),
         ] {
-            assert_eq!(rt;
-                byte_at(&bytes, at),
-                Some(byte),
-                "byte {at} after {calls} calls"
-            );
+            holds(&rt, byte_at(&bytes, at) == Some(byte), "byte", at);
         }
     }
     Ok(())
@@ -95,7 +94,7 @@ fn the_tree_is_there_after_any_stop(rt: HostRuntime) -> Result<(), Fail> {
     for calls in 0..10u64 {
         let mut disk = Fused::new(logged(rt.alloc())?, calls);
         match tree_after(rt.alloc(), &mut disk) {
-            Err(fault) => assert_eq!(rt; fault, MountFault::DeviceFault, "after {calls} calls"),
+            Err(fault) => holds(&rt, fault == MountFault::DeviceFault, "after calls", calls),
             Ok(_) => return Err(Fail::new("the device failed")),
         }
         let mut disk = disk.into_disk();
@@ -105,12 +104,12 @@ fn the_tree_is_there_after_any_stop(rt: HostRuntime) -> Result<(), Fail> {
         let Some(root) = tree.node(1) else {
             return Err(Fail::new("no root"));
         };
-        assert_eq!(rt; root.count, 1);
+        assert!(rt; root.count == 1);
         let Kind::Directory { slots } = &root.kind else {
             return Err(Fail::new("the root is no directory"));
         };
-        assert_eq!(rt; slots.as_slice().len(), 64);
-        assert_eq!(rt; byte_at(&disk.into_bytes(), HEAD), Some(0));
+        assert!(rt; slots.as_slice().len() == 64);
+        assert!(rt; byte_at(&disk.into_bytes(), HEAD) == Some(0));
     }
     Ok(())
 }
@@ -122,14 +121,8 @@ fn recovery_writes_nothing_to_a_damaged_image(rt: HostRuntime) -> Result<(), Fai
         rt.alloc(),
         &[(HEAD, b"\x02\0\0\0\x2e\0\0\0\x20\0\0\0"), (COPIES, b"new")],
     )?;
-    assert_eq!(rt;
-        recover(&mut disk),
-        Err(MountFault::Damaged(Damage::BadLog))
-    );
+    assert!(rt; recover(&mut disk) == Err(MountFault::Damaged(Damage::BadLog)));
     let bytes = disk.into_bytes();
-    assert_eq!(rt;
-        (byte_at(&bytes, HEAD), byte_at(&bytes, 47104)),
-        (Some(2), Some(0xff))
-    );
+    assert!(rt; (byte_at(&bytes, HEAD), byte_at(&bytes, 47104)) == (Some(2), Some(0xff)));
     Ok(())
 }

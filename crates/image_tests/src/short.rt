@@ -55,7 +55,7 @@ fn of_examine(rt: HostRuntime) -> Result<(), Fail> {
     };
     println!(rt; "answer {answer}")?;
     assert!(rt; came == wanted || answer == NO_MEMORY);
-    assert_eq!(rt; examine(alloc, &mut disk), wanted);
+    assert!(rt; examine(alloc, &mut disk) == wanted);
     assert!(rt; disk.into_bytes().as_slice() == image.as_slice());
     Ok(())
 }

@@ -17,8 +17,6 @@ mod plan;
 #[cfg(test)]
 mod runs;
 #[cfg(test)]
-mod scripts;
-#[cfg(test)]
 mod seats;
 #[cfg(test)]
 mod short;
