@@ -70,34 +70,64 @@ fn astray(alloc: Global) -> Result<Tree, NoMemory> {
     Ok(Tree::of_nodes(alloc, nodes))
 }
 
-fn is_stopped(alloc: Global, tree: &mut Tree, action: Action) -> bool {
-    matches!(make(alloc, tree, 0, action), Err(ApplyRefused::NoMemory))
+/// The count of the file of that number, and how many bytes it has.
+fn file_in(tree: &Tree, number: usize) -> Option<(u16, usize)> {
+    let node = tree.node(number)?;
+    match &node.kind {
+        Kind::File { bytes } => Some((node.count, bytes.as_slice().len())),
+        _ => None,
+    }
 }
 
-fn stops_past_the_table(alloc: Global) -> Result<bool, ApplyRefused> {
+fn is_done(alloc: Global, tree: &mut Tree, action: Action) -> Result<bool, ApplyRefused> {
+    Ok(make(alloc, tree, 0, action)? == StepAnswer::Done)
+}
+
+/// A node past the table is opened and found, emptied, written to, raised, unlinked, lowered and closed.
+fn grows_past_the_table(alloc: Global) -> Result<bool, ApplyRefused> {
     let mut tree = astray(alloc)?;
     let path = bytes(alloc, b"/x")?;
     let old = bytes(alloc, b"/x")?;
     let there = bytes(alloc, b"/x")?;
-    let text = bytes(alloc, b"A")?;
-    let _ = make(alloc, &mut tree, 0, Action::Open { path, flags: 2 })?;
-    let _ = make(alloc, &mut tree, 0, Action::Find { old })?;
+    let opened = make(alloc, &mut tree, 0, Action::Open { path, flags: 2 })?;
+    let is_found = is_done(alloc, &mut tree, Action::Find { old })?;
+    let is_emptied = is_done(alloc, &mut tree, Action::Truncate { fd: 0 })?;
+    let emptied = file_in(&tree, 9);
+    let is_written = write(alloc, &mut tree, b"A")? == StepAnswer::Done;
+    let is_raised = is_done(alloc, &mut tree, Action::Bump)?;
+    let raised = file_in(&tree, 9);
+    let is_unlinked = is_done(alloc, &mut tree, Action::Unlink { path: there })?;
+    let is_lowered = is_done(alloc, &mut tree, Action::Unbump)?;
+    let kept = file_in(&tree, 9);
+    let is_closed = is_done(alloc, &mut tree, Action::Close { fd: 0 })?;
+    let answer = StepAnswer::Opened {
+        fd: 0,
+        id: 0,
+        is_file: true,
+    };
     Ok(
-        is_stopped(alloc, &mut tree, Action::Truncate { fd: 0 })
-            && is_stopped(alloc, &mut tree, Action::WritePart { fd: 0, bytes: text })
-            && is_stopped(alloc, &mut tree, Action::Bump)
-            && is_stopped(alloc, &mut tree, Action::Unlink { path: there }),
+        opened == answer
+            && is_found
+            && is_emptied
+            && is_written
+            && is_raised
+            && is_unlinked
+            && is_lowered
+            && is_closed
+            && (emptied, raised, kept) == (Some((0, 0)), Some((1, 1)), Some((0, 1)))
+            && tree.node(9).is_none()
+            && tree.ninodes() == 2,
     )
 }
 
 #[test]
-fn changes_no_node_past_the_table(rt: HostRuntime) -> Result<(), Fail> {
+fn changes_a_node_past_the_table(rt: HostRuntime) -> Result<(), Fail> {
     let alloc = rt.alloc();
-    let stops = match stops_past_the_table(alloc) {
-        Err(_) => stops_past_the_table(alloc),
-        stops => stops,
+    let grows = match grows_past_the_table(alloc) {
+        Err(_) => grows_past_the_table(alloc),
+        grows => grows,
     };
-    assert!(rt; matches!(stops, Ok(true)));
+    assert!(rt; matches!(grows, Ok(true)));
     Ok(())
 }
 
