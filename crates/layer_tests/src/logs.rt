@@ -1,5 +1,5 @@
 //! A log over disks in memory: who waits, what a commit writes, and what a recovery makes of a fault.
-ghost use Rattle.std.specs.Prelude.{◌≡◌, ◌-◌, [], IfOk};
+ghost use Rattle.std.specs.Prelude.{◌≡◌, [], IfOk};
 ghost use Rattle.fs_layout.specs.Recovered.{logged};
 ghost use Rattle.group_log.specs.Soundness.{IsPlaced};
 
@@ -49,12 +49,13 @@ struct Watched {
 impl Device for Watched {
     ghost use Rattle.block_device.specs.Blocks.{blocks_of};
     ghost use Rattle.block_device.specs.BlockLaws.{blocks_of-whole};
+    ghost use Rattle.block_device.specs.Fuse.{IsFusedCall};
 
     ghost contents = { λ d. blocks_of d.disk.bytes };
 
     ghost failures = { λ d. d.disk.faults };
 
-    ghost Called = { λ old new. new.disk.left ≡ old.disk.left - 1 };
+    ghost Called = { λ old new. IsFusedCall old.disk new.disk };
 
     ghost whole = { λ d. blocks_of-whole d.disk.bytes };
 
