@@ -21,7 +21,8 @@ pub record IsPrinted (mode : Mode) (image : List ℕ) (run : StoredRun) (out out
   pub lines : Appends out between (harts_text run.events run.outcomes eight_harts)
   pub ends : EndsSo mode image (noted_in (no_notes (most_noted mode) mode.explain) run.events run.outcomes) (Ok tt) between (Ok tt) out'
 
--- A run on this image leaves this disk, one that doesn't fail, and is printed. Each hart was to start its calls, and all that were started are answered. One
+-- A run on this image leaves this disk, one that doesn't fail, and is printed. Each hart was to start its calls, and all that were started
+-- are answered. One
 -- list of tree steps explains them, if no step found no room and no path climbs.
 pub record IsToldRun (mode : Mode) (image : List ℕ) (calls : List (List Call)) (disk : List ℕ) (out out' : Option (List ℕ)) : Type 0 where
   pub run : ClosedRun
@@ -65,5 +66,6 @@ IsNoRun script Strange out out' = out' ≡ out
 
 -- The calls that a script asks for are made on this image, and the run is told; or there is none.
 abbrev pub RunsThreads : Mode → List ℕ → Option (List ℕ) → Result (List ℕ) ThreadsFault → Option (List ℕ) → Option (List ℕ) → Type 0
-RunsThreads mode image script (Ok disk) out out' = (calls : List (List Call)) × IsAsked script calls × IsToldRun mode image calls disk out out'
+RunsThreads mode image script (Ok disk) out out' =
+    (calls : List (List Call)) × IsAsked script calls × IsToldRun mode image calls disk out out'
 RunsThreads mode image script (Err fault) out out' = IsNoRun script fault out out'

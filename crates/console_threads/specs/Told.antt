@@ -67,4 +67,5 @@ what_in (event.Step hart) came = what_of_came came
 unfoldable pub noted_in : NotesOf → List Event → List Came → NotesOf
 noted_in notes [] outcomes = notes
 noted_in notes (event ∷ events) [] = notes
-noted_in notes (event ∷ events) (came ∷ outcomes) = noted_in (with_what notes (hart_in event) (what_in event came) (Some event)) events outcomes
+noted_in notes (event ∷ events) (came ∷ outcomes) =
+    noted_in (with_what notes (hart_in event) (what_in event came) (Some event)) events outcomes

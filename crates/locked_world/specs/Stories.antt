@@ -1,4 +1,5 @@
--- What is kept of a list of events and of what they came to: a note of each, with the calls of the starts and the replies in lists of their own.
+-- What is kept of a list of events and of what they came to: a note of each, with the calls of the starts and the replies in lists of
+-- their own.
 use Rattle.std.specs.Prelude.{ℕ, ◌+◌, ◌≡◌, ◌≤◌, Bool, true, false, if◌then◌else◌, ◌==◌, List, [], ◌∷◌, ◌++◌, Option, Some, None, length, map}
 use Rattle.plain_tree.specs.declared.answer.Reply.{Reply}
 use Rattle.plain_tree.specs.declared.call.Call.{Call}

@@ -74,7 +74,8 @@ abbrev pub Answers : {L : _} → LockedRun → ℕ → Told L → LockedRun → 
 Answers s h told.Idle t a b = Steps s h outcome.Idle t × (b ≡ a)
 Answers s h told.Waits t a b = Waits s h t × (b ≡ a)
 Answers s h (told.Ran kind) t a b = Steps s h (outcome.Ran kind) t × (b ≡ a)
-Answers s h (told.Done r) t a b = (r.hart ≡ h) × (r.place ≡ length (replies_of h s.stored)) × Steps s h (outcome.Done r.reply) t × (b ≡ a + 1)
+Answers s h (told.Done r) t a b =
+    (r.hart ≡ h) × (r.place ≡ length (replies_of h s.stored)) × Steps s h (outcome.Done r.reply) t × (b ≡ a + 1)
 Answers s h (told.Stopped why) t a b = HaltAnswers s h why t × (b ≡ a)
 
 -- why a call was not started, and what that left

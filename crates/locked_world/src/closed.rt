@@ -31,7 +31,13 @@ impl<L: Ledger> Model for Closed<L> {
       disk = s.disk;
     } };
 
-    ghost invariant = { λ s. HasLeft (record { image = s.image.items; fuse = s.fuse; events = s.story.events; outcomes = s.story.outcomes }) s.disk };
+    ghost invariant = { λ s. HasLeft
+        (record {
+          image = s.image.items;
+          fuse = s.fuse;
+          events = s.story.events;
+          outcomes = s.story.outcomes;
+        }) s.disk };
 }
 
 impl<L: Ledger> Closed<L> {

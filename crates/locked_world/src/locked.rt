@@ -103,7 +103,13 @@ impl<L: Ledger> Model for Locked<L> {
       world = s.world;
     } };
 
-    ghost invariant = { λ s. IsKept (record { image = s.image.items; fuse = s.fuse; events = s.story.events; outcomes = s.story.outcomes }) s.book.total s.world s.given s.spare };
+    ghost invariant = { λ s. IsKept
+        (record {
+          image = s.image.items;
+          fuse = s.fuse;
+          events = s.story.events;
+          outcomes = s.story.outcomes;
+        }) s.book.total s.world s.given s.spare };
 }
 
 impl<L: Ledger> Share<L> {

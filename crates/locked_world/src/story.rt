@@ -16,7 +16,8 @@ use plain_tree::{Call, Reply};
 use std::alloc::{AllocError, Global};
 use std::marker::Model;
 
-/// The events that have been, and what each of them came to: a note of three bytes each, and the calls and the replies in lists of their own. A
+/// The events that have been, and what each of them came to: a note of three bytes each, and the calls and the replies in lists of their
+/// own. A
 /// contract sees the two lists, and how much room there is for more.
 #[derive(Drop)]
 pub(crate) struct Story {
@@ -164,7 +165,8 @@ impl Story {
     /// The first place, from 0, at which these are not the hart's replies. A missing one differs.
     pub fn difference(&self, hart: u8, replies: &[Reply]) -> Option<u64>
         ensures none { IfNone result (replies.now ≡ replies_in hart (all_shown self.now.events self.now.outcomes)) }
-        ensures some { IfSome result (λ k. slice_get replies.now k ≢ slice_get (replies_in hart (all_shown self.now.events self.now.outcomes)) k) }
+        ensures some { IfSome result
+            (λ k. slice_get replies.now k ≢ slice_get (replies_in hart (all_shown self.now.events self.now.outcomes)) k) }
     {
         difference(&self.replies, hart, replies)
     }

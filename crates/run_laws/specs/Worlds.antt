@@ -31,11 +31,13 @@ module _ (disk : List (List ℕ)) (failures : ℕ) (history : List (EventOf Call
   IsRun c = RunsTo c.call (operations_of (sizes_of disk) (run inodes history (fresh inodes (first disk failures))) c.start) c.finished
 
 module _ {D : Type 0} (contents : D → List (List ℕ)) (failures : D → ℕ) where
-  -- Each history of a run of this world, where it is as a mount left it, is a run of the machine of whole inodes; and each call of the trace,
+  -- Each history of a run of this world, where it is as a mount left it, is a run of the machine of whole inodes; and each call of the
+  -- trace,
   -- with its reply, is a run of its program there.
   abbrev pub WorldsRefineWholeInodes : WorldOf D → Type 0
   WorldsRefineWholeInodes w =
       (device : D) (events : List Event) (came : List Came) (new : HartsOf D) (history : List (EventOf Call Outside))
       → IsMounted contents failures device w → IsHistory contents failures w.sizes w.harts events came new history
       → let now = w.harts.core.log.cache.device in
-      RefinesWholeInodes (contents now) (failures now) history × All (IsRun (contents now) (failures now) history) (trace_in events came).calls
+      RefinesWholeInodes (contents now) (failures now) history
+      × All (IsRun (contents now) (failures now) history) (trace_in events came).calls
