@@ -1,6 +1,8 @@
--- What a run in memory is told to be.
-use Rattle.std.proofs.Common.{◌≡◌, ℕ, true, false, List, [], ◌∷◌, sym, ap, subst, ◌∙◌, inl, inr}
+-- What a list that explains a trace, or its want, says of the run that came to the trace.
+use Rattle.std.proofs.Common.{◌≡◌, ℕ, false, List, [], ◌∷◌, Result, Ok, Err, subst, ◌∙◌, inl, inr}
+use Rattle.std.specs.Prelude.{MatchResult, Vec}
 use Rattle.std.specs.List.{All}
+use Rattle.std.specs.declared.alloc.Global.{Global}
 use Rattle.std.proofs.lemmas.Bool.{or_parts}
 use Rattle.std.proofs.lemmas.List.Elements.{All-cons, All-nil}
 use Rattle.block_device.specs.Blocks.{blocks_of}
@@ -11,13 +13,15 @@ use Rattle.plain_tree.specs.Calls.{call_climbs}
 use Rattle.plain_tree.specs.Explains.{Explains}
 use Rattle.plain_tree.specs.TreeData.{TreeData}
 use Rattle.image_tree.specs.Trees.{tree_in}
+use Rattle.hart_core.specs.declared.events.Came.{Came}
 use Rattle.hart_core.specs.declared.events.Event.{Event}
 use Rattle.hart_core.specs.Runs.{trace_in}
-use Rattle.explain_parts.specs.Told.{any_climbs, any_full}
+use Rattle.hart_core.proofs.Histories.{explained}
+use Rattle.explain_parts.specs.Told.{any_climbs}
 use Rattle.explain.specs.declared.play.Played.{Played}
 use Rattle.explain.specs.declared.refused.ExplainRefused.{ExplainRefused}
 use Rattle.explain.specs.declared.refused.ExplainRefused.TheVariants as refused
-use Rattle.explain.specs.Explained.{ExplainsRun, FindsNoRoom, HasClimbed, IsRefusedMount, IsRefusedSo}
+use Rattle.explain.specs.Explained.{ExplainsRun, IsFoundFor, IsRefusedFor, IsRefusedMount, IsRefusedSo, RunOn, never}
 use Rattle.explain.specs.Played.{IsPlayed}
 
 pub refused_so : (image : List ℕ) (events : List Event) (e : ExplainRefused) → IsRefusedMount image e → IsRefusedSo image events e
@@ -32,29 +36,31 @@ none_climbs (c ∷ cs) none =
     let parts = or_parts (call_climbs c.call) (any_climbs cs) none in
     All-cons (λ (d : TracedCall). call_climbs d.call ≡ false) c cs parts.0 (none_climbs cs parts.1)
 
-module _ (image : List ℕ) (events : List Event) (p : Played) (played : IsPlayed image events p) (t : Trace) (told : t ≡ trace_in events p.outcomes.items) where
-  is_trace : t ≡ trace_in events played.run.outcomes
-  is_trace = told ∙ ap (λ outcomes. trace_in events outcomes) played.outcomes
+pub nowhere : (base : TreeData) (t u : Trace) → t ≡ u → any_climbs t.calls ≡ false → ((list : List Placed) → Explains base t list → ⊥) → (any_climbs u.calls ≡ false) × ((list : List Placed) → Explains base u list → ⊥)
+nowhere base t u same flat none = subst (λ (v : Trace). (any_climbs v.calls ≡ false) × ((list : List Placed) → Explains base v list → ⊥)) same (flat, none)
 
-  explains_here : (list : List Placed) → Explains p.base t list → Explains (tree_in (blocks_of image)) (trace_in events played.run.outcomes) list
-  explains_here list explains = subst (λ (base : TreeData). Explains base (trace_in events played.run.outcomes) list) played.base (subst (λ (u : Trace). Explains p.base u list) is_trace explains)
-
-  explains_there : (list : List Placed) → Explains (tree_in (blocks_of image)) (trace_in events played.run.outcomes) list → Explains p.base t list
-  explains_there list explains = subst (λ (u : Trace). Explains p.base u list) (sym is_trace) (subst (λ (base : TreeData). Explains base (trace_in events played.run.outcomes) list) (sym played.base) explains)
-
-  pub explains_run : (list : List Placed) → Explains p.base t list → ExplainsRun image events list
-  explains_run list explains = record { run = played.run; explains = explains_here list explains }
-
-  pub replies_full : any_full t.calls ≡ true → FindsNoRoom image events
-  replies_full full = record { run = played.run; full = inl (subst (λ (u : Trace). any_full u.calls ≡ true) is_trace full) }
-
-  pub has_climbed : any_climbs t.calls ≡ true → HasClimbed image events
-  has_climbed climbs = record { run = played.run; climbs = subst (λ (u : Trace). any_climbs u.calls ≡ true) is_trace climbs }
-
-  pub finds_no_room : any_climbs t.calls ≡ false → ((list : List Placed) → Explains p.base t list → ⊥) → FindsNoRoom image events
-  finds_no_room flat none = record {
-    run = played.run;
+-- A run of these events on the image came to the outcomes of the trace.
+module _ (image : List ℕ) (events : List Event) (run : RunOn image events) where
+  refused_run : (e : ExplainRefused) → IsRefusedFor (tree_in (blocks_of image)) (trace_in events run.outcomes) e → IsRefusedSo image events e
+  refused_run refused.NoMemory is = tt
+  refused_run (refused.Damaged d) is = absurd is
+  refused_run refused.Climbs is = record { run = run; climbs = is }
+  refused_run refused.FullSeen (inl full) = record { run = run; full = inl full }
+  refused_run refused.FullSeen (inr none) = record {
+    run = run;
     full = inr (λ history is room.
-        let one = played.one image history played.run.starts.mounted is room (inl (none_climbs (trace_in events played.run.outcomes).calls (subst (λ (u : Trace). any_climbs u.calls ≡ false) is_trace flat))) in
-        none one.0 (explains_there one.0 one.1));
+        let one = explained blocks_of never run.world events run.outcomes run.new image history run.starts.mounted is room (inl (none_climbs (trace_in events run.outcomes).calls none.0)) in
+        none.1 one.0 one.1);
   }
+
+  pub found_run : (found : Result (Vec Placed Global) ExplainRefused) → IsFoundFor (tree_in (blocks_of image)) (trace_in events run.outcomes) found
+      → MatchResult found (λ v. ExplainsRun image events v.items) (λ e. IsRefusedSo image events e)
+  found_run (Ok list) explains = record { run = run; explains = explains }
+  found_run (Err e) is = refused_run e is
+
+pub found_played : (image : List ℕ) (events : List Event) (p : Played) → IsPlayed image events p → (outcomes : List Came) → outcomes ≡ p.outcomes.items → (found : Result (Vec Placed Global) ExplainRefused) → IsFoundFor p.base (trace_in events outcomes) found
+    → MatchResult found (λ v. ExplainsRun image events v.items) (λ e. IsRefusedSo image events e)
+found_played image events p played outcomes same found is =
+    found_run image events played.run found
+    (subst (λ (base : TreeData). IsFoundFor base (trace_in events played.run.outcomes) found) played.base
+    (subst (λ (os : List Came). IsFoundFor p.base (trace_in events os) found) (same ∙ played.outcomes) is))

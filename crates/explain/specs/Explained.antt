@@ -1,9 +1,12 @@
 -- What a run of events on an image is explained by, and why it isn't.
-use Rattle.std.specs.Prelude.{◌≡◌, ◌⊎◌, ℕ, true, List}
+use Rattle.std.specs.Prelude.{◌≡◌, ◌⊎◌, ℕ, true, false, List, MatchResult, Result, Vec}
+use Rattle.std.specs.declared.alloc.Global.{Global}
 use Rattle.block_device.specs.Blocks.{blocks_of}
 use Rattle.plain_tree.specs.declared.call.Call.{Call}
 use Rattle.plain_tree.specs.declared.trace.Placed.{Placed}
+use Rattle.plain_tree.specs.declared.trace.Trace.{Trace}
 use Rattle.plain_tree.specs.Explains.{Explains}
+use Rattle.plain_tree.specs.TreeData.{TreeData}
 use Rattle.image_tree.specs.declared.fault.MountFault.{MountFault}
 use Rattle.image_tree.specs.declared.fault.MountFault.TheVariants as faults
 use Rattle.image_tree.specs.Damage.{IsFirstDamage, IsWellFormed}
@@ -68,6 +71,18 @@ IsRefusedSo image events refused.NoMemory = Unit {0}
 IsRefusedSo image events (refused.Damaged d) = IsFirstDamage (blocks_of image) d
 IsRefusedSo image events refused.FullSeen = FindsNoRoom image events
 IsRefusedSo image events refused.Climbs = HasClimbed image events
+
+-- Why there is no list that explains this trace from this tree: a reply in it found no room, or none explains it though no path climbs; or the path of a
+-- call has the element "..", or memory was refused.
+abbrev pub IsRefusedFor : TreeData → Trace → ExplainRefused → Type 0
+IsRefusedFor base t refused.NoMemory = Unit {0}
+IsRefusedFor base t (refused.Damaged d) = ⊥
+IsRefusedFor base t refused.FullSeen = (any_full t.calls ≡ true) ⊎ ((any_climbs t.calls ≡ false) × ((list : List Placed) → Explains base t list → ⊥))
+IsRefusedFor base t refused.Climbs = any_climbs t.calls ≡ true
+
+-- a list that explains the trace from the tree, or why there is none
+abbrev pub IsFoundFor : TreeData → Trace → Result (Vec Placed Global) ExplainRefused → Type 0
+IsFoundFor base t found = MatchResult found (λ v. Explains base t v.items) (λ e. IsRefusedFor base t e)
 
 -- how the refusal of a mount in memory is told
 abbrev pub refused_by : MountFault → ExplainRefused

@@ -9,16 +9,14 @@ use Rattle.plain_tree.specs.Explains.{Explains}
 use Rattle.plain_tree.specs.TreeData.{TreeData}
 use Rattle.image_tree.specs.Trees.{tree_in}
 use Rattle.hart_core.specs.declared.events.Event.{Event}
-use Rattle.hart_core.specs.Runs.{OneHistory}
 use Rattle.explain.specs.declared.play.Played.{Played}
-use Rattle.explain.specs.Explained.{RunOn, never}
+use Rattle.explain.specs.Explained.{RunOn}
 
 -- A run of the events on the image came to these outcomes, and the base is the image's tree.
 pub record IsPlayed (image : List ℕ) (events : List Event) (p : Played) : Type 0 where
   pub run : RunOn image events
   pub outcomes : p.outcomes.items ≡ run.outcomes
   pub base : p.base ≡ tree_in (blocks_of image)
-  pub one : OneHistory blocks_of never run.world events run.outcomes run.new
 
 -- a list that explains the trace, or none only where there is none
 abbrev pub IsFound : TreeData → Trace → Result (Option (Vec Placed Global)) NoMemory → Type 0

@@ -1,13 +1,15 @@
 // The history of a run.
-ghost use Rattle.std.specs.Prelude.{MatchResult};
-ghost use Rattle.explain.specs.Explained.{ExplainsRun, IsRefusedSo};
+ghost use Rattle.std.specs.Prelude.{◌≡◌, MatchResult};
+ghost use Rattle.hart_core.specs.Runs.{trace_in};
+ghost use Rattle.explain.specs.Explained.{ExplainsRun, IsFoundFor, IsRefusedSo};
 
+use crate::keep::Keeper;
 use crate::play::{Played, play};
 use crate::refused::ExplainRefused;
 use explain_parts::{any_climbs, any_full};
-use hart_core::{Event, trace};
+use hart_core::{Came, Event, trace};
 use history_search::find_history;
-use plain_tree::{NoMemory, Placed};
+use plain_tree::{NoMemory, Placed, Tree};
 use std::alloc::Global;
 
 /// Mounts a copy of the image in memory, runs these events, and hands out a list of tree steps that explains what they
@@ -28,9 +30,29 @@ pub fn explain(alloc: Global, image: &[u8], events: &[Event]) -> Result<Vec<Plac
     let Played {
         base,
         outcomes,
-        hints,
+        keeper,
     } = play(alloc, image, events)?;
-    let Ok(trace) = trace(alloc, events, &outcomes) else {
+    explain_noted(alloc, &base, events, &outcomes, keeper)
+}
+
+/// The same of events that were noted as they were made of a mounted world, with what each came to; the world isn't run again. `base`
+/// is the tree of the image that was mounted, and the keeper was told of each event.
+///
+/// Whatever is passed, a list that is handed out explains these events and outcomes from this tree. The keeper only says where the list
+/// is sought first: with another one it may take long.
+pub fn explain_noted(
+    alloc: Global,
+    base: &Tree,
+    events: &[Event],
+    outcomes: &[Came],
+    keeper: Keeper,
+) -> Result<Vec<Placed>, ExplainRefused>
+    ensures { IsFoundFor base.now (trace_in events.now outcomes.now) result }
+{
+    let Ok(hints) = keeper.into_hints() else {
+        return Err(ExplainRefused::NoMemory);
+    };
+    let Ok(trace) = trace(alloc, events, outcomes) else {
         return Err(ExplainRefused::NoMemory);
     };
     if any_full(trace.calls.as_slice()) {
@@ -39,7 +61,7 @@ pub fn explain(alloc: Global, image: &[u8], events: &[Event]) -> Result<Vec<Plac
     if any_climbs(trace.calls.as_slice()) {
         return Err(ExplainRefused::Climbs);
     }
-    match find_history(alloc, &base, &trace, &hints) {
+    match find_history(alloc, base, &trace, &hints) {
         Ok(Some(list)) => Ok(list),
         Ok(None) => Err(ExplainRefused::FullSeen),
         Err(NoMemory) => Err(ExplainRefused::NoMemory),

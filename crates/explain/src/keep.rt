@@ -8,35 +8,34 @@ use path_walk::Heard;
 use plain_tree::{Call, NoMemory, Tree};
 use std::alloc::{AllocError, Global};
 
-/// Is told of a run's events, and keeps a tree beside it. What it keeps is what a list is sought by, and nothing rests on it.
+/// Is told of a run's events as they are made, and keeps a tree beside it, and the steps of the tree in the order in which the run makes
+/// them. A list that explains the run is sought by them first, and nothing else rests on them: so no clause says what they are.
 #[derive(Drop)]
-pub(crate) struct Keeper<'a> {
+pub struct Keeper {
     alloc: Global,
-    events: &'a [Event],
-    // The place of the next event.
-    place: usize,
     kept: Kept,
     // Memory was refused: nothing was kept from then on.
     is_short: bool,
 }
 
-impl<'a> Keeper<'a> {
-    /// Beside a run of these events that begins with this tree.
-    pub(crate) fn new(
-        alloc: Global,
-        base: &Tree,
-        events: &'a [Event],
-    ) -> Result<Keeper<'a>, NoMemory> {
+impl Keeper {
+    /// Beside a run that begins with this tree.
+    pub fn new(alloc: Global, base: &Tree) -> Result<Keeper, NoMemory> {
         Ok(Keeper {
             alloc,
-            events,
-            place: 0,
             kept: Kept::new(alloc, base.try_clone(alloc)?),
             is_short: false,
         })
     }
 
-    /// The steps of the tree in the order in which the run made them, with the numbers of the nodes that they made.
+    /// The run's next event came to this. `heard` is what its hart's call has heard then (`World::heard`).
+    pub fn note(&mut self, event: &Event, came: &Came, heard: Option<Heard>) {
+        if !self.is_short && self.keep(event, came, heard).is_err() {
+            self.is_short = true;
+        }
+    }
+
+    // The steps so far, each with the number of the node that it made. An error is that memory was refused once.
     pub(crate) fn into_hints(self) -> Result<Vec<Hint>, NoMemory> {
         if self.is_short {
             return Err(NoMemory);
@@ -69,7 +68,7 @@ impl<'a> Keeper<'a> {
         Ok(())
     }
 
-    fn note(&mut self, event: &Event, came: &Came, heard: Option<Heard>) -> Result<(), NoMemory> {
+    fn keep(&mut self, event: &Event, came: &Came, heard: Option<Heard>) -> Result<(), NoMemory> {
         match (event, came) {
             (Event::Start { hart, call }, Came::Started) => self.start(*hart, call),
             (Event::Step { hart }, Came::Stepped(outcome)) => self.step(*hart, outcome, heard),
@@ -87,13 +86,20 @@ fn copied(call: &Call) -> Result<Call, AllocError>
     call.clone()
 }
 
-impl Observer for Keeper<'_> {
+/// Tells a keeper of a run of these events.
+#[derive(Drop)]
+pub(crate) struct Telling<'a> {
+    pub(crate) keeper: Keeper,
+    pub(crate) events: &'a [Event],
+    // The place of the next event.
+    pub(crate) place: usize,
+}
+
+impl Observer for Telling<'_> {
     fn noted(&mut self, came: &Came, heard: Option<Heard>) {
         let events = self.events;
         if let Some(event) = events.get(self.place) {
-            if !self.is_short && self.note(event, came, heard).is_err() {
-                self.is_short = true;
-            }
+            self.keeper.note(event, came, heard);
         }
         self.place = self.place.saturating_add(1);
     }

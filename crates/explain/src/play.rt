@@ -6,21 +6,20 @@ ghost use Rattle.image_tree.specs.Trees.{tree_in};
 ghost use Rattle.explain.specs.Explained.{IsRefusedMount, StartsOn, refused_by};
 ghost use Rattle.explain.specs.Played.{IsPlayed};
 
-use crate::keep::Keeper;
+use crate::keep::{Keeper, Telling};
 use crate::refused::ExplainRefused;
 use block_device::MemoryDisk;
 use hart_core::{Came, Event, Run, World, run_noted};
-use history_search::Hint;
 use image_tree::{MountFault, tree_of};
 use plain_tree::Tree;
 use std::alloc::{AllocError, Global};
 
-/// The tree of an image, what events came to on it, and which steps of the tree they made, as the run was seen to.
+/// The tree of an image, what events came to on it, and what was kept beside them.
 #[derive(Drop)]
 pub(crate) struct Played {
     pub(crate) base: Tree,
     pub(crate) outcomes: Vec<Came>,
-    pub(crate) hints: Vec<Hint>,
+    pub(crate) keeper: Keeper,
 }
 
 // A disk in memory with these bytes.
@@ -75,12 +74,16 @@ pub(crate) fn play(alloc: Global, image: &[u8], events: &[Event]) -> Result<Play
     ensures { MatchResult result (λ p. IsPlayed image.now events.now p) (λ e. IsRefusedMount image.now e) }
 {
     let base = base_of(alloc, image)?;
-    let Ok(keeper) = Keeper::new(alloc, &base, events) else {
+    let Ok(keeper) = Keeper::new(alloc, &base) else {
         return Err(ExplainRefused::NoMemory);
     };
-    let mut keeper = keeper;
+    let mut telling = Telling {
+        keeper,
+        events,
+        place: 0,
+    };
     let world = mounted(alloc, image)?;
-    match run_noted(alloc, world, events, &mut keeper) {
+    match run_noted(alloc, world, events, &mut telling) {
         Ok(run) => {
             let Run {
                 world,
@@ -89,13 +92,10 @@ pub(crate) fn play(alloc: Global, image: &[u8], events: &[Event]) -> Result<Play
                 doubt: _,
             } = run;
             let _disk = world.unmount();
-            let Ok(hints) = keeper.into_hints() else {
-                return Err(ExplainRefused::NoMemory);
-            };
             Ok(Played {
                 base,
                 outcomes,
-                hints,
+                keeper: telling.keeper,
             })
         }
         Err((world, _)) => {

@@ -1,8 +1,8 @@
 use Rattle.std.proofs.Common.{refl}
 use Rattle.explain.proofs.play.play.Goals as goal
 
-pub returns-in-Ok-into_hints : goal.returns-in-Ok-into_hints
-returns-in-Ok-into_hints c = record {
+pub returns-in-Ok-run_noted : goal.returns-in-Ok-run_noted
+returns-in-Ok-run_noted c = record {
   run = record {
     world = c.in_ok-world.world;
     outcomes = c.in-Ok-run_noted.run'.outcomes.items;
@@ -12,5 +12,4 @@ returns-in-Ok-into_hints c = record {
   };
   outcomes = refl;
   base = c.in_ok-base.ensures;
-  one = c.in-Ok-run_noted.ensures.explained;
 }

@@ -1,0 +1,14 @@
+use Rattle.std.proofs.Common.{ap, sym, subst, ◌∙◌, Option, Ok, inr}
+use Rattle.std.specs.Prelude.{Vec}
+use Rattle.std.specs.declared.alloc.Global.{Global}
+use Rattle.plain_tree.specs.declared.trace.Placed.{Placed}
+use Rattle.explain_parts.specs.Told.{any_climbs}
+use Rattle.explain.specs.Played.{IsFound}
+use Rattle.explain.proofs.Running.{nowhere}
+use Rattle.explain.proofs.history.explain_noted.Goals as goal
+
+pub returns-in-Ok-None : goal.returns-in-Ok-None
+returns-in-Ok-None c =
+    inr (nowhere c.args.base.now c.in-Ok-trace.trace _ c.in-Ok-trace.ensures
+    (sym (c.any_climbs.ensures ∙ ap any_climbs c.as_slice-2.ensures) ∙ c.if-any_climbs.false)
+    (subst (λ (found : Option (Vec Placed Global)). IsFound c.args.base.now c.in-Ok-trace.trace (Ok found)) c.in-Ok-None.field-0-is c.in-Ok-None.ensures))
