@@ -31,7 +31,8 @@ pub record StartsOn (image : List ℕ) (w : WorldOf (List ℕ)) : Type 0 where
   pub well : IsWellFormed (blocks_of image)
   pub mounted : IsMounted blocks_of never image w
 
--- A run of these events on a disk in memory with these bytes: the world as a mount leaves it, what the events come to, the harts that they leave.
+-- A run of these events on a disk in memory with these bytes: the world as a mount leaves it, what the events come to, the harts that they
+-- leave.
 pub record RunOn (image : List ℕ) (events : List Event) : Type 0 where
   pub world : WorldOf (List ℕ)
   pub outcomes : List Came
@@ -47,7 +48,8 @@ pub record ExplainsRun (image : List ℕ) (events : List Event) (list : List Pla
 -- in each history of the run some step found no room
 abbrev pub NeverFoundRoom : (image : List ℕ) (events : List Event) → RunOn image events → Type 0
 NeverFoundRoom image events r =
-    (history : List (EventOf Call Outside)) → IsHistory blocks_of never r.world.sizes r.world.harts events r.outcomes r.new history → FoundRoom blocks_of never r.world history → ⊥
+    (history : List (EventOf Call Outside)) → IsHistory blocks_of never r.world.sizes r.world.harts events r.outcomes r.new history
+    → FoundRoom blocks_of never r.world history → ⊥
 
 -- A step of such a run found no room: a reply says so, or it is one of a call that hasn't replied.
 pub record FindsNoRoom (image : List ℕ) (events : List Event) : Type 0 where
@@ -72,12 +74,14 @@ IsRefusedSo image events (refused.Damaged d) = IsFirstDamage (blocks_of image) d
 IsRefusedSo image events refused.FullSeen = FindsNoRoom image events
 IsRefusedSo image events refused.Climbs = HasClimbed image events
 
--- Why there is no list that explains this trace from this tree: a reply in it found no room, or none explains it though no path climbs; or the path of a
+-- Why there is no list that explains this trace from this tree: a reply in it found no room, or none explains it though no path climbs; or
+-- the path of a
 -- call has the element "..", or memory was refused.
 abbrev pub IsRefusedFor : TreeData → Trace → ExplainRefused → Type 0
 IsRefusedFor base t refused.NoMemory = Unit {0}
 IsRefusedFor base t (refused.Damaged d) = ⊥
-IsRefusedFor base t refused.FullSeen = (any_full t.calls ≡ true) ⊎ ((any_climbs t.calls ≡ false) × ((list : List Placed) → Explains base t list → ⊥))
+IsRefusedFor base t refused.FullSeen =
+    (any_full t.calls ≡ true) ⊎ ((any_climbs t.calls ≡ false) × ((list : List Placed) → Explains base t list → ⊥))
 IsRefusedFor base t refused.Climbs = any_climbs t.calls ≡ true
 
 -- a list that explains the trace from the tree, or why there is none
