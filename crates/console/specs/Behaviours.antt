@@ -25,13 +25,16 @@ in_case true this other = this
 in_case false this other = other
 
 -- after the first part, which came to this in u, the second one; a fault is the end
-abbrev pub GoesOn : {S A B : Type 0} → (A → Behaviour S B) → List EventOfCall → List ℕ → Result A ConsoleFault → S → List EventOfCall → List ℕ → Result B ConsoleFault → S → Type 0
-GoesOn second first front (Ok a) u events text result t = (rest : List EventOfCall) × (back : List ℕ) × second a u rest back result t × (events ≡ first ++ rest) × (text ≡ front ++ back)
+abbrev pub GoesOn : {S A B : Type 0} → (A → Behaviour S B) → List EventOfCall → List ℕ → Result A ConsoleFault → S → List EventOfCall
+    → List ℕ → Result B ConsoleFault → S → Type 0
+GoesOn second first front (Ok a) u events text result t =
+    (rest : List EventOfCall) × (back : List ℕ) × second a u rest back result t × (events ≡ first ++ rest) × (text ≡ front ++ back)
 GoesOn second first front (Err fault) u events text result t = (events ≡ first) × (text ≡ front) × (result ≡ Err fault) × (t ≡ u)
 
 unfoldable pub followed_by : {S A B : Type 0} → Behaviour S A → (A → Behaviour S B) → Behaviour S B
 followed_by {S} {A} one second s events text result t =
-    (first : List EventOfCall) × (front : List ℕ) × (ends : Result A ConsoleFault) × (u : S) × one s first front ends u × GoesOn second first front ends u events text result t
+    (first : List EventOfCall) × (front : List ℕ) × (ends : Result A ConsoleFault) × (u : S) × one s first front ends u
+    × GoesOn second first front ends u events text result t
 
 -- this value, or memory was refused; nothing has happened
 abbrev pub IsOrMemory : {A : Type 0} → A → Result A ConsoleFault → Type 0
@@ -72,11 +75,13 @@ IfTold (Err (faults.Image f)) P = Unit {0}
 IfTold (Err (faults.Read e)) P = Unit {0}
 IfTold (Err (faults.Line n why)) P = Unit {0}
 
-pub record Told (out : Option (List ℕ)) (notes : NotesOf) (events : List EventOfCall) (text : List ℕ) (out' : Option (List ℕ)) (notes' : NotesOf) : Type 0 where
+pub record Told (out : Option (List ℕ)) (notes : NotesOf) (events : List EventOfCall) (text : List ℕ) (out' : Option (List ℕ))
+    (notes' : NotesOf) : Type 0 where
   pub printed : Appends out out' text
   pub noted : notes' ≡ all_noted notes events
 
-pub record Runs {S A : Type 0} (behaviour : Behaviour S A) (s : S) (out : Option (List ℕ)) (notes : NotesOf) (result : Result A ConsoleFault) (t : S) (out' : Option (List ℕ)) (notes' : NotesOf) : Type 0 where
+pub record Runs {S A : Type 0} (behaviour : Behaviour S A) (s : S) (out : Option (List ℕ)) (notes : NotesOf)
+    (result : Result A ConsoleFault) (t : S) (out' : Option (List ℕ)) (notes' : NotesOf) : Type 0 where
   pub events : List EventOfCall
   pub text : List ℕ
   pub does : behaviour s events text result t

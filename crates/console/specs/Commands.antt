@@ -99,7 +99,8 @@ wait_text hart (Some d) = decimal hart ++ codes " waits\n"
 
 module _ {D : Type 0} (contents : D → List (List ℕ)) (failures : D → ℕ) where
   -- the event is made, told and noted
-  pub record HappensSo (e : Event) (verb : Verb) (s : RunOf D) (events : List EventOfCall) (text : List ℕ) (result : Result Flow ConsoleFault) (t : RunOf D) : Type 0 where
+  pub record HappensSo (e : Event) (verb : Verb) (s : RunOf D) (events : List EventOfCall) (text : List ℕ)
+      (result : Result Flow ConsoleFault) (t : RunOf D) : Type 0 where
     pub came : Came
     pub happens : Happens contents failures s.session (record { event = e; verb = verb; came = came }) t.session
     pub left : t.left ≡ s.left
@@ -114,7 +115,8 @@ module _ {D : Type 0} (contents : D → List (List ℕ)) (failures : D → ℕ) 
   abbrev pub starts : ℕ → said.Call → Behaviour (RunOf D) Flow
   starts hart call = followed_by (takes_memory (called call)) (λ c. happens (event.Start hart c) (verb_of c))
 
-  -- A hart that has a call makes a step of it, unless enough have run. One that has none starts the next of those that are still to be started by itself.
+  -- A hart that has a call makes a step of it, unless enough have run. One that has none starts the next of those that are still to be
+  -- started by itself.
   abbrev pub acts_as : Option Until → ℕ → Option Doing → List said.Call → Behaviour (RunOf D) Flow
   acts_as until hart (Some d) calls = in_case (is_enough until d) (gives Rests) (happens (event.Step hart) d.verb)
   acts_as until hart None [] = gives Rests
@@ -131,7 +133,8 @@ module _ {D : Type 0} (contents : D → List (List ℕ)) (failures : D → ℕ) 
   -- turn after turn, at most n
   unfoldable pub turns : Plan → List ℕ → ℕ → Flow → Behaviour (RunOf D) Flow
   turns plan harts zero last = gives last
-  turns plan harts (suc n) last = in_case (goes_on last) (followed_by (turn plan.until harts Rests) (λ flow. turns plan harts n flow)) (gives last)
+  turns plan harts (suc n) last =
+      in_case (goes_on last) (followed_by (turn plan.until harts Rests) (λ flow. turns plan harts n flow)) (gives last)
 
   -- each of these harts that has a call waits
   unfoldable pub tells_waits : List ℕ → Behaviour (RunOf D) (Unit {0})

@@ -53,7 +53,8 @@ last_text first (note ∷ notes) = (if nat_lt note.number first then [] else las
 
 -- the event's number, and what it is in its hart's column, eight wide; in the last one for a hart that there isn't
 abbrev pub timeline_line : Note → List ℕ
-timeline_line note = styled_decimal (format_spec 32 0 0 6 (2 ^ 64 - 1)) note.number ++ codes "  " ++ replicate (min (8 * note.hart) 56) 32 ++ cell note.what ++ codes "\n"
+timeline_line note = styled_decimal (format_spec 32 0 0 6 (2 ^ 64 - 1)) note.number ++ codes "  " ++ replicate (min (8 * note.hart) 56) 32
+    ++ cell note.what ++ codes "\n"
 
 unfoldable pub timeline_rows : List Note → List ℕ
 timeline_rows [] = []

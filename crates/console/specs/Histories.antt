@@ -58,7 +58,8 @@ IsUntold (Err (faults.Line n why)) = ⊥
 IsUntold (Err (faults.Stopped stop)) = ⊥
 
 -- the history is printed behind all else
-pub record IsTold (image : List ℕ) (events : List Event) (result : Result (Unit {0}) ConsoleFault) (out out' : Option (List ℕ)) : Type 0 where
+pub record IsTold (image : List ℕ) (events : List Event) (result : Result (Unit {0}) ConsoleFault)
+    (out out' : Option (List ℕ)) : Type 0 where
   pub text : List ℕ
   pub is_history : IsHistoryText image events text
   pub ends : result ≡ Ok tt

@@ -50,7 +50,8 @@ waits_text false = codes "\n"
 -- a hart that has a call: which, its last step, what it has since, and whether the step that was tried since waited
 abbrev pub doing_text : ℕ → Option Doing → List ℕ
 doing_text hart None = []
-doing_text hart (Some d) = decimal hart ++ codes " " ++ word_of d.verb ++ step_text d.last ++ locks_text (locks_of d) ++ joined_text (is_joined d) ++ waits_text d.waits
+doing_text hart (Some d) = decimal hart ++ codes " " ++ word_of d.verb ++ step_text d.last ++ locks_text (locks_of d)
+    ++ joined_text (is_joined d) ++ waits_text d.waits
 
 -- of each of these harts
 unfoldable pub calls_text : List ℕ → List (Option Doing) → List ℕ
@@ -154,20 +155,23 @@ module _ {D : Type 0} (contents : D → List (List ℕ)) (failures : D → ℕ) 
   prompts_all n (line ∷ lines) = followed_by (prompts n (Some line)) (λ more. in_case more (prompts_all (n + 1) lines) (gives tt))
 
   -- the next line of a reader is answered, or its end
-  pub record PromptsLine (n : ℕ) (old new : Option (List ℕ)) (s : RunOf D) (out : Option (List ℕ)) (notes : NotesOf) (result : Result Bool ConsoleFault) (t : RunOf D) (out' : Option (List ℕ)) (notes' : NotesOf) : Type 0 where
+  pub record PromptsLine (n : ℕ) (old new : Option (List ℕ)) (s : RunOf D) (out : Option (List ℕ)) (notes : NotesOf)
+      (result : Result Bool ConsoleFault) (t : RunOf D) (out' : Option (List ℕ)) (notes' : NotesOf) : Type 0 where
     pub next : Option (List ℕ)
     pub is_next : IfSome old (λ bytes. next ≡ first_of (typed_lines bytes))
     pub follows : Follows result old next new
     pub runs : Runs (prompts n next) s out notes result t out' notes'
 
   -- all lines of a reader, the first of number n
-  pub record PromptsAll (n : ℕ) (typed : Option (List ℕ)) (s : RunOf D) (out : Option (List ℕ)) (notes : NotesOf) (result : Result (Unit {0}) ConsoleFault) (t : RunOf D) (out' : Option (List ℕ)) (notes' : NotesOf) : Type 0 where
+  pub record PromptsAll (n : ℕ) (typed : Option (List ℕ)) (s : RunOf D) (out : Option (List ℕ)) (notes : NotesOf)
+      (result : Result (Unit {0}) ConsoleFault) (t : RunOf D) (out' : Option (List ℕ)) (notes' : NotesOf) : Type 0 where
     pub lines : List (List ℕ)
     pub are_typed : IfSome typed (λ bytes. lines ≡ typed_lines bytes)
     pub runs : Runs (prompts_all n lines) s out notes result t out' notes'
 
   -- the lines are answered, and then the last events are told, and the history on this image
-  pub record PromptsLines (mode : Mode) (image : List ℕ) (s : SessionOf D) (typed : Option (List ℕ)) (result : Result (Unit {0}) ConsoleFault) (t : SessionOf D) (out out' : Option (List ℕ)) : Type 0 where
+  pub record PromptsLines (mode : Mode) (image : List ℕ) (s : SessionOf D) (typed : Option (List ℕ))
+      (result : Result (Unit {0}) ConsoleFault) (t : SessionOf D) (out out' : Option (List ℕ)) : Type 0 where
     pub left : Left
     pub ends : Result (Unit {0}) ConsoleFault
     pub between : Option (List ℕ)
@@ -175,11 +179,15 @@ module _ {D : Type 0} (contents : D → List (List ℕ)) (failures : D → ℕ) 
     pub answers : PromptsAll 1 typed (state s none_left) out (no_notes (most_noted mode) mode.explain) ends (state t left) between notes
     pub end : EndsSo mode image notes ends between result out'
 
-  abbrev pub PromptsReader : Mode → List ℕ → SessionOf D → Option (List ℕ) → Result (Unit {0}) ConsoleFault → SessionOf D → Option (List ℕ) → Option (List ℕ) → Type 0
-  PromptsReader mode image s typed result t out out' = PromptsLines mode image s typed result t out out' ⊎ RunsNone contents failures s result t out out'
+  abbrev pub PromptsReader : Mode → List ℕ → SessionOf D → Option (List ℕ) → Result (Unit {0}) ConsoleFault → SessionOf D → Option (List ℕ)
+      → Option (List ℕ) → Type 0
+  PromptsReader mode image s typed result t out out' =
+      PromptsLines mode image s typed result t out out' ⊎ RunsNone contents failures s result t out out'
 
-  -- From a file system that is mounted on this disk, in which no hart has a call, the lines make another; the disk as it is there is handed out.
-  pub record PromptsOn (mode : Mode) (bytes : List ℕ) (disk : D) (typed : Option (List ℕ)) (result : Result D ConsoleFault) (out out' : Option (List ℕ)) : Type 0 where
+  -- From a file system that is mounted on this disk, in which no hart has a call, the lines make another; the disk as it is there is
+  -- handed out.
+  pub record PromptsOn (mode : Mode) (bytes : List ℕ) (disk : D) (typed : Option (List ℕ)) (result : Result D ConsoleFault)
+      (out out' : Option (List ℕ)) : Type 0 where
     pub first : SessionOf D
     pub last : SessionOf D
     pub ended : Result (Unit {0}) ConsoleFault
@@ -191,5 +199,7 @@ module _ {D : Type 0} (contents : D → List (List ℕ)) (failures : D → ℕ) 
     pub hands : HandsOut last.world.harts.core.log.cache.device ended result
 
 -- on a disk in memory, or the image isn't taken
-abbrev pub PromptsImage : List ℕ → Mode → Option (Vec ℕ Global) → Option (List ℕ) → Result (List ℕ) ConsoleFault → Option (List ℕ) → Option (List ℕ) → Type 0
-PromptsImage help mode image typed result out out' = PromptsOn blocks_of (λ d. 0) help mode (bytes_for image) (bytes_for image) typed result out out' ⊎ TakesNoImage result out out'
+abbrev pub PromptsImage : List ℕ → Mode → Option (Vec ℕ Global) → Option (List ℕ) → Result (List ℕ) ConsoleFault → Option (List ℕ)
+    → Option (List ℕ) → Type 0
+PromptsImage help mode image typed result out out' =
+    PromptsOn blocks_of (λ d. 0) help mode (bytes_for image) (bytes_for image) typed result out out' ⊎ TakesNoImage result out out'

@@ -38,16 +38,21 @@ Prints ends text out result out' = ((result ≡ ends) × Appends out out' text) 
 
 -- behind all else the history of the events on this image, where it is wanted
 abbrev pub TellsWanted : Mode → List ℕ → NotesOf → Option (List ℕ) → Result (Unit {0}) ConsoleFault → Option (List ℕ) → Type 0
-TellsWanted mode image notes out result out' = WhereSet mode.explain (TellsHistory image (events_in notes.kept) result out out') ((result ≡ Ok tt) × (out' ≡ out))
+TellsWanted mode image notes out result out' =
+    WhereSet mode.explain (TellsHistory image (events_in notes.kept) result out out') ((result ≡ Ok tt) × (out' ≡ out))
 
 -- the last events, the timeline and the history; or one of them isn't written
 abbrev pub PrintsAll : Mode → List ℕ → NotesOf → Option (List ℕ) → Result (Unit {0}) ConsoleFault → Option (List ℕ) → Type 0
-PrintsAll mode image notes out result out' = ((between : Option (List ℕ)) × Appends out between (end_text mode notes) × TellsWanted mode image notes between result out') ⊎ IsUnwritten result
+PrintsAll mode image notes out result out' =
+    ((between : Option (List ℕ)) × Appends out between (end_text mode notes) × TellsWanted mode image notes between result out')
+    ⊎ IsUnwritten result
 
 -- The last events are told at the script's end, and where a call was stopped; the history only at its end.
-abbrev pub EndsSo : Mode → List ℕ → NotesOf → Result (Unit {0}) ConsoleFault → Option (List ℕ) → Result (Unit {0}) ConsoleFault → Option (List ℕ) → Type 0
+abbrev pub EndsSo : Mode → List ℕ → NotesOf → Result (Unit {0}) ConsoleFault → Option (List ℕ) → Result (Unit {0}) ConsoleFault
+    → Option (List ℕ) → Type 0
 EndsSo mode image notes (Ok u) out result out' = PrintsAll mode image notes out result out'
-EndsSo mode image notes (Err (faults.Stopped stop)) out result out' = Prints (Err (faults.Stopped stop)) (end_text mode notes) out result out'
+EndsSo mode image notes (Err (faults.Stopped stop)) out result out' =
+    Prints (Err (faults.Stopped stop)) (end_text mode notes) out result out'
 EndsSo mode image notes (Err faults.Memory) out result out' = result ≡ Err faults.Memory
 EndsSo mode image notes (Err (faults.Write e)) out result out' = result ≡ Err (faults.Write e)
 EndsSo mode image notes (Err (faults.Image f)) out result out' = result ≡ Err (faults.Image f)
@@ -79,35 +84,44 @@ IsReadFault (Err (faults.Stopped stop)) = ⊥
 
 module _ {D : Type 0} (contents : D → List (List ℕ)) (failures : D → ℕ) where
   -- the lines are run, and then the last events are told, and the history on this image
-  pub record RunsLines (mode : Mode) (image : List ℕ) (s : SessionOf D) (course : CourseOf) (result : Result (Unit {0}) ConsoleFault) (t : SessionOf D) (out out' : Option (List ℕ)) : Type 0 where
+  pub record RunsLines (mode : Mode) (image : List ℕ) (s : SessionOf D) (course : CourseOf) (result : Result (Unit {0}) ConsoleFault)
+      (t : SessionOf D) (out out' : Option (List ℕ)) : Type 0 where
     pub left : Left
     pub ends : Result (Unit {0}) ConsoleFault
     pub between : Option (List ℕ)
     pub notes : NotesOf
-    pub runs : Runs (lines contents failures course.lines) (state s course.left) out (no_notes (most_noted mode) mode.explain) ends (state t left) between notes
+    pub runs : Runs (lines contents failures course.lines) (state s course.left) out (no_notes (most_noted mode) mode.explain) ends
+        (state t left) between notes
     pub end : EndsSo mode image notes ends between result out'
 
   -- nothing was done and nothing printed, for want of memory
-  pub record RunsNone (s : SessionOf D) (result : Result (Unit {0}) ConsoleFault) (t : SessionOf D) (out out' : Option (List ℕ)) : Type 0 where
+  pub record RunsNone (s : SessionOf D) (result : Result (Unit {0}) ConsoleFault) (t : SessionOf D)
+      (out out' : Option (List ℕ)) : Type 0 where
     pub memory : result ≡ Err faults.Memory
     pub same : t ≡ s
     pub silent : out' ≡ out
 
-  abbrev pub RunsCourse : Mode → List ℕ → SessionOf D → CourseOf → Result (Unit {0}) ConsoleFault → SessionOf D → Option (List ℕ) → Option (List ℕ) → Type 0
+  abbrev pub RunsCourse : Mode → List ℕ → SessionOf D → CourseOf → Result (Unit {0}) ConsoleFault → SessionOf D → Option (List ℕ)
+      → Option (List ℕ) → Type 0
   RunsCourse mode image s course result t out out' = RunsLines mode image s course result t out out' ⊎ RunsNone s result t out out'
 
   -- what a script runs, or its bad line
-  abbrev pub RunsScript : Mode → List ℕ → SessionOf D → Result CourseOf ℕ → Result (Unit {0}) ConsoleFault → SessionOf D → Option (List ℕ) → Option (List ℕ) → Type 0
+  abbrev pub RunsScript : Mode → List ℕ → SessionOf D → Result CourseOf ℕ → Result (Unit {0}) ConsoleFault → SessionOf D → Option (List ℕ)
+      → Option (List ℕ) → Type 0
   RunsScript mode image s (Err n) result t out out' = EndsOn n result × (t ≡ s) × (out' ≡ out)
   RunsScript mode image s (Ok course) result t out out' = RunsCourse mode image s course result t out out'
 
   -- the script isn't read
-  pub record Unread (s : SessionOf D) (result : Result (Unit {0}) ConsoleFault) (t : SessionOf D) (out out' : Option (List ℕ)) : Type 0 where
+  pub record Unread (s : SessionOf D) (result : Result (Unit {0}) ConsoleFault) (t : SessionOf D)
+      (out out' : Option (List ℕ)) : Type 0 where
     pub fault : IsReadFault result
     pub same : t ≡ s
     pub silent : out' ≡ out
 
   -- a script that is read to its end from a reader, of which may be known what it gives; or that isn't
-  abbrev pub RunsReader : Mode → List ℕ → SessionOf D → Option (List ℕ) → Result (Unit {0}) ConsoleFault → SessionOf D → Option (List ℕ) → Option (List ℕ) → Type 0
+  abbrev pub RunsReader : Mode → List ℕ → SessionOf D → Option (List ℕ) → Result (Unit {0}) ConsoleFault → SessionOf D → Option (List ℕ)
+      → Option (List ℕ) → Type 0
   RunsReader mode image s script result t out out' =
-      Unread s result t out out' ⊎ ((text : List ℕ) × IfSome script (λ bytes. text ≡ bytes) × RunsScript mode image s (script_course mode.schedule text) result t out out')
+      Unread s result t out out'
+      ⊎ ((text : List ℕ) × IfSome script (λ bytes. text ≡ bytes)
+      × RunsScript mode image s (script_course mode.schedule text) result t out out')

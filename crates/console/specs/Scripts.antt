@@ -35,9 +35,11 @@ HandsOut disk (Ok u) result = result ≡ Ok disk
 HandsOut disk (Err fault) result = result ≡ Err fault
 
 module _ {D : Type 0} (contents : D → List (List ℕ)) (failures : D → ℕ) where
-  -- From a file system that is mounted on this disk, in which no hart has a call, the script makes another; the disk as it is there is handed out. The
+  -- From a file system that is mounted on this disk, in which no hart has a call, the script makes another; the disk as it is there is
+  -- handed out. The
   -- history that is printed is one on the disk's bytes.
-  pub record RunsOn (mode : Mode) (bytes : List ℕ) (disk : D) (script : Option (List ℕ)) (result : Result D ConsoleFault) (out out' : Option (List ℕ)) : Type 0 where
+  pub record RunsOn (mode : Mode) (bytes : List ℕ) (disk : D) (script : Option (List ℕ)) (result : Result D ConsoleFault)
+      (out out' : Option (List ℕ)) : Type 0 where
     pub first : SessionOf D
     pub last : SessionOf D
     pub ended : Result (Unit {0}) ConsoleFault
@@ -59,7 +61,8 @@ Tells disk (Err (faults.Line n why)) out out' = ⊥
 Tells disk (Err (faults.Stopped stop)) out out' = ⊥
 
 -- a disk in memory is examined, or the script is run on it, or it isn't taken
-abbrev pub RunsImage : Mode → Option (Vec ℕ Global) → Option (List ℕ) → Result (List ℕ) ConsoleFault → Option (List ℕ) → Option (List ℕ) → Type 0
+abbrev pub RunsImage : Mode → Option (Vec ℕ Global) → Option (List ℕ) → Result (List ℕ) ConsoleFault → Option (List ℕ) → Option (List ℕ)
+    → Type 0
 RunsImage mode image script result out out' =
     WhereSet mode.check (Tells (bytes_for image) result out out')
     (RunsOn blocks_of (λ d. 0) mode (bytes_for image) (bytes_for image) script result out out' ⊎ TakesNoImage result out out')

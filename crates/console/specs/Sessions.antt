@@ -16,7 +16,8 @@ use Rattle.console.specs.declared.verb.Verb.{Verb}
 use Rattle.console.specs.declared.doing.Doing.{Doing}
 use Rattle.console.specs.Numbers.{kind_place}
 
--- ---- what a hart's call has done so far: which call it is, how many of its steps of each kind have run, which was the last, and whether one waited since
+-- ---- what a hart's call has done so far: which call it is, how many of its steps of each kind have run, which was the last, and whether
+-- one waited since
 
 -- counted up to the greatest u32
 abbrev pub one_more : ℕ → ℕ
@@ -79,7 +80,10 @@ pub record SessionOf (D : Type 0) : Type 0 where
 module _ {D : Type 0} (contents : D → List (List ℕ)) (failures : D → ℕ) where
   -- the event makes one file system of the other, and comes to this
   pub record Happens (s : SessionOf D) (x : EventOfCall) (t : SessionOf D) : Type 0 where
-    pub makes : Makes contents failures s.world.sizes (with_answer (event_of x.event) (said_of x.came (shared_of contents failures t.world.harts))) s.world.harts (came_of x.came) t.world.harts
-    pub honest : Answers contents failures s.world.sizes (with_answer (event_of x.event) (said_of x.came (shared_of contents failures t.world.harts))) s.world.harts
+    pub makes : Makes contents failures s.world.sizes
+        (with_answer (event_of x.event) (said_of x.came (shared_of contents failures t.world.harts))) s.world.harts
+        (came_of x.came) t.world.harts
+    pub honest : Answers contents failures s.world.sizes
+        (with_answer (event_of x.event) (said_of x.came (shared_of contents failures t.world.harts))) s.world.harts
     pub sizes : t.world.sizes ≡ s.world.sizes
     pub doing : t.doing ≡ set s.doing (hart_in x.event) (done_after x.verb x.came (doing_at (hart_in x.event) s.doing))

@@ -44,7 +44,8 @@ fn happen<D: Device, W: Write>(
     copy: Option<Event>,
 ) -> Result<Flow, ConsoleFault>
     requires { copy ≡ copy_for desk.old.notes.kept event }
-    ensures { Runs (happens D.contents D.failures event verb) (state session.old desk.old.queues) (W.contents out.old) desk.old.notes result (state session.new desk.new.queues) (W.contents out.new) desk.new.notes }
+    ensures { Runs (happens D.contents D.failures event verb) (state session.old desk.old.queues) (W.contents out.old) desk.old.notes result
+        (state session.new desk.new.queues) (W.contents out.new) desk.new.notes }
 {
     let hart = hart_in(&event);
     let came = session.event(verb, event);
@@ -60,7 +61,8 @@ fn start<D: Device, W: Write>(
     hart: u8,
     call: CallLine,
 ) -> Result<Flow, ConsoleFault>
-    ensures { Runs (starts D.contents D.failures hart (call_said call)) (state session.old desk.old.queues) (W.contents out.old) desk.old.notes result (state session.new desk.new.queues) (W.contents out.new) desk.new.notes }
+    ensures { Runs (starts D.contents D.failures hart (call_said call)) (state session.old desk.old.queues)
+        (W.contents out.old) desk.old.notes result (state session.new desk.new.queues) (W.contents out.new) desk.new.notes }
 {
     let call = call_of(alloc, call)?;
     let verb = Verb::of(&call);
@@ -78,7 +80,8 @@ fn act<D: Device, W: Write>(
     until: Option<Until>,
     hart: u8,
 ) -> Result<Flow, ConsoleFault>
-    ensures { Runs (acts D.contents D.failures until hart) (state session.old desk.old.queues) (W.contents out.old) desk.old.notes result (state session.new desk.new.queues) (W.contents out.new) desk.new.notes }
+    ensures { Runs (acts D.contents D.failures until hart) (state session.old desk.old.queues) (W.contents out.old) desk.old.notes result
+        (state session.new desk.new.queues) (W.contents out.new) desk.new.notes }
 {
     match session.doing(hart) {
         Some(doing) => {
@@ -105,7 +108,8 @@ fn turn<D: Device, W: Write>(
     until: Option<Until>,
     harts: &[u8],
 ) -> Result<Flow, ConsoleFault>
-    ensures { Runs (turn D.contents D.failures until harts.now Flow.Rests) (state session.old desk.old.queues) (W.contents out.old) desk.old.notes result (state session.new desk.new.queues) (W.contents out.new) desk.new.notes }
+    ensures { Runs (turn D.contents D.failures until harts.now Flow.Rests) (state session.old desk.old.queues)
+        (W.contents out.old) desk.old.notes result (state session.new desk.new.queues) (W.contents out.new) desk.new.notes }
 {
     let mut flow = Flow::Rests;
     for hart in harts {
@@ -123,7 +127,8 @@ fn turns<D: Device, W: Write>(
     plan: &Plan,
     harts: &[u8],
 ) -> Result<Flow, ConsoleFault>
-    ensures { Runs (turns D.contents D.failures plan.now harts.now plan.now.most Flow.Moves) (state session.old desk.old.queues) (W.contents out.old) desk.old.notes result (state session.new desk.new.queues) (W.contents out.new) desk.new.notes }
+    ensures { Runs (turns D.contents D.failures plan.now harts.now plan.now.most Flow.Moves) (state session.old desk.old.queues)
+        (W.contents out.old) desk.old.notes result (state session.new desk.new.queues) (W.contents out.new) desk.new.notes }
 {
     let mut last = Flow::Moves;
     for _turn in 0..plan.most {
@@ -141,7 +146,9 @@ fn tell_waits<D: Device, W: Write>(
     out: &mut W,
     harts: &[u8],
 ) -> Result<(), ConsoleFault>
-    ensures { (left : Left) (notes : NotesOf) → Runs (tells_waits D.contents D.failures harts.now) (state session.now left) (W.contents out.old) notes result (state session.now left) (W.contents out.new) notes }
+    ensures { (left : Left) (notes : NotesOf)
+        → Runs (tells_waits D.contents D.failures harts.now) (state session.now left) (W.contents out.old) notes result
+        (state session.now left) (W.contents out.new) notes }
 {
     for hart in harts {
         tell_wait(session, out, *hart)?;
@@ -173,7 +180,8 @@ fn settle<D: Device, W: Write>(
     plan: &Plan,
     harts: &[u8],
 ) -> Result<(), ConsoleFault>
-    ensures { Runs (settles D.contents D.failures plan.now harts.now) (state session.old desk.old.queues) (W.contents out.old) desk.old.notes result (state session.new desk.new.queues) (W.contents out.new) desk.new.notes }
+    ensures { Runs (settles D.contents D.failures plan.now harts.now) (state session.old desk.old.queues)
+        (W.contents out.old) desk.old.notes result (state session.new desk.new.queues) (W.contents out.new) desk.new.notes }
 {
     let last = turns(alloc, session, desk, out, plan, harts)?;
     match last {
@@ -191,7 +199,8 @@ pub fn run_line<D: Device, W: Write>(
     out: &mut W,
     command: Command,
 ) -> Result<(), ConsoleFault>
-    ensures { Runs (line D.contents D.failures (line_said command)) (state session.old desk.old.queues) (W.contents out.old) desk.old.notes result (state session.new desk.new.queues) (W.contents out.new) desk.new.notes }
+    ensures { Runs (line D.contents D.failures (line_said command)) (state session.old desk.old.queues)
+        (W.contents out.old) desk.old.notes result (state session.new desk.new.queues) (W.contents out.new) desk.new.notes }
 {
     match command {
         Command::Start { hart, call } => {
@@ -229,7 +238,8 @@ pub fn run_lines<D: Device, W: Write>(
     out: &mut W,
     commands: Vec<ScriptLine>,
 ) -> Result<(), ConsoleFault>
-    ensures { Runs (lines D.contents D.failures (map (λ l. line_said l.command) commands.items)) (state session.old desk.old.queues) (W.contents out.old) desk.old.notes result (state session.new desk.new.queues) (W.contents out.new) desk.new.notes }
+    ensures { Runs (lines D.contents D.failures (map (λ l. line_said l.command) commands.items)) (state session.old desk.old.queues)
+        (W.contents out.old) desk.old.notes result (state session.new desk.new.queues) (W.contents out.new) desk.new.notes }
 {
     for line in commands {
         run_line(alloc, session, desk, out, line.command)?;

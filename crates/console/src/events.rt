@@ -82,7 +82,8 @@ fn write_row<W: Write>(out: &mut W, note: &Note) -> io::Result<()>
 }
 
 fn write_number<W: Write>(out: &mut W, number: u64) -> io::Result<()>
-    ensures { OnOk result (Appends (W.contents out.old) (W.contents out.new) (styled_decimal (format_spec 32 0 0 6 (2 ^ 64 - 1)) number ++ codes "  ")) }
+    ensures { OnOk result (Appends (W.contents out.old) (W.contents out.new)
+        (styled_decimal (format_spec 32 0 0 6 (2 ^ 64 - 1)) number ++ codes "  ")) }
 {
     write!(out, "{number:6}  ")
 }
@@ -133,7 +134,8 @@ fn write_stat<W: Write>(out: &mut W, stat: &Stat) -> io::Result<()>
 }
 
 fn write_state<W: Write>(out: &mut W, kind: u8, nlink: u16, size: u64) -> io::Result<()>
-    ensures { OnOk result (Appends (W.contents out.old) (W.contents out.new) (codes " " ++ decimal kind ++ codes " " ++ decimal nlink ++ codes " " ++ decimal size)) }
+    ensures { OnOk result (Appends (W.contents out.old) (W.contents out.new)
+        (codes " " ++ decimal kind ++ codes " " ++ decimal nlink ++ codes " " ++ decimal size)) }
 {
     write!(out, " {kind} {nlink} {size}")
 }

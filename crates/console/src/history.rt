@@ -63,7 +63,8 @@ fn write_why<W: Write>(out: &mut W, why: ExplainRefused) -> Result<(), ConsoleFa
 }
 
 fn write_refused<W: Write>(out: &mut W, number: u8, name: &str) -> io::Result<()>
-    ensures { OnOk result (Appends (W.contents out.old) (W.contents out.new) (codes "history refused " ++ decimal number ++ codes " " ++ name.now ++ codes "\n")) }
+    ensures { OnOk result (Appends (W.contents out.old) (W.contents out.new)
+        (codes "history refused " ++ decimal number ++ codes " " ++ name.now ++ codes "\n")) }
 {
     write!(out, "history refused {number} {name}")?;
     writeln!(out)

@@ -121,7 +121,8 @@ fn do_asked<D: Device, W: Write>(
     help: &str,
     asked: Asked,
 ) -> Result<bool, ConsoleFault>
-    ensures { Runs (does D.contents D.failures help.now (asked_by asked)) (state session.old desk.old.queues) (W.contents out.old) desk.old.notes result (state session.new desk.new.queues) (W.contents out.new) desk.new.notes }
+    ensures { Runs (does D.contents D.failures help.now (asked_by asked)) (state session.old desk.old.queues)
+        (W.contents out.old) desk.old.notes result (state session.new desk.new.queues) (W.contents out.new) desk.new.notes }
 {
     match asked {
         Asked::Nothing => Ok(true),
@@ -151,7 +152,8 @@ fn answer<D: Device, W: Write>(
     number: u64,
     line: &[u8],
 ) -> Result<bool, ConsoleFault>
-    ensures { Runs (answers D.contents D.failures help.now number line.now) (state session.old desk.old.queues) (W.contents out.old) desk.old.notes result (state session.new desk.new.queues) (W.contents out.new) desk.new.notes }
+    ensures { Runs (answers D.contents D.failures help.now number line.now) (state session.old desk.old.queues)
+        (W.contents out.old) desk.old.notes result (state session.new desk.new.queues) (W.contents out.new) desk.new.notes }
 {
     match asked_in(alloc, number, line) {
         Ok(asked) => do_asked(alloc, session, desk, out, help, asked),
@@ -174,7 +176,9 @@ fn prompt_line<D: Device, R: BufRead, W: Write>(
     help: &str,
     number: u64,
 ) -> Result<bool, ConsoleFault>
-    ensures { PromptsLine D.contents D.failures help.now number (R.remaining typed.old) (R.remaining typed.new) (state session.old desk.old.queues) (W.contents out.old) desk.old.notes result (state session.new desk.new.queues) (W.contents out.new) desk.new.notes }
+    ensures { PromptsLine D.contents D.failures help.now number (R.remaining typed.old) (R.remaining typed.new)
+        (state session.old desk.old.queues) (W.contents out.old) desk.old.notes result (state session.new desk.new.queues)
+        (W.contents out.new) desk.new.notes }
 {
     ask(out)?;
     if read_line(typed, line)? {
@@ -193,7 +197,8 @@ fn prompt_all<D: Device, R: BufRead, W: Write>(
     out: &mut W,
     help: &str,
 ) -> Result<(), ConsoleFault>
-    ensures { PromptsAll D.contents D.failures help.now 1 (R.remaining typed.old) (state session.old desk.old.queues) (W.contents out.old) desk.old.notes result (state session.new desk.new.queues) (W.contents out.new) desk.new.notes }
+    ensures { PromptsAll D.contents D.failures help.now 1 (R.remaining typed.old) (state session.old desk.old.queues)
+        (W.contents out.old) desk.old.notes result (state session.new desk.new.queues) (W.contents out.new) desk.new.notes }
 {
     let mut line = Vec::new(alloc);
     for number in 1..u64::MAX {
@@ -215,7 +220,8 @@ pub fn prompt_on<D: Device, R: BufRead, W: Write>(
     typed: &mut R,
     out: &mut W,
 ) -> Result<(), ConsoleFault>
-    ensures { PromptsReader D.contents D.failures HELP.now mode image.now session.old (R.remaining typed.old) result session.new (W.contents out.old) (W.contents out.new) }
+    ensures { PromptsReader D.contents D.failures HELP.now mode image.now session.old (R.remaining typed.old) result session.new
+        (W.contents out.old) (W.contents out.new) }
 {
     let notes = Notes::new(alloc, most_noted(mode), mode.explain)?;
     let mut desk = Desk {

@@ -135,7 +135,8 @@ pub fn run_on<D: Device, R: Read + Drop, W: Write>(
     script: R,
     out: &mut W,
 ) -> Result<(), ConsoleFault>
-    ensures { RunsReader D.contents D.failures mode image.now session.old (R.remaining script) result session.new (W.contents out.old) (W.contents out.new) }
+    ensures { RunsReader D.contents D.failures mode image.now session.old (R.remaining script) result session.new (W.contents out.old)
+        (W.contents out.new) }
 {
     let text = read_script(alloc, script, LONGEST_SCRIPT)?;
     run_text(alloc, session, mode, image, text.as_slice(), out)
@@ -183,7 +184,8 @@ fn run_text<D: Device, W: Write>(
     text: &[u8],
     out: &mut W,
 ) -> Result<(), ConsoleFault>
-    ensures { RunsScript D.contents D.failures mode image.now session.old (script_course mode.schedule text.now) result session.new (W.contents out.old) (W.contents out.new) }
+    ensures { RunsScript D.contents D.failures mode image.now session.old (script_course mode.schedule text.now) result session.new
+        (W.contents out.old) (W.contents out.new) }
 {
     let lines = parse(alloc, text)?;
     let planned = course_of(alloc, mode.schedule, lines)?;
@@ -199,7 +201,8 @@ fn run_course<D: Device, W: Write>(
     run: Course,
     out: &mut W,
 ) -> Result<(), ConsoleFault>
-    ensures { RunsCourse D.contents D.failures mode image.now session.old (course run) result session.new (W.contents out.old) (W.contents out.new) }
+    ensures { RunsCourse D.contents D.failures mode image.now session.old (course run) result session.new (W.contents out.old)
+        (W.contents out.new) }
 {
     let Course { queues, lines } = run;
     let notes = Notes::new(alloc, most_noted(mode), mode.explain)?;

@@ -59,7 +59,9 @@ impl<D: Device> Session<D> {
     /// device that fails and want of memory hand the device back.
     pub fn mount(alloc: Global, device: D) -> Result<Session<D>, (D, MountFault)>
         ensures well { IfOk result (λ s. IsWellFormed (D.contents device)) }
-        ensures rests { IfOk result (λ s. Rests D.contents D.failures device s.world.harts × (s.world.sizes ≡ sizes_of (D.contents device)) × (s.doing ≡ replicate 8 None)) }
+        ensures rests { IfOk result
+            (λ s. Rests D.contents D.failures device s.world.harts × (s.world.sizes ≡ sizes_of (D.contents device))
+            × (s.doing ≡ replicate 8 None)) }
         ensures err { IfErr result (λ e. HandsBack D.contents D.failures device e.0 e.1) }
     {
         match World::mount(alloc, device) {
