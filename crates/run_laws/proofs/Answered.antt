@@ -69,7 +69,7 @@ module _ (sizes : Super) where
       at t [] c = (t, refl, c.0, c.1)
       at t (x ∷ xs) c = let r = at c.0 xs c.2 in (r.0, (c.0, c.1, r.1), r.2, r.3)
 
-both_of : {A : Type 0} (Is Has : A → Type 0) (xs : List A) → ((x : A) → Is x → Has x) → All Is xs → All Has xs
+pub both_of : {A : Type 0} (Is Has : A → Type 0) (xs : List A) → ((x : A) → Is x → Has x) → All Is xs → All Has xs
 both_of Is Has [] f a = All-nil Has
 both_of Is Has (x ∷ xs) f a = All-cons Has x xs (f x (All-head Is x xs a)) (both_of Is Has xs f (All-tail Is x xs a))
 

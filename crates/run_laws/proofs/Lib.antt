@@ -42,3 +42,9 @@ pub mod RecordingCalls
 pub mod Members
 pub mod Transactions
 pub mod Answered
+pub mod Leaving
+pub mod LeavingWrites
+pub mod LeavingCalls
+pub mod Standing
+pub mod Untold
+pub mod Written

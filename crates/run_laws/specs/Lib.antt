@@ -10,3 +10,5 @@ pub mod Searches
 pub mod Seen
 pub mod Transactions
 pub mod Answered
+pub mod Changes
+pub mod Standing

@@ -4,12 +4,14 @@
 #![tactic(auto)]
 
 ghost use Rattle.run_laws.specs.Answered.{CallsFindNoneWhereThereIsNone};
+ghost use Rattle.run_laws.specs.Changes.{ChangesAreTold, WritesAreMade};
 ghost use Rattle.run_laws.specs.Idle.{IdleHartsHaveBegunNothing};
 ghost use Rattle.run_laws.specs.Laws.{RunsRefineWholeInodes};
 ghost use Rattle.run_laws.specs.OneList.{RunsHaveOneList};
 ghost use Rattle.run_laws.specs.Rooms.{RoomIsToldByAnswers};
 ghost use Rattle.run_laws.specs.Searches.{ClaimsFindReferences, SearchesSeeAll};
 ghost use Rattle.run_laws.specs.Seen.{CallsLookEverywhere};
+ghost use Rattle.run_laws.specs.Standing.{CallsWithoutRoomTakeBack};
 ghost use Rattle.run_laws.specs.Transactions.{TransactionsRecordAtMostTen};
 ghost use Rattle.run_laws.specs.Wants.{NoRoomOnlyWhereThereIsNone};
 ghost use Rattle.run_laws.specs.Worlds.{WorldsRefineWholeInodes};
@@ -54,6 +56,19 @@ pub fn no_room_only_where_there_is_none<D: Device>(world: &World<D>)
 /// operations wanted that, in a world that has none.
 pub fn calls_find_none_where_there_is_none<D: Device>(world: &World<D>)
     ensures { CallsFindNoneWhereThereIsNone D.contents D.failures world.now }
+{
+    let _ = world;
+}
+
+/// And what its own operations have changed then is as the kind of room says: nothing; or what was changed was taken back, as the raise of
+/// a link's count, an inode that was claimed, and a place of an open file. Two things stay: the file that CREATE made where there is no
+/// open file or no descriptor, and then no file was emptied; and of a write the bytes before the block that there wasn't, which the offset
+/// is behind. All changes are told: an operation of which none is leaves the inodes on the disk, but one that it frees, open files, and
+/// what harts have of them; and the bytes that are told are in the file, which stands behind them.
+pub fn calls_without_room_take_back<D: Device>(world: &World<D>)
+    ensures take_back { CallsWithoutRoomTakeBack D.contents D.failures world.now }
+    ensures told { ChangesAreTold }
+    ensures written { WritesAreMade }
 {
     let _ = world;
 }

@@ -1,0 +1,367 @@
+-- An operation of which no change is told leaves inodes on the disk, open files and what harts have of them.
+use Rattle.std.proofs.Common.{◌≡◌, ◌≢◌, ◌⊎◌, inl, inr, ℕ, ◌==◌, Bool, true, false, nat_lt, if◌then◌else◌, List, [], ◌∷◌, take}
+use Rattle.std.proofs.Common.{Option, Some, None, refl, sym, ◌∙◌, ap, append-nil}
+use Rattle.plain_tree.specs.declared.answer.Cause.{Cause}
+use Rattle.plain_tree.specs.declared.node.Node.{Node}
+use Rattle.plain_tree.specs.declared.tree.OpenFile.{OpenFile}
+use Rattle.plain_tree.specs.Steps.{has_room, lowest, node_or, write_kind}
+use Rattle.plain_tree.specs.Tree.{Name, Tree, put}
+use Rattle.tree_laws.proofs.Maps.{put_is}
+use Rattle.atomic_programs.specs.Joined.{ran_to}
+use Rattle.atomic_programs.specs.Prog.{Did, Waits, Ran, Stops}
+use Rattle.inode_machine.specs.Exec.{claim_if, claimed, close_at, close_if, double_at, double_if, down_if, entry_of, enter_if, exec}
+use Rattle.inode_machine.specs.Exec.{file_count, fill_if, first_from, has_place, install_if, is_empty_slot}
+use Rattle.inode_machine.specs.Exec.{is_full_directory, is_last, join_at}
+use Rattle.inode_machine.specs.Exec.{lend_if, lock_at, lock_if, locked, next_used, offset_of, place_count, read_at, read_refused}
+use Rattle.inode_machine.specs.Exec.{referenced, released, slot_at, slot_if, start_if, start_number}
+use Rattle.inode_machine.specs.Exec.{stat_at, unlocked, up_if, walk_down_if}
+use Rattle.inode_machine.specs.Exec.{with_record, write_at, write_if, write_in, write_refused}
+use Rattle.inode_machine.specs.Inodes.{Sort, face_of, face_or, seen_in, sort_of}
+use Rattle.inode_machine.specs.Marks.{Made, made_by, marked, mended, new_id, spoiled, with_left}
+use Rattle.inode_machine.specs.Marks.{with_made, with_mark, with_noted, with_opened}
+use Rattle.inode_machine.specs.World.{Answer, ClaimResult, Desk, Entry, LocksIt, Mark, New, NoPlace, Op}
+use Rattle.inode_machine.specs.World.{Outside, Picks, Room, RoomFor, World}
+use Rattle.inode_machine.specs.World.Mark.{Fills, Frees, Makes, Mends, Orphans, Spoils}
+use Rattle.inode_machine.specs.World.Op.{CheckFile, Claim, Clear, Double, Down, Empty, Enter, Fill, Forget, Free, Give, Install, Join}
+use Rattle.inode_machine.specs.World.Op.{JoinFile, Leave, Lend, LendDirectory, LockFile, LockOpen, ReadFile, Release}
+use Rattle.inode_machine.specs.World.Op.{Say, Settle, Shut, Slot}
+use Rattle.inode_machine.specs.World.Op.{StatFile, Store, Take, Up, UpStart, WalkDown, WriteFile}
+use Rattle.tree_moves.specs.Moves.Move.{Own}
+use Rattle.run_laws.specs.Changes.{Change, ChangesAreTold, Claimed, Cleared, Emptied, Entered, Filled}
+use Rattle.run_laws.specs.Changes.{GaveBack, LeavesAll, Moved, TookPlace}
+use Rattle.run_laws.specs.Changes.{Wrote, by_count, changed_by}
+
+-- ---- what is looked at
+
+pub record Tables : Type 0 where
+  pub fds : ℕ → Option ℕ
+  pub hand : Option ℕ
+  pub directory : ℕ
+
+abbrev pub tables_of : Desk → Tables
+tables_of d = record { fds = d.fds; hand = d.hand; directory = d.directory }
+
+pub record Kept : Type 0 where
+  pub disk : ℕ → Option Node
+  pub files : ℕ → Option Entry
+  pub tables : ℕ → Tables
+
+abbrev pub kept_of : World → Kept
+kept_of w = record { disk = w.disk; files = w.files; tables = λ g. tables_of (w.desks g) }
+
+all_left : (w : World) (op : Op) (u : World) → kept_of u ≡ kept_of w → LeavesAll w op u
+all_left w op u same = record {
+  inodes = λ n. inl (ap (λ (k : Kept). k.disk n) same);
+  files = λ k. ap (λ (z : Kept). z.files k) same;
+  descriptors = λ g fd. ap (λ (k : Kept). (k.tables g).fds fd) same;
+  places = λ g. ap (λ (k : Kept). (k.tables g).hand) same;
+  directories = λ g. ap (λ (k : Kept). (k.tables g).directory) same;
+}
+
+-- before and after it the same again
+left_between : (t w : World) (op : Op) (u v : World) → kept_of w ≡ kept_of t → LeavesAll w op u → kept_of v ≡ kept_of u → LeavesAll t op v
+left_between t w op u v front left back = record {
+  inodes = λ n. at n (left.inodes n);
+  files = λ k. ap (λ (z : Kept). z.files k) back ∙ left.files k ∙ ap (λ (z : Kept). z.files k) front;
+  descriptors = λ g fd. ap (λ (k : Kept). (k.tables g).fds fd) back ∙ left.descriptors g fd ∙ ap (λ (k : Kept). (k.tables g).fds fd) front;
+  places = λ g. ap (λ (k : Kept). (k.tables g).hand) back ∙ left.places g ∙ ap (λ (k : Kept). (k.tables g).hand) front;
+  directories = λ g. ap (λ (k : Kept). (k.tables g).directory) back ∙ left.directories g ∙ ap (λ (k : Kept). (k.tables g).directory) front;
+}
+  where
+    at : (n : ℕ) → (u.disk n ≡ w.disk n) ⊎ (op ≡ Free n) → (v.disk n ≡ t.disk n) ⊎ (op ≡ Free n)
+    at n (inl same) = inl (ap (λ (k : Kept). k.disk n) back ∙ same ∙ ap (λ (k : Kept). k.disk n) front)
+    at n (inr frees) = inr frees
+
+-- ---- one hart's desk
+
+desk_put : (desks : ℕ → Desk) (h : ℕ) (d : Desk) → tables_of d ≡ tables_of (desks h) → (g : ℕ)
+    → tables_of (put desks h d g) ≡ tables_of (desks g)
+desk_put desks h d same g = at (put_is desks h d g)
+  where
+    at : ((g ≡ h) × (put desks h d g ≡ d)) ⊎ ((g ≢ h) × (put desks h d g ≡ desks g)) → tables_of (put desks h d g) ≡ tables_of (desks g)
+    at (inl p) = ap (λ (z : Desk). tables_of z) p.1 ∙ same ∙ ap (λ (z : ℕ). tables_of (desks z)) (sym p.0)
+    at (inr p) = ap (λ (z : Desk). tables_of z) p.1
+
+desks_kept : (w : World) (desks : ℕ → Desk) → ((g : ℕ) → tables_of (desks g) ≡ tables_of (w.desks g))
+    → ◌≡◌ {A = Kept} (record { disk = w.disk; files = w.files; tables = λ g. tables_of (desks g) }) (kept_of w)
+desks_kept w desks same = λ i. record { disk = w.disk; files = w.files; tables = λ g. same g i }
+
+-- ---- marks
+
+opened_same : (desks : ℕ → Desk) (h fd : ℕ) (o : Option ℕ) (g : ℕ) → tables_of (with_opened desks h fd o g) ≡ tables_of (desks g)
+opened_same desks h fd None g = refl
+opened_same desks h fd (Some id) g = desk_put desks h (record (desks h) { opening = Some fd }) refl g
+
+noted_same : (b : Tree) (desks : ℕ → Desk) (h : ℕ) (o : Option ℕ) (g : ℕ) → tables_of (with_noted b desks h o g) ≡ tables_of (desks g)
+noted_same b desks h None g = refl
+noted_same b desks h (Some n) g =
+    desk_put desks h (record (desks h) { noted = Some (record { number = n; sort = sort_of (b.nodes n) }) }) refl g
+
+left_same : (desks : ℕ → Desk) (h : ℕ) (o : Option ℕ) (g : ℕ) → tables_of (with_left desks h o g) ≡ tables_of (desks g)
+left_same desks h None g = refl
+left_same desks h (Some d) g = desk_put desks h (record (desks h) { left = Some d }) refl g
+
+made_kept : (h : ℕ) (x : Made) (w : World) → kept_of (with_made h x w) ≡ kept_of w
+made_kept h x w =
+    let opened : ℕ → Desk = with_opened w.desks h (lowest (w.all.fds h)) x.opened in
+    let noted : ℕ → Desk = with_noted w.all opened h x.found in
+    desks_kept w (with_left noted h x.left)
+    (λ g. left_same noted h x.left g ∙ noted_same w.all opened h x.found g ∙ opened_same w.desks h (lowest (w.all.fds h)) x.opened g)
+
+spoiled_kept : (h : ℕ) (w : World) → kept_of (spoiled h w) ≡ kept_of w
+spoiled_kept h w =
+    let d : Desk = record (w.desks h) { full = true } in
+    desks_kept w (put w.desks h d) (desk_put w.desks h d refl)
+
+mended_kept : (h : ℕ) (w : World) → kept_of (mended h w) ≡ kept_of w
+mended_kept h w =
+    let d : Desk = record (w.desks h) { opening = None; left = None; full = true } in
+    desks_kept w (put w.desks h d) (desk_put w.desks h d refl)
+
+-- a mark leaves all that
+pub marked_kept : (h : ℕ) (m : Option Mark) (w : World) → kept_of (marked h m w) ≡ kept_of w
+marked_kept h None w = refl
+marked_kept h (Some (Makes v)) w = made_kept h (made_by w.all h (new_id w) (w.harts h).walk v) w
+marked_kept h (Some (Frees n)) w = refl
+marked_kept h (Some (Orphans n)) w = refl
+marked_kept h (Some Fills) w = spoiled_kept h w
+marked_kept h (Some Mends) w = mended_kept h w
+marked_kept h (Some (Spoils s)) w =
+    let x : Made = made_by w.all h (new_id w) (w.harts h).walk (Own s 0) in
+    spoiled_kept h (with_made h x w) ∙ made_kept h x w
+
+-- ---- operations
+
+-- where no change is told of the answer
+abbrev Goes : {A : Type 0} → (A → List Change) → Op → World → Did A World → Type 0
+Goes told op w Waits = Unit {0}
+Goes told op w (Ran a u) = told a ≡ [] → LeavesAll w op u
+Goes told op w (Stops u) = Unit {0}
+
+some_told : (c : Change) (cs : List Change) → c ∷ cs ≡ [] → ⊥
+some_told c cs e = cc
+
+-- some change is told
+lies : (w : World) (op : Op) (u : World) (c : Change) (cs : List Change) → c ∷ cs ≡ [] → LeavesAll w op u
+lies w op u c cs e = absurd (some_told c cs e)
+
+unlocked_left : (op : Op) (n : ℕ) (w : World) (b : Bool) → LeavesAll w op (unlocked n w b)
+unlocked_left op n w true = all_left w op (unlocked n w true) refl
+unlocked_left op n w false = all_left w op (unlocked n w false) refl
+
+lock_goes : {A : Type 0} (told : A → List Change) (op : Op) (h n : ℕ) (a : A) (w : World) (o : Option ℕ)
+    → Goes told op w (lock_if h n a w (locked h n w) o)
+lock_goes told op h n a w None = λ _. all_left w op (locked h n w) refl
+lock_goes told op h n a w (Some g) = tt
+
+start_goes : (told : Option ℕ → List Change) (op : Op) (h n : ℕ) (w : World) (b : Bool) → Goes told op w (start_if h n w b)
+start_goes told op h n w true = λ _. all_left w op _ refl
+start_goes told op h n w false = λ _. all_left w op w refl
+
+up_goes : (told : Bool → List Change) (op : Op) (h n : ℕ) (w : World) (b : Bool) → Goes told op w (up_if h n w b)
+up_goes told op h n w true = λ _. all_left w op _ refl
+up_goes told op h n w false = λ _. all_left w op w refl
+
+walk_down_goes : (told : Bool → List Change) (op : Op) (h n : ℕ) (w : World) (b : Bool) → Goes told op w (walk_down_if h n w b)
+walk_down_goes told op h n w true = λ _. all_left w op _ refl
+walk_down_goes told op h n w false = λ _. all_left w op _ refl
+
+down_goes : (told : Bool → List Change) (op : Op) (h n : ℕ) (w : World) (b : Bool) → Goes told op w (down_if h n w b)
+down_goes told op h n w true = λ _. all_left w op _ refl
+down_goes told op h n w false = λ _. all_left w op _ refl
+
+-- only that inode is another
+free_left : (w : World) (n : ℕ) → LeavesAll w (Free n) (with_record w n None)
+free_left w n = record {
+  inodes = λ i. at i (put_is w.disk n None i);
+  files = λ k. refl;
+  descriptors = λ g fd. refl;
+  places = λ g. refl;
+  directories = λ g. refl;
+}
+  where
+    at : (i : ℕ) → ((i ≡ n) × (put w.disk n None i ≡ None)) ⊎ ((i ≢ n) × (put w.disk n None i ≡ w.disk i))
+        → (put w.disk n None i ≡ w.disk i) ⊎ (Free n ≡ Free i)
+    at i (inl p) = inr (ap (λ (z : ℕ). Free z) (sym p.0))
+    at i (inr p) = inl p.1
+
+desk_left : (w : World) (op : Op) (h : ℕ) (d : Desk) → tables_of d ≡ tables_of (w.desks h)
+    → LeavesAll w op (record w { desks = put w.desks h d })
+desk_left w op h d same = all_left w op (record w { desks = put w.desks h d }) (desks_kept w (put w.desks h d) (desk_put w.desks h d same))
+
+release_left : (w : World) (op : Op) (h child : ℕ) → LeavesAll w op (released w h child)
+release_left w op h child = all_left w op (released w h child) (desks_kept w (put one child second) both)
+  where
+    first : Desk
+    first = record (w.desks h) { lent = λ i. None }
+
+    second : Desk
+    second = record (w.desks child) { lender = None }
+
+    one : ℕ → Desk
+    one = put w.desks h first
+
+    both : (g : ℕ) → tables_of (put one child second g) ≡ tables_of (w.desks g)
+    both g = desk_put one child second (sym (desk_put w.desks h first refl child)) g ∙ desk_put w.desks h first refl g
+
+module _ (m : Option Mark) where
+  abbrev told : (op : Op) → Answer op → List Change
+  told op a = changed_by None op a m
+
+  claim_goes : (h : ℕ) (sort : Sort) (w : World) (x : Outside) → Goes (told (Claim sort)) (Claim sort) w (claim_if h sort w x)
+  claim_goes h sort w (Picks n) = by (nat_lt (referenced w) place_count)
+    where
+      by : (b : Bool)
+          → Goes {A = ClaimResult} (told (Claim sort)) (Claim sort) w (if b then Ran (New n) (claimed h sort w n) else Ran NoPlace w)
+      by true = lies w (Claim sort) (claimed h sort w n) (Claimed n) []
+      by false = λ _. all_left w (Claim sort) w refl
+  claim_goes h sort w Room = λ _. all_left w (Claim sort) w refl
+  claim_goes h sort w (RoomFor k) = λ _. all_left w (Claim sort) w refl
+
+  fill_goes : (n d : ℕ) (w : World) (x : Outside) → Goes (told (Fill n d)) (Fill n d) w (fill_if n d w x)
+  fill_goes n d w Room = lies w (Fill n d) _ (Filled n) []
+  fill_goes n d w (RoomFor k) = λ _. all_left w (Fill n d) w refl
+  fill_goes n d w (Picks k) = λ _. all_left w (Fill n d) w refl
+
+  enter_goes : (d : ℕ) (e : Name) (n : ℕ) (w : World) (x : Outside) (b : Bool)
+      → Goes (told (Enter d e n)) (Enter d e n) w (enter_if d e n w x b)
+  enter_goes d e n w x true = λ _. all_left w (Enter d e n) w refl
+  enter_goes d e n w Room false = lies w (Enter d e n) _ (Entered d e n) []
+  enter_goes d e n w (RoomFor k) false = λ _. all_left w (Enter d e n) w refl
+  enter_goes d e n w (Picks k) false = λ _. all_left w (Enter d e n) w refl
+
+  slot_goes : (h : ℕ) (w : World) (o : Option ℕ) → Goes (told Slot) Slot w (slot_if h w o)
+  slot_goes h w None = λ _. all_left w Slot w refl
+  slot_goes h w (Some s) = lies w Slot _ TookPlace []
+
+  install_goes : (h : ℕ) (w : World) (f : OpenFile) (sort : Sort) (o : Option ℕ) (b : Bool)
+      → Goes (told (Install f sort)) (Install f sort) w (install_if h w f sort o b)
+  install_goes h w f sort None b = λ _. all_left w (Install f sort) w refl
+  install_goes h w f sort (Some s) false = lies w (Install f sort) _ GaveBack []
+  install_goes h w f sort (Some s) true = lies w (Install f sort) _ (Moved (Install f sort)) []
+
+  stat_goes : (h fd : ℕ) (w : World) (o : Option Entry) → Goes (told (StatFile fd)) (StatFile fd) w (stat_at h w o)
+  stat_goes h fd w None = λ _. all_left w (StatFile fd) w refl
+  stat_goes h fd w (Some e) =
+      lock_goes (told (StatFile fd)) (StatFile fd) h e.file.number (Some (e.file.number, face_or (face_of (w.disk e.file.number)))) w
+      (w.lock e.file.number)
+
+  file_goes : (h fd : ℕ) (w : World) (o : Option Entry) (c : Option Cause) → Goes (told (LockFile fd)) (LockFile fd) w (lock_at h w o c)
+  file_goes h fd w o (Some c) = λ _. all_left w (LockFile fd) w refl
+  file_goes h fd w None None = λ _. all_left w (LockFile fd) w refl
+  file_goes h fd w (Some e) None =
+      lock_goes (told (LockFile fd)) (LockFile fd) h e.file.number (LocksIt e.file.number e.file.offset) w (w.lock e.file.number)
+
+  read_goes : (w : World) (fd n offset count : ℕ) (s : Option ℕ) (o : Option Entry)
+      → Goes (told (ReadFile fd n offset count)) (ReadFile fd n offset count) w (read_at w n count s o)
+  read_goes w fd n offset count s None = lies w (ReadFile fd n offset count) _ (Moved (ReadFile fd n offset count)) []
+  read_goes w fd n offset count s (Some e) = lies w (ReadFile fd n offset count) _ (Moved (ReadFile fd n offset count)) []
+
+  join_goes : (h fd : ℕ) (w : World) (o : Option Entry) (c : Option Cause) → Goes (told (JoinFile fd)) (JoinFile fd) w (join_at h w o c)
+  join_goes h fd w o (Some c) = λ _. all_left w (JoinFile fd) w refl
+  join_goes h fd w None None = λ _. all_left w (JoinFile fd) w refl
+  join_goes h fd w (Some e) None = λ _. desk_left w (JoinFile fd) h (record (w.desks h) { joined = true }) refl
+
+  module _ (fd n offset : ℕ) (bytes : List ℕ) where
+    abbrev write : Op
+    write = WriteFile fd n offset bytes
+
+    write_in_goes : (w : World) (s : Option ℕ) (e : Entry) (x : Outside) → Goes (told write) write w (write_in w s e n bytes x)
+    write_in_goes w s e Room = lies w write _ (Wrote fd bytes) []
+    write_in_goes w s e (RoomFor k) = lies w write _ (Wrote fd (take k bytes)) []
+    write_in_goes w s e (Picks k) = lies w write _ (Wrote fd (take 0 bytes)) []
+
+    write_if_goes : (w : World) (s : Option ℕ) (e : Entry) (x : Outside) (c : Option Cause)
+        → Goes (told write) write w (write_if w s e n bytes x c)
+    write_if_goes w s e x (Some c) = λ _. unlocked_left write n w (w.alone n)
+    write_if_goes w s e x None = write_in_goes w s e x
+
+    write_goes : (w : World) (s : Option ℕ) (x : Outside) (o : Option Entry) → Goes (told write) write w (write_at w s n bytes x o)
+    write_goes w s x None = λ _. unlocked_left write n w (w.alone n)
+    write_goes w s x (Some e) = write_if_goes w s e x (write_kind (node_or (w.disk n)).kind e.file.offset bytes)
+
+  double_if_goes : (h fd : ℕ) (w : World) (s : ℕ) (e : Entry) (b : Bool) → Goes (told (Double fd)) (Double fd) w (double_if h w s e b)
+  double_if_goes h fd w s e true = lies w (Double fd) _ (Moved (Double fd)) []
+  double_if_goes h fd w s e false = λ _. all_left w (Double fd) w refl
+
+  double_goes : (h fd : ℕ) (w : World) (s : Option ℕ) (o : Option Entry) → Goes (told (Double fd)) (Double fd) w (double_at h w s o)
+  double_goes h fd w None o = λ _. all_left w (Double fd) w refl
+  double_goes h fd w (Some s) None = λ _. all_left w (Double fd) w refl
+  double_goes h fd w (Some s) (Some e) = double_if_goes h fd w s e (has_room (w.desks h).fds)
+
+  close_if_goes : (h fd : ℕ) (w : World) (s : ℕ) (e : Entry) (b : Bool) → Goes (told (Shut fd)) (Shut fd) w (close_if h w fd s e b)
+  close_if_goes h fd w s e true = lies w (Shut fd) _ (Moved (Shut fd)) []
+  close_if_goes h fd w s e false = lies w (Shut fd) _ (Moved (Shut fd)) []
+
+  close_goes : (h fd : ℕ) (w : World) (s : Option ℕ) (o : Option Entry) → Goes (told (Shut fd)) (Shut fd) w (close_at h w fd s o)
+  close_goes h fd w None o = λ _. all_left w (Shut fd) w refl
+  close_goes h fd w (Some s) None = λ _. all_left w (Shut fd) w refl
+  close_goes h fd w (Some s) (Some e) = close_if_goes h fd w s e (e.references == 1)
+
+  lend_goes : (h child from : ℕ) (w : World) (o : Option ℕ) → Goes (told (Lend child from)) (Lend child from) w (lend_if h w child o)
+  lend_goes h child from w None = lies w (Lend child from) _ (Moved (Lend child from)) []
+  lend_goes h child from w (Some i) = lies w (Lend child from) _ (Moved (Lend child from)) []
+
+  exec_goes : (h : ℕ) (x : Outside) (op : Op) (w : World) → Goes (told op) op w (exec h x op w)
+  exec_goes h x (Take n looking) w = lock_goes (told (Take n looking)) (Take n looking) h n (seen_in n looking (w.disk n)) w (w.lock n)
+  exec_goes h x (Give n) w = λ _. unlocked_left (Give n) n w (w.alone n)
+  exec_goes h x (UpStart absolute) w =
+      start_goes (told (UpStart absolute)) (UpStart absolute) h (start_number (w.desks h) absolute) w
+      (has_place w (start_number (w.desks h) absolute))
+  exec_goes h x (Up n) w = up_goes (told (Up n)) (Up n) h n w (has_place w n)
+  exec_goes h x (WalkDown n) w = walk_down_goes (told (WalkDown n)) (WalkDown n) h n w (is_last w n)
+  exec_goes h x (Down n) w = down_goes (told (Down n)) (Down n) h n w (is_last w n)
+  exec_goes h x (Free n) w = λ _. free_left w n
+  exec_goes h x (Forget n) w = λ _. all_left w (Forget n) _ refl
+  exec_goes h x (Claim sort) w = claim_goes h sort w x
+  exec_goes h x (Store n count) w = lies w (Store n count) _ (by_count None n count m) []
+  exec_goes h x (Fill n d) w = fill_goes n d w x
+  exec_goes h x (Enter d e n) w = enter_goes d e n w x (is_full_directory (w.disk d))
+  exec_goes h x (Clear d e) w = lies w (Clear d e) _ (Cleared d e) []
+  exec_goes h x (Empty n) w = lies w (Empty n) _ (Emptied n) []
+  exec_goes h x Slot w = slot_goes h w (first_from file_count 0 (is_empty_slot w))
+  exec_goes h x (Install f sort) w = install_goes h w f sort (w.desks h).hand (has_room (w.desks h).fds)
+  exec_goes h x (StatFile fd) w = stat_goes h fd w (entry_of w h fd)
+  exec_goes h x (LockFile fd) w = file_goes h fd w (entry_of w h fd) (read_refused (entry_of w h fd))
+  exec_goes h x (ReadFile fd n offset count) w = read_goes w fd n offset count (slot_at w h fd) (entry_of w h fd)
+  exec_goes h x (CheckFile fd) w = λ _. all_left w (CheckFile fd) w refl
+  exec_goes h x (JoinFile fd) w = join_goes h fd w (entry_of w h fd) (write_refused (entry_of w h fd))
+  exec_goes h x (LockOpen fd n) w = lock_goes (told (LockOpen fd n)) (LockOpen fd n) h n (n, offset_of (entry_of w h fd)) w (w.lock n)
+  exec_goes h x (WriteFile fd n offset bytes) w = write_goes fd n offset bytes w (slot_at w h fd) x (entry_of w h fd)
+  exec_goes h x (Double fd) w = double_goes h fd w (slot_at w h fd) (entry_of w h fd)
+  exec_goes h x (Shut fd) w = close_goes h fd w (slot_at w h fd) (entry_of w h fd)
+  exec_goes h x (Settle n) w = lies w (Settle n) _ (Moved (Settle n)) []
+  exec_goes h x (Lend child from) w = lend_goes h child from w (next_used from (w.desks h).fds)
+  exec_goes h x (LendDirectory child) w = lies w (LendDirectory child) _ (Moved (LendDirectory child)) []
+  exec_goes h x (Release child) w = λ _. release_left w (Release child) h child
+  exec_goes h x Join w = λ _. desk_left w Join h (record (w.desks h) { joined = true }) refl
+  exec_goes h x Leave w = λ _. desk_left w Leave h (record (w.desks h) { joined = false; noted = None }) refl
+  exec_goes h x Say w = λ _. all_left w Say w refl
+
+-- ---- steps
+
+abbrev pub answer_or : {A : Type 0} → A → Did A World → A
+answer_or a Waits = a
+answer_or a (Ran b w) = b
+answer_or a (Stops w) = a
+
+no_wait : {A : Type 0} (h : ℕ) (m : Option Mark) (a : A) (u : World) → with_mark h (λ (z : A). m) Waits ≡ Ran a u → ⊥
+no_wait h m a u e = cc
+
+no_stop : {A : Type 0} (h : ℕ) (m : Option Mark) (a : A) (u v : World) → with_mark h (λ (z : A). m) (Stops v) ≡ Ran a u → ⊥
+no_stop h m a u v e = cc
+
+ran_left : {A : Type 0} (told : A → List Change) (op : Op) (h : ℕ) (m : Option Mark) (w u : World) (a : A) (d : Did A World)
+    → Goes told op w d → with_mark h (λ (z : A). m) d ≡ Ran a u → told a ≡ [] → LeavesAll w op u
+ran_left told op h m w u a Waits g e none = absurd (no_wait h m a u e)
+ran_left told op h m w u a (Stops v) g e none = absurd (no_stop h m a u v e)
+ran_left {A} told op h m w u a (Ran b v) g e none =
+    let there : told b ≡ [] = ap (λ (d : Did A World). told (answer_or a d)) e ∙ none in
+    left_between w w op v u refl (g there) (ap (λ (d : Did A World). kept_of (ran_to w d)) (sym e) ∙ marked_kept h m v)
+
+pub untold : ChangesAreTold
+untold t u h e s none =
+    left_between t s.before e.op s.after u (ap (λ (z : World). kept_of z) s.from)
+    (ran_left (λ a. changed_by None e.op a e.mark) e.op h e.mark s.before s.after e.answer (exec h s.outside e.op s.before)
+    (exec_goes e.mark h s.outside e.op s.before) s.goes (sym (append-nil (changed_by None e.op e.answer e.mark)) ∙ none))
+    (ap (λ (z : World). kept_of z) (sym s.to))
