@@ -11,7 +11,7 @@ use Rattle.locked_world.specs.declared.note.What.{What}
 use Rattle.locked_world.specs.declared.note.What.TheVariants as what
 use Rattle.hart_core.specs.Runs.{all_shown, shown}
 use Rattle.locked_world.specs.Kept.{replied_by, replies_in}
-use Rattle.locked_world.specs.Stories.{first, past, each, takers, is_start, is_reply, starts, replies, event_at, came_at, event_noted, came_noted, noted_events, noted_outcomes, answered, IsNoted, given_to}
+use Rattle.locked_world.specs.Stories.{first, past, each, takers, is_start, is_reply, starts, replies, event_at, came_at, event_noted, came_noted, noted_events, noted_outcomes, noted_pairs, answered, IsNoted, given_to}
 
 -- ---- a row, some of which take the next one
 
@@ -234,3 +234,26 @@ pub same_at : {X : Type 0} (xs : List X) (i : ℕ) (d e : X) → i < length xs �
 same_at [] i d e lt = absurd (omega (arith, lt))
 same_at (x ∷ xs) zero d e lt = refl
 same_at (x ∷ xs) (suc i) d e lt = same_at xs i d e (omega (arith, lt))
+
+-- ---- pairs
+
+-- their first parts are the events
+pub pair_events : (ns : List Note) (cs : List Call) (gs : List Given) → map (λ (p : Event × Came). p.0) (noted_pairs ns cs gs) ≡ noted_events ns cs
+pair_events [] cs gs = refl
+pair_events (n ∷ ns) cs gs = ap (λ (z : List Event). event_noted n (first (starts n) cs) ∷ z) (pair_events ns (past (starts n) cs) (past (replies n) gs))
+
+-- their second parts what these came to
+pub pair_outcomes : (ns : List Note) (cs : List Call) (gs : List Given) → map (λ (p : Event × Came). p.1) (noted_pairs ns cs gs) ≡ noted_outcomes ns gs
+pair_outcomes [] cs gs = refl
+pair_outcomes (n ∷ ns) cs gs = ap (λ (z : List Came). came_noted n (first (replies n) gs) ∷ z) (pair_outcomes ns (past (starts n) cs) (past (replies n) gs))
+
+-- the first pair, and those that are left
+pub first_pair : (all ns : List Note) (cs cs' : List Call) (gs gs' : List Given) (n : Note) (e : Event) (c : Came) → all ≡ n ∷ ns → e ≡ event_noted n (first (starts n) cs) → cs' ≡ past (starts n) cs → c ≡ came_noted n (first (replies n) gs)
+    → gs' ≡ past (replies n) gs → noted_pairs all cs gs ≡ (e, c) ∷ noted_pairs ns cs' gs'
+first_pair all ns cs cs' gs gs' n e c split event calls came given =
+    ap (λ (z : List Note). noted_pairs z cs gs) split ∙ sym (λ j. (event j, came j) ∷ noted_pairs ns (calls j) (given j))
+
+-- of no note there is none
+pub no_pair : (ns : List Note) (cs : List Call) (gs : List Given) → length ns ≡ 0 → noted_pairs ns cs gs ≡ []
+no_pair [] cs gs e = refl
+no_pair (n ∷ ns) cs gs e = absurd (omega (arith, e))

@@ -1,4 +1,5 @@
 pub mod HandedBack
 pub mod Kept
+pub mod Lent
 pub mod Stories
 pub mod Told

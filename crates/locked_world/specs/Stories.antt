@@ -91,6 +91,12 @@ noted_events ns cs = each starts event_noted ns cs
 abbrev pub noted_outcomes : List Note → List Given → List Came
 noted_outcomes ns gs = each replies came_noted ns gs
 
+-- each event with what it came to
+abbrev pub noted_pairs : List Note → List Call → List Given → List (Event × Came)
+noted_pairs [] cs gs = []
+noted_pairs (n ∷ ns) cs gs =
+    (event_noted n (first (starts n) cs), came_noted n (first (replies n) gs)) ∷ noted_pairs ns (past (starts n) cs) (past (replies n) gs)
+
 -- the harts that were given replies
 abbrev pub answered : List Note → List ℕ
 answered [] = []

@@ -1,7 +1,8 @@
 // What a locked world leaves.
-ghost use Rattle.std.specs.Prelude.{◌≡◌, ◌≢◌, IfOk, IfNone, IfSome, slice_get};
+ghost use Rattle.std.specs.Prelude.{◌≡◌, ◌≢◌, IfOk, IfNone, IfSome, map, slice_get};
 ghost use Rattle.locked_world.specs.Kept.{replies_of, HasOneHistory, LeavesDisk};
 
+use crate::lent::Iter;
 use crate::story::Story;
 use block_device::MemoryDisk;
 use hart_core::{Came, Event};
@@ -68,14 +69,22 @@ impl<L: Ledger> Closed<L> {
         self.fuse
     }
 
-    /// The events, in their order. An error is want of memory: a step takes three bytes as it is kept, and 64 here.
+    /// The events in their order, each with what it came to. It takes no memory: calls and replies are lent.
+    pub fn iter(&self) -> Iter<'_>
+        ensures events { map (λ p. p.0) result ≡ self.now.stored.events }
+        ensures outcomes { map (λ p. p.1) result ≡ self.now.stored.outcomes }
+    {
+        self.story.iter()
+    }
+
+    /// Copies of the events, in their order. An error is want of memory: a step takes three bytes as it is kept, and 64 here.
     pub fn events(&self, alloc: Global) -> Result<Vec<Event>, AllocError>
         ensures { IfOk result (λ events. events.items ≡ self.now.stored.events) }
     {
         self.story.events(alloc)
     }
 
-    /// What each event came to, in their order. An error is want of memory.
+    /// Copies of what each event came to, in their order. An error is want of memory.
     pub fn outcomes(&self, alloc: Global) -> Result<Vec<Came>, AllocError>
         ensures { IfOk result (λ outcomes. outcomes.items ≡ self.now.stored.outcomes) }
     {

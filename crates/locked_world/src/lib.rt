@@ -8,11 +8,13 @@
 
 mod closed;
 mod handing;
+mod lent;
 mod locked;
 mod note;
 mod story;
 
 pub use crate::closed::Closed;
 pub use crate::handing::{filled, is_handed_back, is_same};
+pub use crate::lent::{CameRef, EventRef, Iter};
 pub use crate::locked::{Begun, Halt, Locked, NotStarted, Receipt, Share, Told};
 pub use hart_core::StartRefused;

@@ -1,5 +1,5 @@
 // The events that have been, and what they came to, in little memory.
-ghost use Rattle.std.specs.Prelude.{◌≡◌, ◌≢◌, ◌<◌, ◌^◌, ◌++◌, ◌∷◌, [], ℕ, Some, None, IfOk, IfNone, IfSome, MatchOption, length, slice_get, vec_len, vec_capacity, false};
+ghost use Rattle.std.specs.Prelude.{◌≡◌, ◌≢◌, ◌<◌, ◌^◌, ◌++◌, ◌∷◌, [], ℕ, Some, None, IfOk, IfNone, IfSome, MatchOption, length, map, slice_get, vec_len, vec_capacity, false};
 ghost use Rattle.hart_core.specs.declared.events.Came.TheVariants as came;
 ghost use Rattle.hart_core.specs.declared.events.Event.TheVariants as event;
 ghost use Rattle.hart_core.specs.declared.outcome.Outcome.TheVariants as outcome;
@@ -9,6 +9,7 @@ ghost use Rattle.locked_world.specs.declared.note.What.TheVariants as what;
 ghost use Rattle.locked_world.specs.Stories.{came_at, event_at, noted_events, noted_outcomes, given_to, is_reply, is_start, reply_to, HasRoom};
 
 use crate::handing::{copied, is_same};
+use crate::lent::Iter;
 use crate::note::{Given, Note, What};
 use fs_machine::Kind;
 use hart_core::{Came, Event, Outcome, StartRefused, Stop};
@@ -148,14 +149,22 @@ impl Story {
         self.calls.push_reserved(call);
     }
 
-    /// The events, in their order.
+    /// The events in their order, each with what it came to; calls and replies are lent.
+    pub fn iter(&self) -> Iter<'_>
+        ensures events { map (λ p. p.0) result ≡ self.now.events }
+        ensures outcomes { map (λ p. p.1) result ≡ self.now.outcomes }
+    {
+        Iter::new(&self.notes, &self.calls, &self.replies)
+    }
+
+    /// Copies of the events, in their order.
     pub fn events(&self, alloc: Global) -> Result<Vec<Event>, AllocError>
         ensures { IfOk result (λ events. events.items ≡ self.now.events) }
     {
         events_told(alloc, &self.notes, &self.calls)
     }
 
-    /// What each of them came to.
+    /// Copies of what each of them came to.
     pub fn outcomes(&self, alloc: Global) -> Result<Vec<Came>, AllocError>
         ensures { IfOk result (λ outcomes. outcomes.items ≡ self.now.outcomes) }
     {
