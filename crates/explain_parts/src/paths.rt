@@ -1,9 +1,10 @@
 //! Paths with the element "..", and replies that there is no room.
-ghost use Rattle.std.specs.Prelude.{◌≡◌, ◌+◌, ◌<◌, ◌≤◌, [], ◌∷◌, drop, length, take, MatchOption};
+ghost use Rattle.std.specs.Prelude.{◌≡◌, ◌+◌, ◌-◌, ◌<◌, ◌≤◌, [], ◌∷◌, drop, length, take, MatchOption};
 ghost use Rattle.plain_tree.specs.Calls.{call_climbs};
 ghost use Rattle.plain_tree.specs.Code.{with_element};
 ghost use Rattle.plain_tree.specs.Tree.{climbs, dotdot, elements, same_name};
 ghost use Rattle.explain_parts.specs.Told.{any_climbs, any_full, is_full_reply};
+ghost use Rattle.explain_parts.specs.Ends.{IsEnd};
 
 use path_walk::Element;
 use plain_tree::{Answer, Call, TracedCall};
@@ -11,6 +12,13 @@ use plain_tree::{Answer, Call, TracedCall};
 const SLASH: u8 = b'/';
 
 const NAME_LEN: usize = 14;
+
+// The same bytes.
+pub(crate) fn same(a: &[u8], b: &[u8]) -> bool
+    ensures { result ≡ same_name a.now b.now }
+{
+    a == b
+}
 
 // Where the path's first '/' is, or its end.
 fn name_end(path: &[u8]) -> usize
@@ -36,10 +44,10 @@ fn first(bytes: &[u8], count: usize) -> &[u8]
     }
 }
 
-/// The first element of a path, and the path after it.
+/// The first element of a path, and the path after it, which is its end.
 pub(crate) fn next_element(path: &[u8]) -> Option<(&[u8], &[u8])>
     ensures { MatchOption result (elements path.now ≡ [])
-        (λ r. (elements path.now ≡ r.0.now ∷ elements r.1.now) × (length r.1.now < length path.now)) }
+        (λ r. (elements path.now ≡ r.0.now ∷ elements r.1.now) × (length r.1.now < length path.now) × IsEnd path.now r.1.now) }
 {
     let mut rest = path;
     while !rest.is_empty() {

@@ -1,5 +1,8 @@
 //! What the kept tree shows of a node to who takes its lock.
-use crate::paths::name_in;
+ghost use Rattle.std.specs.Prelude.{◌≡◌};
+ghost use Rattle.plain_tree.specs.Tree.{first_slot, live_directory, look, tree_of};
+
+use crate::paths::{name_in, same};
 use path_walk::{Face, Query, Sight, Sort};
 use plain_tree::{Kind, Node, Slot, Tree};
 
@@ -8,7 +11,9 @@ const ENTRY_LEN: u64 = 16;
 /// The slots of a new directory, for itself and its parent.
 const FIRST_SLOTS: usize = 2;
 
-pub(crate) fn is_live_directory(tree: &Tree, number: u16) -> bool {
+pub(crate) fn is_live_directory(tree: &Tree, number: u16) -> bool
+    ensures { result ≡ live_directory ((tree_of tree.now).nodes number) }
+{
     match tree.node(usize::from(number)) {
         Some(node) => node.count > 0 && matches!(&node.kind, Kind::Directory { .. }),
         None => false,
@@ -16,10 +21,13 @@ pub(crate) fn is_live_directory(tree: &Tree, number: u16) -> bool {
 }
 
 // The number in the first slot of that name.
-fn number_of(slots: &[Option<Slot>], name: &[u8]) -> Option<u16> {
+#[tactic(auto, unfolding(plain_tree::specs::Tree::first_slot))]
+fn number_of(slots: &[Option<Slot>], name: &[u8]) -> Option<u16>
+    ensures { result ≡ first_slot slots.now name.now }
+{
     for slot in slots {
         if let Some(slot) = slot {
-            if slot.name.as_slice() == name {
+            if same(slot.name.as_slice(), name) {
                 return Some(slot.number);
             }
         }
@@ -28,7 +36,10 @@ fn number_of(slots: &[Option<Slot>], name: &[u8]) -> Option<u16> {
 }
 
 /// What a live directory has under the name.
-pub(crate) fn look(tree: &Tree, directory: u16, name: &[u8]) -> Option<u16> {
+#[tactic(auto, unfolding(plain_tree::specs::Tree::look))]
+pub(crate) fn look(tree: &Tree, directory: u16, name: &[u8]) -> Option<u16>
+    ensures { result ≡ look (tree_of tree.now).nodes directory name.now }
+{
     let node = tree.node(usize::from(directory))?;
     match &node.kind {
         Kind::Directory { slots } if node.count > 0 => number_of(slots.as_slice(), name),
