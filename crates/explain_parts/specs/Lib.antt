@@ -1,2 +1,4 @@
 pub mod Ends
+pub mod Keeping
 pub mod Told
+pub mod Walks

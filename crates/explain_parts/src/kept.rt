@@ -5,14 +5,15 @@ use crate::sees::{is_live_directory, look, sight};
 use crate::standing::{Standing, Walk};
 use history_search::Hint;
 use path_walk::{Ask, Heard, Locked, Mark};
-use plain_tree::{ApplyRefused, Call, NoMemory, Tree, TreeStep};
+use plain_tree::{Action, ApplyRefused, Call, NoMemory, Tree, TreeStep};
 use std::alloc::Global;
+use std::mem;
 
 const HARTS: u8 = 8;
 
 // A tree step that acts, by the number that a new node gets by it; 0 where it makes none.
 #[derive(Clone, Copy)]
-struct Deed {
+pub(crate) struct Deed {
     new: u16,
 }
 
@@ -31,8 +32,6 @@ pub struct Kept {
     events: u64,
     calls: usize,
     harts: [Option<Standing>; HARTS as usize],
-    // How many steps each hart's call has made.
-    made: [usize; HARTS as usize],
 }
 
 // What the operation that was asked for answers where its lock is taken, as far as the tree shows it. What it finds there is read from
@@ -64,7 +63,6 @@ impl Kept {
             events: 0,
             calls: 0,
             harts: [None, None, None, None, None, None, None, None],
-            made: [0; HARTS as usize],
         }
     }
 
@@ -78,12 +76,7 @@ impl Kept {
         requires { IsCall call }
     {
         let standing = Standing::new(alloc, self.calls, call)?;
-        if let Some(place) = self.harts.get_mut(usize::from(hart)) {
-            *place = Some(standing);
-        }
-        if let Some(made) = self.made.get_mut(usize::from(hart)) {
-            *made = 0;
-        }
+        self.put(hart, Some(standing));
         self.calls = self.calls.saturating_add(1);
         self.passes();
         Ok(())
@@ -91,18 +84,18 @@ impl Kept {
 
     /// A step of the hart's call runs in this event; `heard` is what the call heard, where an operation ended there.
     pub fn runs(&mut self, alloc: Global, hart: u8, heard: Option<Heard>) -> Result<(), NoMemory> {
-        if let Some(mark) = self.mark(hart, heard) {
-            self.moves(alloc, hart, mark)?;
-        }
+        let Some(mark) = self.mark(hart, heard) else {
+            self.hears(hart, heard);
+            return Ok(());
+        };
+        self.moves(alloc, hart, mark)?;
         self.hears(hart, heard);
         Ok(())
     }
 
     /// The event ends with the hart's reply.
     pub fn replies(&mut self, hart: u8) {
-        if let Some(place) = self.harts.get_mut(usize::from(hart)) {
-            *place = None;
-        }
+        self.put(hart, None);
         self.passes();
     }
 
@@ -118,48 +111,65 @@ impl Kept {
         }
     }
 
+    // The hart has this call under way, or none.
+    fn put(&mut self, hart: u8, standing: Option<Standing>) {
+        if hart >= HARTS {
+            return;
+        }
+        self.harts[usize::from(hart)] = standing;
+    }
+
+    // Takes the hart's call out.
+    fn take(&mut self, hart: u8) -> Option<Standing> {
+        if hart >= HARTS {
+            return None;
+        }
+        mem::replace(&mut self.harts[usize::from(hart)], None)
+    }
+
     // The move that is made in this step, if its operation acts here and makes one.
     fn mark(&self, hart: u8, heard: Option<Heard>) -> Option<Mark> {
         let standing = self.standing(hart)?;
-        if acts_first(&standing.ask()) {
-            if standing.has_begun() {
-                return None;
-            }
-            let heard = match heard {
-                Some(heard) => heard,
-                None => seen(&self.tree, standing),
-            };
-            return standing.mark(&heard);
+        if acts_first(&standing.ask()) && standing.has_begun() {
+            return None;
         }
         match heard {
             Some(heard) => standing.mark(&heard),
-            None => None,
+            None => {
+                if !acts_first(&standing.ask()) {
+                    return None;
+                }
+                let heard = seen(&self.tree, standing);
+                standing.mark(&heard)
+            }
         }
     }
 
     // The call goes on.
     fn hears(&mut self, hart: u8, heard: Option<Heard>) {
-        if let Some(place) = self.harts.get_mut(usize::from(hart)) {
-            let goes_on = match (place.take(), heard) {
-                (Some(standing), Some(heard)) => standing.hear(&heard),
-                (Some(standing), None) => {
-                    let mut standing = standing;
-                    standing.begin();
-                    Some(standing)
-                }
-                (None, _) => None,
-            };
-            *place = goes_on;
+        let Some(standing) = self.take(hart) else {
+            return;
+        };
+        match heard {
+            Some(heard) => {
+                let goes_on = standing.hear(&heard);
+                self.put(hart, goes_on);
+            }
+            None => {
+                let mut standing = standing;
+                standing.begin();
+                self.put(hart, Some(standing));
+            }
         }
     }
 
     // Whether the hart's walk stands in no live directory.
     fn is_lost(&self, hart: u8) -> bool {
-        match self.standing(hart) {
-            Some(standing) => match standing.walk() {
-                Some(walk) => !is_live_directory(&self.tree, walk.directory),
-                None => false,
-            },
+        let Some(standing) = self.standing(hart) else {
+            return false;
+        };
+        match standing.walk() {
+            Some(walk) => !is_live_directory(&self.tree, walk.directory),
             None => false,
         }
     }
@@ -175,15 +185,31 @@ impl Kept {
     // What the move tells is written, unless it was as the walk was lost; then the walks that it loses fail, in order of hart.
     fn moves(&mut self, alloc: Global, hart: u8, mark: Mark) -> Result<(), NoMemory> {
         let before = self.lost();
+        let was_lost = self.is_lost(hart);
         let told = self.told(alloc, hart, mark)?;
-        if let Some(deed) = told {
-            if hart < HARTS && !before[usize::from(hart)] {
-                self.write(hart, deed)?;
+        self.tell(hart, told, was_lost)?;
+        self.fall(&before)
+    }
+
+    // What is told is written, unless the walk was lost before.
+    fn tell(&mut self, hart: u8, told: Option<Deed>, was_lost: bool) -> Result<(), NoMemory> {
+        match told {
+            Some(deed) => {
+                if was_lost {
+                    Ok(())
+                } else {
+                    self.write(hart, deed)
+                }
             }
+            None => Ok(()),
         }
-        for other in 0..HARTS {
-            if !before[usize::from(other)] && self.is_lost(other) {
-                self.write(other, FAILED_WALK)?;
+    }
+
+    // The walks fail that are lost by now and weren't before, in order of hart.
+    fn fall(&mut self, before: &[bool; HARTS as usize]) -> Result<(), NoMemory> {
+        for hart in 0..HARTS {
+            if !before[usize::from(hart)] && self.is_lost(hart) {
+                self.write(hart, FAILED_WALK)?;
             }
         }
         Ok(())
@@ -193,26 +219,29 @@ impl Kept {
     fn told(&mut self, alloc: Global, hart: u8, mark: Mark) -> Result<Option<Deed>, NoMemory> {
         match mark {
             Mark::Begin => self.begins(alloc, hart),
-            Mark::Look(new) => self.looks(alloc, hart, u16::try_from(new).unwrap_or(0)),
+            Mark::Look(new) => self.looks(alloc, hart, new),
             Mark::Quit => Ok(Some(self.quits(hart))),
-            Mark::Frees(_) | Mark::Orphans(_) | Mark::Mends | Mark::Fills => Ok(None),
+            Mark::Own => self.acts_alone(alloc, hart, Mark::Own),
+            Mark::Truncate(fd) => self.acts_alone(alloc, hart, Mark::Truncate(fd)),
+            Mark::Bump => self.acts_alone(alloc, hart, Mark::Bump),
+            Mark::Unbump => self.acts_alone(alloc, hart, Mark::Unbump),
+            Mark::Piece(index) => self.acts_alone(alloc, hart, Mark::Piece(index)),
             Mark::PartOfPiece(_, _) => Ok(None),
-            own => self.acts(alloc, hart, own, 0),
+            Mark::Frees(_) => Ok(None),
+            Mark::Orphans(_) => Ok(None),
+            Mark::Mends => Ok(None),
+            Mark::Fills => Ok(None),
         }
     }
 
-    // The step that the mark is for acts on the tree. One that the tree refuses is left out.
+    // The step acts on the tree, and the hart's walk is over. One that the tree refuses is left out.
     fn acts(
         &mut self,
         alloc: Global,
         hart: u8,
-        mark: Mark,
+        action: Action,
         new: u16,
     ) -> Result<Option<Deed>, NoMemory> {
-        let Some(standing) = self.standing(hart) else {
-            return Ok(None);
-        };
-        let action = standing.action(alloc, mark)?;
         self.set_walk(hart, None);
         let step = TreeStep { hart, new, action };
         match self.tree.apply(alloc, &step) {
@@ -222,35 +251,61 @@ impl Kept {
         }
     }
 
+    // The step that the mark is for acts.
+    fn acts_alone(
+        &mut self,
+        alloc: Global,
+        hart: u8,
+        mark: Mark,
+    ) -> Result<Option<Deed>, NoMemory> {
+        let Some(standing) = self.standing(hart) else {
+            return Ok(None);
+        };
+        let action = standing.action(alloc, mark)?;
+        self.acts(alloc, hart, action, 0)
+    }
+
     // A walk stands at the start of its path; a path without elements is found there.
     fn begins(&mut self, alloc: Global, hart: u8) -> Result<Option<Deed>, NoMemory> {
-        let start = match self.standing(hart) {
-            Some(standing) => standing.start(self.tree.directory(hart)),
-            None => None,
+        let Some(standing) = self.standing(hart) else {
+            return Ok(None);
         };
-        if start.is_none() {
-            return self.acts(alloc, hart, Mark::Begin, 0);
+        match standing.start(self.tree.directory(hart)) {
+            Some(walk) => {
+                self.set_walk(hart, Some(walk));
+                Ok(None)
+            }
+            None => {
+                let action = standing.action(alloc, Mark::Begin)?;
+                self.acts(alloc, hart, action, 0)
+            }
         }
-        self.set_walk(hart, start);
-        Ok(None)
     }
 
     // Where the walk stands when it has looked up its next element, if it found that and goes on.
-    fn next_walk(&self, hart: u8) -> Option<Walk> {
-        let standing = self.standing(hart)?;
-        let walk = standing.walk()?;
+    fn next_walk(&self, standing: &Standing, walk: Walk) -> Option<Walk> {
         let number = look(&self.tree, walk.directory, standing.name(walk))?;
         standing.after(walk, number)
     }
 
-    // The next element is looked up: the step acts at the last one, or where nothing is found.
-    fn looks(&mut self, alloc: Global, hart: u8, new: u16) -> Result<Option<Deed>, NoMemory> {
-        let next = self.next_walk(hart);
-        if next.is_none() {
-            return self.acts(alloc, hart, Mark::Look(0), new);
+    // The next element is looked up: the step acts at the last one, or where nothing is found. Without a walk nothing is.
+    fn looks(&mut self, alloc: Global, hart: u8, new: u32) -> Result<Option<Deed>, NoMemory> {
+        let Some(standing) = self.standing(hart) else {
+            return Ok(None);
+        };
+        let Some(walk) = standing.walk() else {
+            return Ok(None);
+        };
+        match self.next_walk(standing, walk) {
+            Some(next) => {
+                self.set_walk(hart, Some(next));
+                Ok(None)
+            }
+            None => {
+                let action = standing.step(walk)?;
+                self.acts(alloc, hart, action, u16::try_from(new).unwrap_or(0))
+            }
         }
-        self.set_walk(hart, next);
-        Ok(None)
     }
 
     // The walk is given up: its step fails.
@@ -260,9 +315,22 @@ impl Kept {
     }
 
     fn set_walk(&mut self, hart: u8, walk: Option<Walk>) {
-        if let Some(Some(standing)) = self.harts.get_mut(usize::from(hart)) {
-            standing.set_walk(walk);
-        }
+        let Some(standing) = self.take(hart) else {
+            return;
+        };
+        let mut standing = standing;
+        standing.set_walk(walk);
+        self.put(hart, Some(standing));
+    }
+
+    // The hart's call has made a step more.
+    fn count(&mut self, hart: u8) {
+        let Some(standing) = self.take(hart) else {
+            return;
+        };
+        let mut standing = standing;
+        standing.count();
+        self.put(hart, Some(standing));
     }
 
     // An entry at this event.
@@ -270,17 +338,14 @@ impl Kept {
         let Some(standing) = self.standing(hart) else {
             return Ok(());
         };
-        let call = standing.id();
-        let Some(made) = self.made.get_mut(usize::from(hart)) else {
-            return Ok(());
-        };
-        self.list.push(Hint {
-            call,
-            step: *made,
+        let hint = Hint {
+            call: standing.id(),
+            step: standing.made(),
             new: deed.new,
             event: self.events,
-        })?;
-        *made = made.saturating_add(1);
+        };
+        self.list.push(hint)?;
+        self.count(hart);
         Ok(())
     }
 }

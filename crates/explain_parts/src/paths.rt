@@ -34,7 +34,7 @@ fn name_end(path: &[u8]) -> usize
 }
 
 // At most the first `count` bytes.
-fn first(bytes: &[u8], count: usize) -> &[u8]
+pub(crate) fn first(bytes: &[u8], count: usize) -> &[u8]
     ensures { result.now ≡ take count bytes.now }
 {
     if bytes.len() > count {
@@ -42,6 +42,13 @@ fn first(bytes: &[u8], count: usize) -> &[u8]
     } else {
         bytes
     }
+}
+
+// The path from this place on; nothing past its end.
+pub(crate) fn rest_of(path: &[u8], from: usize) -> &[u8]
+    ensures { result.now ≡ drop from path.now }
+{
+    &path[from.min(path.len())..]
 }
 
 /// The first element of a path, and the path after it, which is its end.
