@@ -47,8 +47,9 @@ pub struct Lowered {
     list: Numbers,
     notes: Notes,
     part: InodePart,
-    // What the call heard in its last step, where an operation over whole inodes ended there.
-    heard: Option<Heard>,
+    // Whether an operation over whole inodes ended in the call's last step, and what was heard as the last one ended.
+    ended: bool,
+    heard: Heard,
     // What the call answers, once it has ended.
     says: CallAnswer,
 }
@@ -63,7 +64,8 @@ impl Lowered {
             list,
             notes: Notes::new(),
             part: InodePart::idle(),
-            heard: None,
+            ended: false,
+            heard: Heard::Did,
             says: CallAnswer::Done,
         })
     }
@@ -82,7 +84,7 @@ impl Lowered {
         self.call = Whole::new(call);
         self.list.clear();
         self.notes = Notes::new();
-        self.heard = None;
+        self.ended = false;
         let ask = self.call.ask();
         let path = self.call.text();
         let second = self.call.second();
@@ -91,9 +93,9 @@ impl Lowered {
 
     /// What the call heard in its last step, where an operation over whole inodes ended there; also of a call that has ended.
     pub fn heard(&self) -> Option<Heard>
-        ensures { result ≡ self.now.heard }
+        ensures { result ≡ heard_if self.now.ended self.now.heard }
     {
-        self.heard
+        if self.ended { Some(self.heard) } else { None }
     }
 
     /// The reply of the call, once it has ended.
@@ -176,7 +178,6 @@ impl Control for Lowered {
 
     #[inline(always)]
     fn next(&mut self, answer: &Answer, hand: &mut Hand) -> Option<()> {
-        let mut heard = Heard::Did;
         let part = &mut self.part;
         if part_next(
             part,
@@ -184,10 +185,10 @@ impl Control for Lowered {
             &mut self.notes,
             answer,
             hand,
-            &mut heard,
+            &mut self.heard,
         ) {
-            self.heard = Some(heard);
-            if self.call.next(&heard, &mut self.list, &mut self.says) {
+            self.ended = true;
+            if self.call.next(&self.heard, &mut self.list, &mut self.says) {
                 Some(())
             } else {
                 let ask = self.call.ask();
@@ -198,7 +199,7 @@ impl Control for Lowered {
                 None
             }
         } else {
-            self.heard = None;
+            self.ended = false;
             None
         }
     }

@@ -51,6 +51,7 @@ pub enum OneStep {
 
 impl OneStep {
     /// The one that this ask is.
+    #[inline(always)]
     pub fn begin(ask: Ask, hand: &Hand) -> Option<OneStep>
         ensures is { (path : List ℕ) → result ≡ step_for (above_op path ask) hand.now }
     {
@@ -82,6 +83,7 @@ impl OneStep {
     }
 
     /// The operation.
+    #[inline(always)]
     pub fn op(&self) -> Op
         ensures op { result ≡ step_asked self.now }
         ensures asks { (path : List ℕ) (notes : NotesState) (h : HandState)

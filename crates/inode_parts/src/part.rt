@@ -112,9 +112,12 @@ impl InodePart {
         ensures hand { bare hand.new ≡ bare hand.old }
     {
         if is_short(&ask) {
-            *self = one_or_leave(ask, hand);
+            self.begin_short(ask, hand);
         } else {
-            self.begin_long(ask, sizes, path, second, notes, hand);
+            match ask {
+                Ask::Take(number, query) => self.begin_take(number, query, sizes, hand),
+                _ => self.begin_long(ask, sizes, path, second, notes, hand),
+            }
         }
     }
 
@@ -166,7 +169,7 @@ impl InodePart {
             )),
             Ask::LockFile(fd) => *self = InodePart::LockFile(LockFilePart::begin(fd, sizes, hand)),
             Ask::StatFile(fd) => *self = InodePart::StatFile(StatFilePart::begin(fd, sizes, hand)),
-            Ask::Take(number, query) => *self = take(number, query, sizes, hand),
+            Ask::Take(number, query) => self.begin_take(number, query, sizes, hand),
             Ask::ReadFile(fd, number, _, count) => {
                 *self = InodePart::ReadFile(ReadFilePart::begin(fd, number, count, notes, hand));
             }
@@ -174,11 +177,47 @@ impl InodePart {
                 let part = WriteFilePart::begin(fd, number, index, path, sizes, notes, hand);
                 *self = InodePart::WriteFile(part);
             }
-            _ => *self = one_or_leave(ask, hand),
+            _ => self.begin_short(ask, hand),
+        }
+    }
+
+    // That of an operation which is one below, or leaves a transaction. Where one below was here before, it alone is written.
+    #[inline(always)]
+    fn begin_short(&mut self, ask: Ask, hand: &Hand)
+        ensures is { (path : List ℕ) → self.new ≡ part_for (above_op path ask) hand.now }
+    {
+        match OneStep::begin(ask, hand) {
+            Some(next) => match self {
+                InodePart::One(step) => *step = next,
+                _ => *self = InodePart::One(next),
+            },
+            None => *self = InodePart::Leave(Finish::Leave),
+        }
+    }
+
+    // An inode is locked by the reference at a seat, or where none is there by the first listed one.
+    fn begin_take(&mut self, number: u32, query: Query, sizes: &Super, hand: &Hand)
+        requires sizes { IsSized sizes.now }
+        requires begins { (path : List ℕ) × (notes : NotesState)
+            × BeginsWith path (Take number (query_in path query)) (having hand.now notes) }
+        ensures part { (path : List ℕ) (notes : NotesState) → BeginsWith path (Take number (query_in path query)) (having hand.now notes)
+            → IsPart sizes.now (carry_in path notes hand.now) (Take number (query_in path query)) (part_left path notes self.new hand.now) }
+        ensures ready { PartReady self.new hand.now }
+        ensures told { (path second : List ℕ) → IsTold path second query → PartTold path second self.new }
+        ensures under { (path : List ℕ) (notes : NotesState) → BeginsWith path (Take number (query_in path query)) (having hand.now notes)
+            → UnderWay path (Take number (query_in path query)) (having hand.now notes) self.new (having hand.now notes) }
+    {
+        let seat = reference_seat(hand, number);
+        let there = refers_at(hand, seat, number);
+        if there {
+            *self = InodePart::Take(TakePart::begin(number, query, sizes, hand));
+        } else {
+            *self = InodePart::Relock(RelockPart::begin(sizes, hand));
         }
     }
 
     /// The next operation in a call with this text, of two the first. Bytes to be recorded are written in their buffer.
+    #[inline(always)]
     pub fn op(&self, text: &[u8], hand: &mut Hand) -> Op
         requires ready { PartReady self.now hand.old }
         requires told { (more : List ℕ) × PartTold text.now more self.now }
@@ -265,37 +304,6 @@ impl InodePart {
             InodePart::ReadFile(_) => unreachable!(),
             InodePart::WriteFile(part) => part.next(path, answer, hand, heard),
         }
-    }
-}
-
-// An inode is locked by the reference at a seat, or where none is there by the first listed one.
-fn take(number: u32, query: Query, sizes: &Super, hand: &Hand) -> InodePart
-    requires sizes { IsSized sizes.now }
-    requires begins { (path : List ℕ) × (notes : NotesState) × BeginsWith path (Take number (query_in path query)) (having hand.now notes) }
-    ensures part { (path : List ℕ) (notes : NotesState) → BeginsWith path (Take number (query_in path query)) (having hand.now notes)
-        → IsPart sizes.now (carry_in path notes hand.now) (Take number (query_in path query)) (part_left path notes result hand.now) }
-    ensures ready { PartReady result hand.now }
-    ensures told { (path second : List ℕ) → IsTold path second query → PartTold path second result }
-    ensures under { (path : List ℕ) (notes : NotesState) → BeginsWith path (Take number (query_in path query)) (having hand.now notes)
-        → UnderWay path (Take number (query_in path query)) (having hand.now notes) result (having hand.now notes) }
-{
-    let seat = reference_seat(hand, number);
-    let there = refers_at(hand, seat, number);
-    if there {
-        InodePart::Take(TakePart::begin(number, query, sizes, hand))
-    } else {
-        InodePart::Relock(RelockPart::begin(sizes, hand))
-    }
-}
-
-// That of an operation which is one below, or leaves a transaction.
-fn one_or_leave(ask: Ask, hand: &Hand) -> InodePart
-    requires begins { (path : List ℕ) × Begins (above_op path ask) hand.now }
-    ensures is { (path : List ℕ) → result ≡ part_for (above_op path ask) hand.now }
-{
-    match OneStep::begin(ask, hand) {
-        Some(step) => InodePart::One(step),
-        None => InodePart::Leave(Finish::Leave),
     }
 }
 

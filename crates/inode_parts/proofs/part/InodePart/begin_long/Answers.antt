@@ -132,8 +132,8 @@ returns-in-LockFile-clause-part c = rw c.in-LockFile.is (c.begin-in-LockFile.ens
 pub returns-in-StatFile-clause-part : goal.returns-in-StatFile-clause-part
 returns-in-StatFile-clause-part c = rw c.in-StatFile.is (c.begin-in-StatFile.ensures.part (c.args.path.now ++ c.args.second.now) c.args.notes.now)
 
-pub take-requires : goal.take-requires
-take-requires c =
+pub begin_take-requires : goal.begin_take-requires
+begin_take-requires c =
     let path = c.args.path.now ++ c.args.second.now in
     let m = c.args.notes.now in
     record { sizes = c.requires.sizes; begins = (path, m, subst (λ (a : Ask). BeginsWith path (op_in path a) (having c.args.hand.now m)) c.in-Take.is c.requires.begins) }
@@ -143,22 +143,22 @@ returns-in-Take-clause-part c =
     let path = c.args.path.now ++ c.args.second.now in
     let m = c.args.notes.now in
     let h = c.args.hand.now in
-    subst (λ (a : Ask). BeginsWith path (op_in path a) (having h m) → IsPart c.args.sizes.now (carry_in path m h) (op_in path a) (part_left path m c.take.result h)) (sym c.in-Take.is)
-    (λ begins. c.take.ensures.part path m begins) c.requires.begins
+    subst (λ (a : Ask). BeginsWith path (op_in path a) (having h m) → IsPart c.args.sizes.now (carry_in path m h) (op_in path a) (part_left path m c.begin_take.new.self h)) (sym c.in-Take.is)
+    (λ begins. c.begin_take.ensures.part path m begins) c.requires.begins
 
 pub returns-in-Take-clause-under : goal.returns-in-Take-clause-under
 returns-in-Take-clause-under c =
     let path = c.args.path.now ++ c.args.second.now in
     let m = c.args.notes.now in
     let h = c.args.hand.now in
-    subst (λ (a : Ask). BeginsWith path (op_in path a) (having h m) → UnderWay path (op_in path a) (having h m) c.take.result (having h m)) (sym c.in-Take.is)
-    (λ begins. c.take.ensures.under path m begins) c.requires.begins
+    subst (λ (a : Ask). BeginsWith path (op_in path a) (having h m) → UnderWay path (op_in path a) (having h m) c.begin_take.new.self (having h m)) (sym c.in-Take.is)
+    (λ begins. c.begin_take.ensures.under path m begins) c.requires.begins
 
 pub returns-in-Take-clause-told : goal.returns-in-Take-clause-told
 returns-in-Take-clause-told c =
     let path = c.args.path.now in
     let second = c.args.second.now in
-    c.take.ensures.told path second (subst (λ (a : Ask). AskTold path second a) c.in-Take.is c.requires.told)
+    c.begin_take.ensures.told path second (subst (λ (a : Ask). AskTold path second a) c.in-Take.is c.requires.told)
 
 pub returns-in_default : goal.returns-in_default
 returns-in_default c =
@@ -169,7 +169,7 @@ returns-in_default c =
     let op = op_in path c.args.ask in
     let no = c.in_default in
     let has = short_begins path m c.args.ask h c.requires.begins no.not-Store no.not-Empty no.not-Enter no.not-Clear no.not-Fill no.not-Free no.not-Claim no.not-LockOpen no.not-LockFile no.not-StatFile no.not-Take no.not-ReadFile no.not-WriteFile in
-    let is = c.one_or_leave.ensures.is path in
+    let is = c.begin_short.ensures.is path in
     record {
       part = subst (λ (p : InodePart). IsPart sizes (carry_in path m h) op (part_left path m p h)) (sym is) (is_part sizes path m h op has);
       ready = subst (λ (p : InodePart). PartReady p h) (sym is) (is_ready op h has);

@@ -11,7 +11,7 @@ use Rattle.inode_parts.specs.declared.part.InodePart.TheVariants as part
 use Rattle.path_walk.specs.Asks.{query_in}
 use Rattle.inode_parts.proofs.Beginning.{may_take_by}
 use Rattle.inode_parts.proofs.Relocks.{relocked_by, taken_by}
-use Rattle.inode_parts.proofs.part.take.Goals as goal
+use Rattle.inode_parts.proofs.part.InodePart.begin_take.Goals as goal
 
 pub begin-requires : goal.begin-requires
 begin-requires c =
