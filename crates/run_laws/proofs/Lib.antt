@@ -24,6 +24,10 @@ pub mod SameRuns
 pub mod Refined
 pub mod Shown
 pub mod Worlds
+pub mod Faithful
+pub mod FaithfulCalls
+pub mod Retold
+pub mod FaithfulRuns
 pub mod RoomRuns
 pub mod Traced
 pub mod Numbered

@@ -32,21 +32,21 @@ use Rattle.run_laws.proofs.CallFits.{call_fits, most_written}
 use Rattle.run_laws.proofs.Operations.{all_within}
 use Rattle.run_laws.proofs.Whole.{whole_lawful, whole_laws}
 
-whole_lower_laws : (sizes : Super) → LowerLaws whole_inodes (layer sizes)
+pub whole_lower_laws : (sizes : Super) → LowerLaws whole_inodes (layer sizes)
 whole_lower_laws sizes = let b = lower_laws sizes in record { same = b.same; trans = b.trans; kept = λ h g u xs o. b.kept h g u [] o.1; base = b.base; idle = b.idle }
 
-whole_starts_both : (sizes : Super) → StartsBoth inode_calls (layer sizes) (begins sizes)
+pub whole_starts_both : (sizes : Super) → StartsBoth inode_calls (layer sizes) (begins sizes)
 whole_starts_both sizes h call busy r s g holds inv idle free e =
     let b = starts_both sizes h call busy r s g holds inv idle free e in
     record { above = b.above; begins = b.begins; shows = b.shows; halted = b.halted; kept = b.kept; rests = b.rests }
 
 -- a call begins in no transaction, so that nothing is spent
-none_yet : (sizes : Super) (h : ℕ) (call : Call) (w : Both World above.World) → h < hart_count → (log_of w.real.blocks).sizes ≡ sizes → IsStarted inode_calls (layer sizes) h call w → HasSpent sizes h unspent w.real.blocks
+pub none_yet : (sizes : Super) (h : ℕ) (call : Call) (w : Both World above.World) → h < hart_count → (log_of w.real.blocks).sizes ≡ sizes → IsStarted inode_calls (layer sizes) h call w → HasSpent sizes h unspent w.real.blocks
 none_yet sizes h call w lt at from =
     none_spent sizes h w.real.blocks w.seen lt from.shows.0 (joined_same h call from.busy from.before w.seen lt from.idle (start_is serves h call from.busy from.before w.seen from.begins).begins ∙ from.idle.joined) at
 
 -- the disk is one with inodes, as its blocks show
-has_inodes : (sizes : Super) (r : Blocks) (w : above.World) → Shows r w → (log_of r).sizes ≡ sizes → HasInodes sizes
+pub has_inodes : (sizes : Super) (r : Blocks) (w : above.World) → Shows r w → (log_of r).sizes ≡ sizes → HasInodes sizes
 has_inodes sizes r w shows at =
     let some = shows.blocks.seen.good.few_inodes in
     let few = shows.blocks.seen.good.many_inodes in

@@ -3,6 +3,7 @@ pub mod Wanted
 pub mod WholeInodes
 pub mod Laws
 pub mod Worlds
+pub mod Faithful
 pub mod Rooms
 pub mod OneList
 pub mod Wants

@@ -5,6 +5,7 @@
 
 ghost use Rattle.run_laws.specs.Answered.{CallsFindNoneWhereThereIsNone};
 ghost use Rattle.run_laws.specs.Changes.{ChangesAreTold, WritesAreMade};
+ghost use Rattle.run_laws.specs.Faithful.{CallsGoOnAsTheyActed};
 ghost use Rattle.run_laws.specs.Idle.{IdleHartsHaveBegunNothing};
 ghost use Rattle.run_laws.specs.Laws.{RunsRefineWholeInodes};
 ghost use Rattle.run_laws.specs.OneList.{RunsHaveOneList};
@@ -31,6 +32,15 @@ pub fn runs_refine_whole_inodes()
 /// and each call of its trace, with its reply, is a run of the call's program over whole inodes.
 pub fn worlds_refine_whole_inodes<D: Device>(world: &World<D>)
     ensures { WorldsRefineWholeInodes D.contents D.failures world.now }
+{
+    let _ = world;
+}
+
+/// In such a run each operation on whole inodes is made once within its own program on the blocks, at one of that program's steps, and with
+/// the answer that the program ends with, by which the call goes on. A finished call has made all of its operations so, and ends with its
+/// reply. It is so of a call under way, as far as it has come; only of an operation whose program hasn't ended yet is no answer compared.
+pub fn calls_go_on_as_they_acted<D: Device>(world: &World<D>)
+    ensures { CallsGoOnAsTheyActed D.contents D.failures world.now }
 {
     let _ = world;
 }

@@ -1,0 +1,121 @@
+-- In each run of a mounted world the calls go on as their operations acted.
+use Rattle.std.proofs.Common.{◌≡◌, ◌<◌, ◌∙◌, ℕ, true, List, refl, sym, subst}
+use Rattle.fs_layout.specs.declared.superblock.Super.{Super}
+use Rattle.fs_layout.specs.Recovered.{sizes_of}
+use Rattle.plain_tree.specs.declared.call.Call.{Call}
+use Rattle.plain_tree.specs.Tree.{put}
+use Rattle.plain_tree.specs.Widths.{hart_count}
+use Rattle.atomic_programs.specs.Calls.{Theory, AllHonest, Event as EventOf, Lawful, fresh, run}
+use Rattle.atomic_programs.specs.Explained.{IsExplained, history, steps_of}
+use Rattle.atomic_programs.specs.Joined.{Both}
+use Rattle.atomic_programs.specs.Lifting.{BeginsSome, IsStarted, Uses}
+use Rattle.atomic_programs.specs.Noted.{SameRuns}
+use Rattle.atomic_programs.proofs.Explains.{explains}
+use Rattle.atomic_programs.proofs.Noted.{Alone}
+use Rattle.atomic_programs.proofs.NotedRuns.{same_runs}
+use Rattle.fs_machine.specs.LogPart.{Outside}
+use Rattle.inode_machine.specs.Budget.{unspent}
+use Rattle.inode_machine.specs.Programs.{program}
+use Rattle.inode_machine.specs.World as above
+use Rattle.inode_machine.proofs.Budgets.{transactions_are_small}
+use Rattle.inodes_on_blocks.specs.Lowering.{nothing}
+use Rattle.inodes_on_blocks.specs.Mounted.{IsMountable}
+use Rattle.inodes_on_blocks.specs.Programs.{handlers}
+use Rattle.inodes_on_blocks.specs.Room.{HasSpent}
+use Rattle.inodes_on_blocks.specs.Spending.{recorded_blocks}
+use Rattle.inodes_on_blocks.proofs.Mounted.{mounts_show_their_trees}
+use Rattle.inodes_on_blocks.proofs.Withins.{affords}
+use Rattle.calls_on_blocks.specs.History.{first}
+use Rattle.calls_on_blocks.specs.Layer.{World, layer, shared_of}
+use Rattle.calls_on_blocks.specs.Theory.{begins, block_calls, child_of, serves}
+use Rattle.calls_on_blocks.proofs.History.{first_holds, first_idle}
+use Rattle.calls_on_blocks.proofs.Lawful.{served_is}
+use Rattle.calls_on_blocks.proofs.Starting.{begun_here, below_count}
+use Rattle.hart_core.specs.Runs.{AllAnswer, IsHistory}
+use Rattle.hart_core.specs.Worlds.{WorldOf}
+use Rattle.hart_core.proofs.Histories.{all_honest}
+use Rattle.hart_core.proofs.Resting.{mountable, rests_erased}
+use Rattle.run_laws.specs.Faithful.{AreOf, AreOfFinished, CallsGoOnAsTheyActed, GoOnAsTheyActed, IsOperation, noted_inode_calls}
+use Rattle.run_laws.specs.WholeInodes.{inode_calls, lowered_inode_calls, operations, told_by, whole_inodes}
+use Rattle.run_laws.proofs.CallFits.{call_fits, most_written}
+use Rattle.run_laws.proofs.Faithful.{PlacesItself, faithful_shorter}
+use Rattle.run_laws.proofs.FaithfulCalls.{faithful_calls, faithful_lawful, telling}
+use Rattle.run_laws.proofs.Lowered.{has_inodes, lowered_lawful, none_yet, whole_lower_laws, whole_starts_both}
+use Rattle.run_laws.proofs.Operations.{Within, all_within}
+use Rattle.run_laws.proofs.Retold.{retold_begun, retold_honest, retold_whole}
+use Rattle.run_laws.proofs.SameRuns.{honest_same}
+use Rattle.run_laws.proofs.Whole.{whole_lawful}
+
+alone : Alone whole_inodes
+alone h v w xs o = o.0
+
+itself : PlacesItself whole_inodes IsOperation
+itself h op m a w = (record { op = op; answer = a; mark = m a; told = told_by h (m a) w }, refl, (told_by h (m a) w, refl))
+
+module _ (sizes : Super) where
+  is_below : (h : ℕ) (call : Call) → BeginsSome inode_calls (layer sizes) (begins sizes) h call → (h < hart_count) × (serves call ≡ true)
+  is_below h call can =
+      let t : World = record (can.1) { children = put can.1.children h (child_of call) } in
+      let b = begun_here h call can.0 (shared_of can.1) t can.2 can.3 in
+      (below_count h b.hart, b.serves_it)
+
+  none_spent : (h : ℕ) (call : Call) → BeginsSome inode_calls (layer sizes) (begins sizes) h call → (w : Both World above.World) → IsStarted inode_calls (layer sizes) h call w → (layer sizes).Base h w.real w.seen nothing → HasSpent sizes h unspent w.real.blocks
+  none_spent h call can w from base = none_yet sizes h call w (is_below h call can).0 base.1 from
+
+  uses : (h : ℕ) (call : Call) → BeginsSome inode_calls (layer sizes) (begins sizes) h call → (w : Both World above.World) → IsStarted inode_calls (layer sizes) h call w → (layer sizes).Base h w.real w.seen nothing → Uses whole_inodes (Within sizes h) (program call)
+  uses h call can w from base =
+      let b = is_below h call can in
+      all_within sizes h b.0 (has_inodes sizes w.real.blocks w.seen from.shows.0 base.1) (most_written call) (program call) (call_fits call (served_is call b.1))
+
+  faithful : Lawful (faithful_calls inode_calls (layer sizes) (handlers sizes) (begins sizes) IsOperation)
+  faithful =
+      faithful_lawful inode_calls (layer sizes) (handlers sizes) (begins sizes) IsOperation whole_lawful (whole_lower_laws sizes) (whole_starts_both sizes) (lowered_lawful sizes) alone (λ w. tt) itself
+      (recorded_blocks operations) (λ h r s. HasSpent sizes h s r.blocks) unspent (λ call. affords operations (program call) unspent (transactions_are_small call)) none_spent uses
+
+module _ (disk : List (List ℕ)) (failures : ℕ) (events : List (EventOf Call Outside)) where
+  abbrev sizes : Super
+  sizes = sizes_of disk
+
+  abbrev L : Theory
+  L = lowered_inode_calls (sizes_of disk)
+
+  abbrev N : Theory
+  N = noted_inode_calls (sizes_of disk)
+
+  abbrev O : Theory
+  O = telling (lowered_inode_calls (sizes_of disk)) (AreOf (sizes_of disk))
+
+  module _ (may : IsMountable disk) (honest : AllHonest (lowered_inode_calls (sizes_of disk)) events (fresh (lowered_inode_calls (sizes_of disk)) (first disk failures))) where
+    same : SameRuns L (AreOfFinished sizes) (first disk failures)
+    same = same_runs L (AreOfFinished sizes) (first disk failures)
+
+    explained : IsExplained O (O.M.tree (first disk failures)) (run O events (fresh O (first disk failures)))
+    explained =
+        let shows = mounts_show_their_trees disk failures may in
+        explains O (faithful sizes) (first disk failures) events (first_holds disk failures shows) (first_idle disk failures shows) (retold_honest L (AreOfFinished sizes) (AreOf sizes) (first disk failures) events (same.honest events honest))
+
+    go_on : GoOnAsTheyActed disk failures events
+    go_on =
+        record {
+          outcomes_are = same.outcomes_are events;
+          operations_are = same.entries_are events;
+          finished = λ f i. retold_whole L (AreOfFinished sizes) (AreOf sizes) (first disk failures) (O.M.tree (first disk failures)) events explained (λ v. tt) f i;
+          under_way = λ h r is.
+              let b = retold_begun L (AreOfFinished sizes) (AreOf sizes) (first disk failures) (O.M.tree (first disk failures)) events explained (λ v. tt) h r is in
+              faithful_shorter whole_inodes (layer sizes) (handlers sizes) IsOperation b.1 nothing (program r.call) (steps_of N r.start (history N (run N events (fresh N (first disk failures))))) b.0 b.2;
+        }
+
+pub calls_go_on : {D : Type 0} (contents : D → List (List ℕ)) (failures : D → ℕ) (w : WorldOf D) → CallsGoOnAsTheyActed contents failures w
+calls_go_on contents failures w device events came new made mounted is =
+    go_on disk count made (mountable contents failures device w.harts mounted.rests)
+    (honest_same (sizes_of disk) made (fresh (block_calls (sizes_of disk)) (first disk count)) (fresh (lowered_inode_calls (sizes_of disk)) (first disk count)) refl
+    (all_honest (sizes_of disk) made (fresh (block_calls (sizes_of disk)) (first disk count)) (subst (AllAnswer (sizes_of disk) made) (sym (rests_erased contents failures device w.harts mounted.rests)) here.answers)))
+  where
+    disk : List (List ℕ)
+    disk = contents w.harts.core.log.cache.device
+
+    count : ℕ
+    count = failures w.harts.core.log.cache.device
+
+    here : IsHistory contents failures (sizes_of disk) w.harts events came new made
+    here = subst (λ (s : Super). IsHistory contents failures s w.harts events came new made) (mounted.sizes ∙ sym mounted.rests.disk.sizes) is
