@@ -1,5 +1,5 @@
 -- Each operation of a program above acts once within its own program below, with the answer that this program ends with.
-use Rattle.std.proofs.Common.{◌≡◌, ◌≢◌, ◌⊎◌, inl, inr, ◌<◌, ◌+◌, ◌-◌, ℕ, suc, Bool, true, false, Option, Some, None, List, [], ◌∷◌, ◌++◌, refl, sym, ◌∙◌, ap, subst, arith}
+use Rattle.std.proofs.Common.{◌≡◌, ◌≢◌, ◌⊎◌, inl, inr, ◌<◌, ◌+◌, ◌-◌, ℕ, suc, Bool, true, false, Option, Some, None, is_some, List, [], ◌∷◌, ◌++◌, refl, sym, ◌∙◌, ap, subst, arith}
 use Rattle.std.specs.Prelude.{nat_eq, if◌then◌else◌}
 use Rattle.std.proofs.lemmas.Bool.{eq-eqb, ne_eqb}
 use Rattle.atomic_programs.specs.Prog.{Ret, Do, bind, Did, Waits, Ran, Stops}
@@ -66,19 +66,19 @@ module _ (L : Machine) {A C : Type 0} (IsOf : A → L.Step → Type 0) (Open : T
   ends_shorter a (Do op m k) [] t = tt
   ends_shorter a (Do op m k) (e ∷ es) t = (t.0, t.1, ends_shorter a (k t.0) es t.2)
 
-  now_shorter : (p : P L (Handover A C)) (es : Notes L) → ActsNow L IsOf Open Then p (es ++ rest) → ActsWithin L IsOf (Unit {0}) Shorter p es ⊎ ActsNow L IsOf (Unit {0}) Shorter p es
-  now_shorter p [] t = inl (open_yet L IsOf (Unit {0}) Shorter p tt)
-  now_shorter p (e ∷ es) t = inr (t.0, t.1, t.2, t.3, ends_shorter t.0 p es t.4)
+  now_shorter : (marked : Type 0) (p : P L (Handover A C)) (es : Notes L) → marked × ActsNow L IsOf Open Then p (es ++ rest) → ActsWithin L IsOf (Unit {0}) Shorter p es ⊎ (marked × ActsNow L IsOf (Unit {0}) Shorter p es)
+  now_shorter marked p [] t = inl (open_yet L IsOf (Unit {0}) Shorter p tt)
+  now_shorter marked p (e ∷ es) t = let s = t.1 in inr (t.0, (s.0, s.1, s.2, s.3, ends_shorter s.0 p es s.4))
 
   within_shorter : (p : P L (Handover A C)) (es : Notes L) → ActsWithin L IsOf Open Then p (es ++ rest) → ActsWithin L IsOf (Unit {0}) Shorter p es
   within_shorter p [] t = open_yet L IsOf (Unit {0}) Shorter p tt
   within_shorter (Ret x) (e ∷ es) t = absurd t
-  within_shorter (Do op m k) (e ∷ es) t = (t.0, t.1, at (k t.0) (λ s. within_shorter (k t.0) es s) t.2)
+  within_shorter (Do op m k) (e ∷ es) t = (t.0, t.1, at (is_some (m t.0) ≡ true) (k t.0) (λ s. within_shorter (k t.0) es s) t.2)
     where
-      at : (p : P L (Handover A C)) → (ActsWithin L IsOf Open Then p (es ++ rest) → ActsWithin L IsOf (Unit {0}) Shorter p es)
-          → ActsWithin L IsOf Open Then p (es ++ rest) ⊎ ActsNow L IsOf Open Then p (es ++ rest) → ActsWithin L IsOf (Unit {0}) Shorter p es ⊎ ActsNow L IsOf (Unit {0}) Shorter p es
-      at p ih (inl s) = inl (ih s)
-      at p ih (inr s) = now_shorter p es s
+      at : (marked : Type 0) (p : P L (Handover A C)) → (ActsWithin L IsOf Open Then p (es ++ rest) → ActsWithin L IsOf (Unit {0}) Shorter p es)
+          → ActsWithin L IsOf Open Then p (es ++ rest) ⊎ (marked × ActsNow L IsOf Open Then p (es ++ rest)) → ActsWithin L IsOf (Unit {0}) Shorter p es ⊎ (marked × ActsNow L IsOf (Unit {0}) Shorter p es)
+      at marked p ih (inl s) = inl (ih s)
+      at marked p ih (inr s) = now_shorter marked p es s
 
 module _ (U : Machine) (R : Lower U.World) (handler : Handlers U R) (IsOf : (op : U.Op) → (U.Answer op → Option U.Mark) → U.Answer op → U.Step → Type 0) where
   -- a program that is under way may be at its start
@@ -97,7 +97,7 @@ module _ (U : Machine) (R : Lower U.World) (handler : Handlers U R) (IsOf : (op 
 -- ---- the program of one operation
 
 -- Its steps are noted, and where it acts, among them. E: which ending is claimed; yet: none is.
-module _ (L : Machine) (alone : Alone L) (clean : (w : L.World) → L.Clean w) (h : ℕ) {A C E : Type 0} (IsOf : A → L.Step → Type 0) (Open : E → Type 0) (Then : E → Handover A C → Notes L → Type 0) (Whole : E → Notes L → Type 0)
+module _ (L : Machine) (alone : Alone L) (clean : (w : L.World) → L.Clean w) (quiet : (h : ℕ) (op : L.Op) (b : L.Answer op) (w : L.World) → L.places h op b None w ≡ []) (h : ℕ) {A C E : Type 0} (IsOf : A → L.Step → Type 0) (Open : E → Type 0) (Then : E → Handover A C → Notes L → Type 0) (Whole : E → Notes L → Type 0)
     (yet : E) (opens : Open yet) (seam : (x : Handover A C) → Then yet x []) where
   -- nothing is placed yet
   abbrev ToAct : P L (Handover A C) → Notes L → Type 0
@@ -138,20 +138,25 @@ module _ (L : Machine) (alone : Alone L) (clean : (w : L.World) → L.Clean w) (
     so_far (Do op m k) n gs w fs (inr s) g = s.3 yet s.2.0 [] s.2.1 opens
 
     -- one operation more, at which zs were placed
-    stage_on : (op : L.Op) (m : L.Answer op → Option L.Mark) (k : L.Answer op → P L (Handover A C)) (b : L.Answer op) (zs gs : List L.Step) (fs : Notes L)
+    stage_on : (op : L.Op) (m : L.Answer op → Option L.Mark) (k : L.Answer op → P L (Handover A C)) (b : L.Answer op) (zs gs : List L.Step) (fs : Notes L) → ((z : L.Step) (ys : List L.Step) → zs ≡ z ∷ ys → is_some (m b) ≡ true)
         → Stage (Do op m k) gs fs → Grown OneStep zs gs → Stage (k b) (onto zs gs) (onto (all_placed zs) (Runs (op, b) ∷ fs))
-    stage_on op m k b [] gs fs (inl s) grown = inl (s.0, λ r rest t. s.1 r (Runs (op, b) ∷ rest) (b, refl, inl t))
-    stage_on op m k b [] gs fs (inr s) grown = inr (s.0, s.1, s.2, λ r a rest is t. s.3 r a (Runs (op, b) ∷ rest) is (b, refl, t))
-    stage_on op m k b (z ∷ zs) gs fs s (inl grown) = absurd cc
-    stage_on op m k b (z ∷ []) gs fs (inl s) (inr one) =
+    stage_on op m k b [] gs fs marked (inl s) grown = inl (s.0, λ r rest t. s.1 r (Runs (op, b) ∷ rest) (b, refl, inl t))
+    stage_on op m k b [] gs fs marked (inr s) grown = inr (s.0, s.1, s.2, λ r a rest is t. s.3 r a (Runs (op, b) ∷ rest) is (b, refl, t))
+    stage_on op m k b (z ∷ zs) gs fs marked s (inl grown) = absurd cc
+    stage_on op m k b (z ∷ []) gs fs marked (inl s) (inr one) =
         inr (
           z,
           ap (λ (ys : List L.Step). z ∷ ys) s.0,
           (one.0, subst (IsOf one.0) (sym (head_is z one.1 gs [] one.2)) one.3),
-          λ r a rest is t. s.1 r (Runs (op, b) ∷ Places z ∷ rest) (b, refl, inr (a, z, refl, is, t)),
+          λ r a rest is t. s.1 r (Runs (op, b) ∷ Places z ∷ rest) (b, refl, inr (marked z [] refl, (a, z, refl, is, t))),
         )
-    stage_on op m k b (z ∷ []) gs fs (inr s) (inr one) = absurd (let q : s.0 ∷ [] ≡ [] = sym s.1 ∙ tail_is z one.1 gs [] one.2 in cc)
-    stage_on op m k b (z ∷ y ∷ zs) gs fs s (inr one) = absurd (two_left zs gs y z one.1 one.2)
+    stage_on op m k b (z ∷ []) gs fs marked (inr s) (inr one) = absurd (let q : s.0 ∷ [] ≡ [] = sym s.1 ∙ tail_is z one.1 gs [] one.2 in cc)
+    stage_on op m k b (z ∷ y ∷ zs) gs fs marked s (inr one) = absurd (two_left zs gs y z one.1 one.2)
+
+    -- what places a step is marked
+    marks : (op : L.Op) (b : L.Answer op) (v : L.World) (o : Option L.Mark) (z : L.Step) (ys : List L.Step) → own h (L.places h op b o v) ≡ z ∷ ys → is_some o ≡ true
+    marks op b v (Some t) z ys e = refl
+    marks op b v None z ys e = absurd (let q : [] ≡ z ∷ ys = sym (ap (λ (ps : List (ℕ × L.Step)). own h ps) (quiet h op b v)) ∙ e in cc)
 
     inside : (q : P L (Handover A C)) (n : ℕ) (gs : List L.Step) (w : L.World) (fs : Notes L) → Stage q gs fs → Wp L h OneStep G q n gs w → Wp (noted L) h SoFar Q q n fs w
     inside (Ret x) n gs w fs (inl s) g = absurd (not_none x gs w s.0 g)
@@ -182,7 +187,7 @@ module _ (L : Machine) (alone : Alone L) (clean : (w : L.World) → L.Clean w) (
         made v ih Waits f = f
         made v ih (Ran b u) f =
             let zs : List L.Step = own h (placed_with L h op m v b) in
-            let st = stage_on op m k b zs gs fs s (f.begun (clean u)) in
+            let st = stage_on op m k b zs gs fs (λ z ys e. marks op b v (m b) z ys e) s (f.begun (clean u)) in
             record {
               inv = f.inv;
               kept = λ other ne. (own_there b v other ne (alone other v u (own other (placed_with L h op m v b)) (f.kept other ne)), subst (λ (ys : List L.Step). L.Others other v ys u) (alone other v u (own other (placed_with L h op m v b)) (f.kept other ne)) (f.kept other ne));
@@ -227,7 +232,7 @@ module _ (U : Machine) (R : Lower U.World) (handler : Handlers U R) (IsOf : (op 
       (Wp-bind (noted J) h (handler c op m) rest NotedSoFar NotedWhole (suc (U.more op)) (n - suc (U.more op)) fs w
       (Wp-weaker (noted J) h (handler c op m) NotedSoFar NotedSoFar (λ x ys u. Through x ys × ((zs : List U.Step) × After x zs u)) (λ x. Wp (noted J) h NotedSoFar NotedWhole (rest x) (n - suc (U.more op))) (suc (U.more op)) fs w (λ ys e. e)
       (λ x ys u e. let d = e.1.1 in handles (k x.answer) (used.1 x.answer) (b.after op spent) (affords.1 x.answer) x.carry (n - suc (U.more op)) d.0.0.1.0 ys u d.1 e.0 d.0.0.1.1 d.0.1 d.0.0.2)
-      (inside J (λ j v u xs o. alone j v.seen u.seen xs o.1) (λ v. clean v.seen) h {C = R.Carry} {E = Option A} (IsOf op m) (λ r. IsUnderWay r) (λ r x ys. IsFaithful U R handler IsOf r x.carry (k x.answer) ys) (λ r ys. Faithful r ys) None tt (λ x. none_noted U R handler IsOf x.carry (k x.answer)) After (λ x zs u e. e.0.0.0)
+      (inside J (λ j v u xs o. alone j v.seen u.seen xs o.1) (λ v. clean v.seen) (λ j lop a v. refl) h {C = R.Carry} {E = Option A} (IsOf op m) (λ r. IsUnderWay r) (λ r x ys. IsFaithful U R handler IsOf r x.carry (k x.answer) ys) (λ r ys. Faithful r ys) None tt (λ x. none_noted U R handler IsOf x.carry (k x.answer)) After (λ x zs u e. e.0.0.0)
       (handler c op m) (suc (U.more op)) [] w fs (inl (refl, way))
       (used.0 c spent One Then [] w
       (λ a gs xs v u o i e. (λ y. inl (alone h v u xs o), (still a gs xs (alone h v u xs o) e.0, (onto xs e.1.0, Wp-others U above h (k a) B Q (n - suc (U.more op)) e.1.0 xs v u (λ x d. (lasts x e.1.0 xs v u o i d).1) o e.1.1), i)))

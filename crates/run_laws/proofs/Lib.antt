@@ -28,6 +28,7 @@ pub mod Faithful
 pub mod FaithfulCalls
 pub mod Retold
 pub mod FaithfulRuns
+pub mod ActsAt
 pub mod RoomRuns
 pub mod Traced
 pub mod Numbered

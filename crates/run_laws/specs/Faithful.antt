@@ -1,6 +1,6 @@
 -- Each operation on whole inodes acts once within its own program on the blocks, with the answer that this program ends with; by that
 -- answer the call goes on.
-use Rattle.std.specs.Prelude.{◌≡◌, ◌⊎◌, ℕ, List, [], ◌∷◌, Option, Some, None}
+use Rattle.std.specs.Prelude.{◌≡◌, ◌⊎◌, ℕ, true, List, [], ◌∷◌, Option, Some, None, is_some}
 use Rattle.fs_layout.specs.declared.superblock.Super.{Super}
 use Rattle.fs_layout.specs.Recovered.{sizes_of}
 use Rattle.plain_tree.specs.declared.answer.Reply.{Reply}
@@ -42,12 +42,13 @@ module _ (L : Machine) {A C : Type 0} (IsOf : A → L.Step → Type 0) (Open : T
   ActsNow p [] = ⊥
   ActsNow p (e ∷ es) = (a : A) × (s : L.Step) × (e ≡ Places s) × IsOf a s × EndsWith a p es
 
-  -- It hasn't acted yet. It acts right behind one of its program's steps, at the same event: neither before the first step nor later than
-  -- the last one.
+  -- It hasn't acted yet. It acts right behind one of its program's steps that are marked, at the same event: neither before the first step
+  -- nor later than the last one.
   abbrev pub ActsWithin : P L (Handover A C) → Notes L → Type 0
   ActsWithin p [] = Open
   ActsWithin (Ret x) (e ∷ es) = ⊥
-  ActsWithin (Do op m k) (e ∷ es) = (b : L.Answer op) × (e ≡ Runs (op, b)) × (ActsWithin (k b) es ⊎ ActsNow (k b) es)
+  ActsWithin (Do op m k) (e ∷ es) =
+      (b : L.Answer op) × (e ≡ Runs (op, b)) × (ActsWithin (k b) es ⊎ ((is_some (m b) ≡ true) × ActsNow (k b) es))
 
 -- ---- a program above
 

@@ -4,6 +4,7 @@ pub mod WholeInodes
 pub mod Laws
 pub mod Worlds
 pub mod Faithful
+pub mod ActsAt
 pub mod Rooms
 pub mod OneList
 pub mod Wants

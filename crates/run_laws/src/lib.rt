@@ -3,6 +3,7 @@
 //! law.
 #![tactic(auto)]
 
+ghost use Rattle.run_laws.specs.ActsAt.{OperationsActFirstOrLast};
 ghost use Rattle.run_laws.specs.Answered.{CallsFindNoneWhereThereIsNone};
 ghost use Rattle.run_laws.specs.Changes.{ChangesAreTold, WritesAreMade};
 ghost use Rattle.run_laws.specs.Faithful.{CallsGoOnAsTheyActed};
@@ -36,14 +37,22 @@ pub fn worlds_refine_whole_inodes<D: Device>(world: &World<D>)
     let _ = world;
 }
 
-/// In such a run each operation on whole inodes is made once within its own program on the blocks, at one of that program's steps, and with
-/// the answer that the program ends with, by which the call goes on. A finished call has made all of its operations so, and ends with its
-/// reply. It is so of a call under way, as far as it has come; only of an operation whose program hasn't ended yet is no answer compared.
+/// In such a run each operation on whole inodes is made once within its own program on the blocks, at a step where it is marked to act, and
+/// with the answer that the program ends with, by which the call goes on. A finished call has made all of its operations so, and ends
+/// with its reply. It is so of a call under way, as far as it has come; only of an operation whose program hasn't ended yet is no answer
+/// compared.
 pub fn calls_go_on_as_they_acted<D: Device>(world: &World<D>)
     ensures { CallsGoOnAsTheyActed D.contents D.failures world.now }
 {
     let _ = world;
 }
+
+/// Whatever the steps of its program on the blocks are answered, one of them and no other is marked for an operation on whole inodes to
+/// act: the first one, where an inode's lock is taken or a transaction left; else the last one. A claim alone may act before its last step,
+/// by which the inodes' block goes back.
+pub fn operations_act_first_or_last()
+    ensures { OperationsActFirstOrLast }
+{}
 
 /// In such a run each step found room just where no operation on whole inodes was answered that there is none, nor the step on the tree
 /// which acts there.
