@@ -1,6 +1,6 @@
 //! `mkfs IMAGE [--size N] [--inodes N] [FILE..]`: writes an image with these files in its root.
 //!
-//! Faults are told in this order: the command line (status 2), a FILE that can't be read, what
+//! Faults are told in this order: the command line, with an IMAGE that is one of the FILEs (status 2), a FILE that can't be read, what
 //! can't be made, an IMAGE that can't be written (status 1). Want of memory is told where it comes,
 //! as a refusal to make (status 1).
 #![tactic(auto)]
@@ -15,7 +15,7 @@ use mkfs::{
 };
 use std::alloc::{AllocError, Global};
 use std::process::ExitCode;
-use std::{env, io};
+use std::{env, fs, io};
 use thiserror::Error;
 
 /// Why no image was written.
@@ -33,6 +33,9 @@ enum Fault<'a> {
     /// What can't be read, and why.
     #[error("{0}: {1}")]
     File(&'a str, io::Error),
+    /// The image would stand in the place of this FILE.
+    #[error("{0}: is a FILE, and would be replaced by the image")]
+    Replaces(&'a str),
     /// The image can't be written.
     #[error("{0}")]
     Save(SaveRefused),
@@ -92,7 +95,7 @@ impl<'a> Fault<'a> {
     // The program's exit status.
     fn status(&self) -> u8 {
         match self {
-            Fault::Words(_) => 2,
+            Fault::Words(_) | Fault::Replaces(_) => 2,
             Fault::Refused(_) | Fault::RefusedFile(..) | Fault::File(..) | Fault::Save(_) => 1,
         }
     }
@@ -128,6 +131,18 @@ fn last_element(path: &str) -> &str {
     }
 }
 
+// The first of these that is the file to which the other name leads, also by links. A name that leads nowhere is none of them.
+fn replaced<'a>(rt: &HostRuntime, image: &str, paths: &[&'a str]) -> Option<&'a str> {
+    let image = fs::canonicalize(rt, image).ok()?;
+    paths
+        .iter()
+        .find(|path| match fs::canonicalize(rt, **path) {
+            Ok(file) => file == image,
+            Err(_) => false,
+        })
+        .copied()
+}
+
 // The FILEs, in their order. Of one that is too long for an image only so much is read that it is seen.
 fn load<'a>(rt: &HostRuntime, paths: &[&'a str]) -> Result<Vec<NewFile>, Fault<'a>> {
     let mut files = Vec::new(rt.alloc());
@@ -161,6 +176,10 @@ fn run<'a>(
     ninodes: u32,
 ) -> Result<String, Fault<'a>> {
     let paths = matches.get_strs(FILES).unwrap_or([].as_slice());
+    let image = matches.get_str(IMAGE).unwrap_or("");
+    if let Some(path) = replaced(rt, image, paths) {
+        return Err(Fault::Replaces(shown(path)));
+    }
     let files = load(rt, paths)?;
     let disk = make(rt.alloc(), size, ninodes, files.as_slice()).map_err(|refused| Fault::of_files(
         paths,
@@ -168,7 +187,6 @@ fn run<'a>(
         refused,
     ))?;
     let line = summary(rt.alloc(), size, ninodes)?;
-    let image = matches.get_str(IMAGE).unwrap_or("");
     let bytes = disk.into_bytes();
     save(rt, image, bytes.as_slice(), None)?;
     Ok(line)
