@@ -15,10 +15,11 @@ const VERSION: &str = "0.1, for images of xv6 (version 1)";
 
 // The script's grammar, the statuses, and where more is said.
 const AFTER_HELP: &str = "\
-The script, from standard input, is lines of words parted by single spaces; # begins a comment:
+The script, from standard input, is lines of words parted by single spaces; a line that begins with # is a comment:
   H CALL starts a call on hart H (0 to 7): open PATH FLAGS, read FD N, write FD BYTES, fill FD N,
     link OLD NEW, unlink PATH, mkdir PATH, chdir PATH, dup FD, fstat FD, close FD, inherit CHILD
   step H N, upto H KIND N, end H: N steps of it, steps up to the Nth of a kind, steps to its end
+  KIND is lock, unlock, get, read, put, join, leave, commit, up, down, slot or reply
   do H CALL: starts a call and runs it to its end    all: steps of all harts, in turn
   FLAGS 0 reads, 1 writes, 2 both, 0x200 makes, 0x400 empties; \"\" is no byte, hex:2f61 is /a.
 

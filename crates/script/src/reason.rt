@@ -74,18 +74,27 @@ impl Display for Reason {
             Reason::EmptyWord => write!(f, "a single space between words, and none at an end"),
             Reason::NoSuchCommand(word) => write!(
                 f,
-                "no such command: {word} (do, step, upto, end, all, or a hart's number)"
+                "no such command: {word} (do, step, upto, end, all, or a hart's number; at a prompt also state, help, quit)"
             ),
             Reason::TooManyWords => write!(f, "more words than a command has"),
             Reason::Wanted(words) => write!(f, "wanted: {words}"),
-            Reason::UnknownCall(word) => write!(f, "unknown call: {word}"),
-            Reason::NumberWanted(word) => write!(f, "a number is wanted: {word}"),
+            Reason::UnknownCall(word) => write!(
+                f,
+                "unknown call: {word} (open, read, write, fill, link, unlink, mkdir, chdir, dup, fstat, close, inherit)"
+            ),
+            Reason::NumberWanted(word) => write!(
+                f,
+                "a number from 0 to 4294967295 is wanted: {word}"
+            ),
             Reason::HartWanted(word) => write!(f, "a number from 0 to 255 is wanted: {word}"),
             Reason::PairsWanted(word) => write!(
                 f,
                 "pairs of hexadecimal digits are wanted after hex: {word}"
             ),
-            Reason::UnknownKind(word) => write!(f, "unknown kind of step: {word}"),
+            Reason::UnknownKind(word) => write!(
+                f,
+                "unknown kind of step: {word} (lock, unlock, get, read, put, join, leave, commit, up, down, slot, reply)"
+            ),
         }
     }
 }
