@@ -8,15 +8,16 @@ use Rattle.plain_tree.specs.declared.answer.Reply.{Reply}
 use Rattle.plain_tree.specs.declared.call.Call.{Call}
 use Rattle.plain_tree.specs.declared.step.Action.{Action}
 use Rattle.plain_tree.specs.Tree.{Name, elements, is_absolute}
+use Rattle.tree_laws.proofs.Maps.{eq_self}
 use Rattle.atomic_programs.specs.Explained.{In}
 use Rattle.atomic_programs.specs.Prog.{Ret, Do, unmarked}
 use Rattle.inode_machine.specs.Inodes.{AtName, AtNothing, is_directory_face}
 use Rattle.inode_machine.specs.Parts.{NoMemory, NotThere, P, Stop, drop, free_all, full, give_up, leave_directory, say}
 use Rattle.inode_machine.specs.Parts.{see_parent, start, start_on, stopped, tail, walk, walk_parent, walk_step, with_last}
 use Rattle.inode_machine.specs.World.{Answer, Op}
-use Rattle.inode_machine.specs.World.Op.{Forget, Free, Give, Take, Up, UpStart}
+use Rattle.inode_machine.specs.World.Op.{Forget, Free, Give, Leave, Take, Up, UpStart}
 use Rattle.inode_machine.specs.World.Mark.{Frees}
-use Rattle.run_laws.specs.Changes.{Change, Sighting, changed_by, changes_after, seen_by}
+use Rattle.run_laws.specs.Changes.{Change, Freed, Sighting, by_free, changed_by, changes_after, seen_by}
 use Rattle.run_laws.specs.Standing.{Stands}
 use Rattle.run_laws.specs.Wanted.{wanted}
 use Rattle.run_laws.specs.WholeInodes.{HasWanted, IsRunOf, Operation}
@@ -41,6 +42,10 @@ with_more cs (d ∷ ds) = cs ++ d ∷ ds
 -- what has changed with this operation
 abbrev pub after : List Change → (op : Op) → Answer op → List Change
 after cs op a = with_more cs (changed_by None op a None)
+
+-- an inode is freed, and goes from the tree with that
+none_freed : (cs : List Change) (n : ℕ) → cs ≡ with_more cs (by_free n (Some (Frees n)))
+none_freed cs n = ap (λ (c : Bool). with_more cs (if c then [] else Freed n ∷ [])) (sym (eq_self n))
 
 joined : (cs ds es : List Change) → with_more cs ds ++ es ≡ cs ++ (ds ++ es)
 joined cs [] es = refl
@@ -116,7 +121,8 @@ module _ (call : Call) where
       ifs : (last : Bool)
           → Leaves b cs
           (if last then Do (Free n) (λ _. Some (Frees n)) (λ _. Do (Give n) unmarked (λ _. Do (Forget n) unmarked (λ _. k))) else k)
-      ifs true = λ _ _ _. goes
+      ifs true = λ _. subst (λ (z : List Change). Leaves b z (Do (Give n) unmarked (λ _. Do (Forget n) unmarked (λ _. k)))) (none_freed cs n)
+          (λ _ _. goes)
       ifs false = goes
 
   pub give_up_l : (b : Bool) (cs : List Change) (n : ℕ) (k : P Reply) → Leaves b cs k → Leaves b cs (give_up n k)
@@ -124,7 +130,10 @@ module _ (call : Call) where
 
   free_all_l : (b : Bool) (cs : List Change) (ns : List ℕ) (r : Reply) → Ends b cs r → Leaves b cs (free_all ns (say r))
   free_all_l b cs [] r ends = say_l b cs r ends
-  free_all_l b cs (n ∷ ns) r ends = λ _ _ _ _ _ _. free_all_l b cs ns r ends
+  free_all_l b cs (n ∷ ns) r ends = λ _ _ _. subst (λ (z : List Change). Leaves b z rest) (none_freed cs n) (λ _ _ _. free_all_l b cs ns r ends)
+    where
+      rest : P Reply
+      rest = Do (Give n) unmarked (λ _. Do (Forget n) unmarked (λ _. Do Leave unmarked (λ _. free_all ns (say r))))
 
   pub tail_l : (b : Bool) (cs : List Change) (ns : List ℕ) (r : Reply) → Ends b cs r → Leaves b cs (tail ns r)
   tail_l b cs ns r ends = λ _. free_all_l b cs ns r ends

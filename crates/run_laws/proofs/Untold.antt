@@ -1,12 +1,14 @@
--- An operation of which no change is told leaves inodes on the disk, open files and what harts have of them.
+-- An operation of which no change is told leaves inodes that have a name, open files and what harts have of them.
 use Rattle.std.proofs.Common.{◌≡◌, ◌≢◌, ◌⊎◌, inl, inr, ℕ, ◌==◌, Bool, true, false, nat_lt, if◌then◌else◌, List, [], ◌∷◌, take}
-use Rattle.std.proofs.Common.{Option, Some, None, refl, sym, ◌∙◌, ap, append-nil}
+use Rattle.std.proofs.Common.{Option, Some, None, refl, sym, ◌∙◌, ap, subst, append-nil}
 use Rattle.plain_tree.specs.declared.answer.Cause.{Cause}
 use Rattle.plain_tree.specs.declared.node.Node.{Node}
 use Rattle.plain_tree.specs.declared.tree.OpenFile.{OpenFile}
 use Rattle.plain_tree.specs.Steps.{has_room, lowest, node_or, write_kind}
-use Rattle.plain_tree.specs.Tree.{Name, Tree, put}
-use Rattle.tree_laws.proofs.Maps.{put_is}
+use Rattle.plain_tree.specs.Tree.{Name, Tree, all_slots, first_slot, is_live, live_directory, look, put}
+use Rattle.tree_laws.specs.WellFormed.{IsWellFormed}
+use Rattle.tree_laws.proofs.Facts.{look_live}
+use Rattle.tree_laws.proofs.Maps.{eq_is, put_is, put_other, put_same}
 use Rattle.atomic_programs.specs.Joined.{ran_to}
 use Rattle.atomic_programs.specs.Prog.{Did, Waits, Ran, Stops}
 use Rattle.inode_machine.specs.Exec.{claim_if, claimed, close_at, close_if, double_at, double_if, down_if, entry_of, enter_if, exec}
@@ -17,19 +19,19 @@ use Rattle.inode_machine.specs.Exec.{referenced, released, slot_at, slot_if, sta
 use Rattle.inode_machine.specs.Exec.{stat_at, unlocked, up_if, walk_down_if}
 use Rattle.inode_machine.specs.Exec.{with_record, write_at, write_if, write_in, write_refused}
 use Rattle.inode_machine.specs.Inodes.{Sort, face_of, face_or, seen_in, sort_of}
-use Rattle.inode_machine.specs.Marks.{Made, made_by, marked, mended, new_id, spoiled, with_left}
+use Rattle.inode_machine.specs.Marks.{Made, go, made_by, marked, mended, new_id, spoiled, with_left}
 use Rattle.inode_machine.specs.Marks.{with_made, with_mark, with_noted, with_opened}
 use Rattle.inode_machine.specs.World.{Answer, ClaimResult, Desk, Entry, LocksIt, Mark, New, NoPlace, Op}
 use Rattle.inode_machine.specs.World.{Outside, Picks, Room, RoomFor, World}
+use Rattle.inode_machine.specs.Rules.{Inv}
 use Rattle.inode_machine.specs.World.Mark.{Fills, Frees, Makes, Mends, Orphans, Spoils}
 use Rattle.inode_machine.specs.World.Op.{CheckFile, Claim, Clear, Double, Down, Empty, Enter, Fill, Forget, Free, Give, Install, Join}
 use Rattle.inode_machine.specs.World.Op.{JoinFile, Leave, Lend, LendDirectory, LockFile, LockOpen, ReadFile, Release}
 use Rattle.inode_machine.specs.World.Op.{Say, Settle, Shut, Slot}
 use Rattle.inode_machine.specs.World.Op.{StatFile, Store, Take, Up, UpStart, WalkDown, WriteFile}
 use Rattle.tree_moves.specs.Moves.Move.{Own}
-use Rattle.run_laws.specs.Changes.{Change, ChangesAreTold, Claimed, Cleared, Emptied, Entered, Filled}
-use Rattle.run_laws.specs.Changes.{GaveBack, LeavesAll, Moved, TookPlace}
-use Rattle.run_laws.specs.Changes.{Wrote, by_count, changed_by}
+use Rattle.run_laws.specs.Changes.{Change, ChangesAreTold, Claimed, Cleared, Emptied, Entered, Filled, Freed, GaveBack, HasNoName}
+use Rattle.run_laws.specs.Changes.{Moved, TookPlace, Wrote, by_count, by_free, changed_by}
 
 -- ---- what is looked at
 
@@ -49,7 +51,15 @@ pub record Kept : Type 0 where
 abbrev pub kept_of : World → Kept
 kept_of w = record { disk = w.disk; files = w.files; tables = λ g. tables_of (w.desks g) }
 
-all_left : (w : World) (op : Op) (u : World) → kept_of u ≡ kept_of w → LeavesAll w op u
+-- an operation leaves all, but an inode that it frees
+record LeavesBut (w : World) (op : Op) (u : World) : Type 0 where
+  inodes : (n : ℕ) → (u.disk n ≡ w.disk n) ⊎ (op ≡ Free n)
+  files : (k : ℕ) → u.files k ≡ w.files k
+  descriptors : (g fd : ℕ) → (u.desks g).fds fd ≡ (w.desks g).fds fd
+  places : (g : ℕ) → (u.desks g).hand ≡ (w.desks g).hand
+  directories : (g : ℕ) → (u.desks g).directory ≡ (w.desks g).directory
+
+all_left : (w : World) (op : Op) (u : World) → kept_of u ≡ kept_of w → LeavesBut w op u
 all_left w op u same = record {
   inodes = λ n. inl (ap (λ (k : Kept). k.disk n) same);
   files = λ k. ap (λ (z : Kept). z.files k) same;
@@ -59,7 +69,7 @@ all_left w op u same = record {
 }
 
 -- before and after it the same again
-left_between : (t w : World) (op : Op) (u v : World) → kept_of w ≡ kept_of t → LeavesAll w op u → kept_of v ≡ kept_of u → LeavesAll t op v
+left_between : (t w : World) (op : Op) (u v : World) → kept_of w ≡ kept_of t → LeavesBut w op u → kept_of v ≡ kept_of u → LeavesBut t op v
 left_between t w op u v front left back = record {
   inodes = λ n. at n (left.inodes n);
   files = λ k. ap (λ (z : Kept). z.files k) back ∙ left.files k ∙ ap (λ (z : Kept). z.files k) front;
@@ -135,17 +145,17 @@ marked_kept h (Some (Spoils s)) w =
 -- where no change is told of the answer
 abbrev Goes : {A : Type 0} → (A → List Change) → Op → World → Did A World → Type 0
 Goes told op w Waits = Unit {0}
-Goes told op w (Ran a u) = told a ≡ [] → LeavesAll w op u
+Goes told op w (Ran a u) = told a ≡ [] → LeavesBut w op u
 Goes told op w (Stops u) = Unit {0}
 
 some_told : (c : Change) (cs : List Change) → c ∷ cs ≡ [] → ⊥
 some_told c cs e = cc
 
 -- some change is told
-lies : (w : World) (op : Op) (u : World) (c : Change) (cs : List Change) → c ∷ cs ≡ [] → LeavesAll w op u
+lies : (w : World) (op : Op) (u : World) (c : Change) (cs : List Change) → c ∷ cs ≡ [] → LeavesBut w op u
 lies w op u c cs e = absurd (some_told c cs e)
 
-unlocked_left : (op : Op) (n : ℕ) (w : World) (b : Bool) → LeavesAll w op (unlocked n w b)
+unlocked_left : (op : Op) (n : ℕ) (w : World) (b : Bool) → LeavesBut w op (unlocked n w b)
 unlocked_left op n w true = all_left w op (unlocked n w true) refl
 unlocked_left op n w false = all_left w op (unlocked n w false) refl
 
@@ -171,7 +181,7 @@ down_goes told op h n w true = λ _. all_left w op _ refl
 down_goes told op h n w false = λ _. all_left w op _ refl
 
 -- only that inode is another
-free_left : (w : World) (n : ℕ) → LeavesAll w (Free n) (with_record w n None)
+free_left : (w : World) (n : ℕ) → LeavesBut w (Free n) (with_record w n None)
 free_left w n = record {
   inodes = λ i. at i (put_is w.disk n None i);
   files = λ k. refl;
@@ -186,10 +196,10 @@ free_left w n = record {
     at i (inr p) = inl p.1
 
 desk_left : (w : World) (op : Op) (h : ℕ) (d : Desk) → tables_of d ≡ tables_of (w.desks h)
-    → LeavesAll w op (record w { desks = put w.desks h d })
+    → LeavesBut w op (record w { desks = put w.desks h d })
 desk_left w op h d same = all_left w op (record w { desks = put w.desks h d }) (desks_kept w (put w.desks h d) (desk_put w.desks h d same))
 
-release_left : (w : World) (op : Op) (h child : ℕ) → LeavesAll w op (released w h child)
+release_left : (w : World) (op : Op) (h child : ℕ) → LeavesBut w op (released w h child)
 release_left w op h child = all_left w op (released w h child) (desks_kept w (put one child second) both)
   where
     first : Desk
@@ -352,16 +362,74 @@ no_stop : {A : Type 0} (h : ℕ) (m : Option Mark) (a : A) (u v : World) → wit
 no_stop h m a u v e = cc
 
 ran_left : {A : Type 0} (told : A → List Change) (op : Op) (h : ℕ) (m : Option Mark) (w u : World) (a : A) (d : Did A World)
-    → Goes told op w d → with_mark h (λ (z : A). m) d ≡ Ran a u → told a ≡ [] → LeavesAll w op u
+    → Goes told op w d → with_mark h (λ (z : A). m) d ≡ Ran a u → told a ≡ [] → LeavesBut w op u
 ran_left told op h m w u a Waits g e none = absurd (no_wait h m a u e)
 ran_left told op h m w u a (Stops v) g e none = absurd (no_stop h m a u v e)
 ran_left {A} told op h m w u a (Ran b v) g e none =
     let there : told b ≡ [] = ap (λ (d : Did A World). told (answer_or a d)) e ∙ none in
     left_between w w op v u refl (g there) (ap (λ (d : Did A World). kept_of (ran_to w d)) (sym e) ∙ marked_kept h m v)
 
+-- ---- what is freed
+
+look_same : (ns ns' : ℕ → Option Node) (d : ℕ) (e : Name) → ns d ≡ ns' d → look ns d e ≡ look ns' d e
+unfolding look
+look_same ns ns' d e same = ap (λ (v : Option Node). if live_directory v then first_slot (all_slots v) e else None) same
+
+never_so : false ≡ true → ⊥
+never_so e = cc
+
+-- a tree that is in order without the inode has no name for it
+nameless : (w : World) (all : Tree) (n : ℕ) → IsWellFormed all → all.nodes ≡ put w.all.nodes n None → HasNoName w n
+nameless w all n well gone d e other found =
+    let there : all.nodes d ≡ w.all.nodes d = ap (λ (f : ℕ → Option Node). f d) gone ∙ put_other w.all.nodes n None d other in
+    let live : is_live (all.nodes n) ≡ true =
+    look_live all d n e well (look_same all.nodes w.all.nodes d e there ∙ found) in
+    let none : all.nodes n ≡ None = ap (λ (f : ℕ → Option Node). f n) gone ∙ put_same w.all.nodes n None in
+    never_so (ap (λ (v : Option Node). is_live v) (sym none) ∙ live)
+
+free_nameless : (h : ℕ) (x : Outside) (n : ℕ) (m : Option Mark) (w u : World) → Inv u → (a : Unit {0}) → go h x (Free n) (λ _. m) w ≡ Ran a u
+    → by_free n m ≡ [] → HasNoName w n
+free_nameless h x n None w u inv a ran none = absurd (some_told (Freed n) [] none)
+free_nameless h x n (Some (Makes v)) w u inv a ran none = absurd (some_told (Freed n) [] none)
+free_nameless h x n (Some (Orphans k)) w u inv a ran none = absurd (some_told (Freed n) [] none)
+free_nameless h x n (Some Fills) w u inv a ran none = absurd (some_told (Freed n) [] none)
+free_nameless h x n (Some Mends) w u inv a ran none = absurd (some_told (Freed n) [] none)
+free_nameless h x n (Some (Spoils s)) w u inv a ran none = absurd (some_told (Freed n) [] none)
+free_nameless h x n (Some (Frees k)) w u inv a ran none = by (k == n) refl none
+  where
+    goes : u.all.nodes ≡ put w.all.nodes k None
+    goes = ap (λ (d : Did (Unit {0}) World). (ran_to w d).all.nodes) (sym ran)
+
+    by : (b : Bool) → (k == n) ≡ b → (if b then [] else Freed n ∷ []) ≡ [] → HasNoName w n
+    by true same none = nameless w u.all n inv.well (goes ∙ ap (λ (z : ℕ). put w.all.nodes z None) (eq_is k n same))
+    by false other none = absurd (some_told (Freed n) [] none)
+
+freed_nameless : (h : ℕ) (x : Outside) (op : Op) (a : Answer op) (m : Option Mark) (w u : World) → Inv u → go h x op (λ _. m) w ≡ Ran a u
+    → changed_by None op a m ≡ [] → (n : ℕ) → op ≡ Free n → HasNoName w n
+freed_nameless h x op a m w u inv ran none n is =
+    subst (λ (z : Op). (b : Answer z) → go h x z (λ _. m) w ≡ Ran b u → changed_by None z b m ≡ [] → HasNoName w n) (sym is)
+    (λ b. free_nameless h x n m w u inv b) a ran none
+
 pub untold : ChangesAreTold
-untold t u h e s none =
-    left_between t s.before e.op s.after u (ap (λ (z : World). kept_of z) s.from)
-    (ran_left (λ a. changed_by None e.op a e.mark) e.op h e.mark s.before s.after e.answer (exec h s.outside e.op s.before)
-    (exec_goes e.mark h s.outside e.op s.before) s.goes (sym (append-nil (changed_by None e.op e.answer e.mark)) ∙ none))
-    (ap (λ (z : World). kept_of z) (sym s.to))
+untold t u h e s untold_by = record {
+  inodes = λ n. at n (left.inodes n);
+  files = left.files;
+  descriptors = left.descriptors;
+  places = left.places;
+  directories = left.directories;
+}
+  where
+    none : changed_by None e.op e.answer e.mark ≡ []
+    none = sym (append-nil (changed_by None e.op e.answer e.mark)) ∙ untold_by
+
+    left : LeavesBut t e.op u
+    left =
+        left_between t s.before e.op s.after u (ap (λ (z : World). kept_of z) s.from)
+        (ran_left (λ a. changed_by None e.op a e.mark) e.op h e.mark s.before s.after e.answer (exec h s.outside e.op s.before)
+        (exec_goes e.mark h s.outside e.op s.before) s.goes none)
+        (ap (λ (z : World). kept_of z) (sym s.to))
+
+    at : (n : ℕ) → (u.disk n ≡ t.disk n) ⊎ (e.op ≡ Free n) → (u.disk n ≡ t.disk n) ⊎ HasNoName t n
+    at n (inl same) = inl same
+    at n (inr is) = inr (subst (λ (z : World). HasNoName z n) s.from
+        (freed_nameless h s.outside e.op e.answer e.mark s.before s.after s.keeps s.goes none n is))

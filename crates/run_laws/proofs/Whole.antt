@@ -90,7 +90,7 @@ module _ (call : Call) where
         λ y. inl o.0,
         q.1,
         λ x t. subst (λ (zs : List Operation). Good whole_inodes (Answer op) h (placed_with whole_inodes h op m v) (more op) n RunBegun (onto zs fs) v (MayWait h op v) (go h x op m v) (λ l a u. Wp whole_inodes h RunBegun (RunEnds h) (k a) l (onto (own h ((h, did h v op m a) ∷ [])) (onto zs fs)) u)) (sym o.0)
-            (made v x q.1 t (λ a l gs u on then_. follows h B Q idle (k a) l gs u (did h v op m a ∷ fs) on then_) (go h x op m v) refl (q.2 x t)),
+            (made v x i q.1 t (λ a l gs u on then_. follows h B Q idle (k a) l gs u (did h v op m a ∷ fs) on then_) (go h x op m v) refl (q.2 x t)),
         q.3,
       )
     where
@@ -101,26 +101,26 @@ module _ (call : Call) where
             blamed = λ room. blamed_on room h B Q fs (did h v op m a) m k l gs u (way.blamed room) inv then_;
           }
 
-      made : (v : World) (x : Outside) → May h op v → Honest h op v x
+      made : (v : World) (x : Outside) → Inv v → May h op v → Honest h op v x
           → ((a : Answer op) (l : ℕ) (gs : List MoveStep) (u : World) → OnWay (k a) (did h v op m a ∷ fs) → Wp machine h B Q (k a) l gs u
           → Wp whole_inodes h RunBegun (RunEnds h) (k a) l (did h v op m a ∷ fs) u)
           → (d : Did (Answer op) World) → go h x op m v ≡ d
           → Good machine (Answer op) h (placed_with machine h op m v) (more op) n B es v (MayWait h op v) d (λ l a u. Wp machine h B Q (k a) l (onto (own h (places h op a (m a) v)) es) u)
           → Good whole_inodes (Answer op) h (placed_with whole_inodes h op m v) (more op) n RunBegun fs v (MayWait h op v) d (λ l a u. Wp whole_inodes h RunBegun (RunEnds h) (k a) l (onto (own h ((h, did h v op m a) ∷ [])) fs) u)
-      made v x allowed said next Waits is f = f
-      made v x allowed said next (Ran a u) is f =
+      made v x holds allowed said next Waits is f = f
+      made v x holds allowed said next (Ran a u) is f =
           let later = on v a f.left (onto (own h (places h op a (m a) v)) es) u f.inv f.next in
           record {
             inv = f.inv;
             kept = λ other ne. (own_none other h (did h v op m a) ne, subst (λ (zs : List MoveStep). Others other v zs u) (f.kept other ne).none (f.kept other ne));
-            goes = λ y. (unreserved u, record { before = v; after = u; outside = x; from = refl; to = refl; may = allowed; honest = said; goes = mark_there h m a u (exec h x op v) is; tells = refl }, refl);
+            goes = λ y. (unreserved u, record { before = v; after = u; outside = x; from = refl; to = refl; may = allowed; honest = said; goes = mark_there h m a u (exec h x op v) is; holds = holds; keeps = f.inv; tells = refl }, refl);
             clean = λ y. tt;
             begun = λ y. inr (subst (λ (zs : List Operation). RunBegun (onto zs fs)) (sym (own_one {A = Operation} h (did h v op m a))) (begun_run (k a) (did h v op m a ∷ fs) later));
             left = f.left;
             falls = f.falls;
             next = subst (λ (zs : List Operation). Wp whole_inodes h RunBegun (RunEnds h) (k a) f.left (onto zs fs) u) (sym (own_one {A = Operation} h (did h v op m a))) (next a f.left (onto (own h (places h op a (m a) v)) es) u later f.next);
           }
-      made v x allowed said next (Stops u) is f = absurd (never_stops h x op m v u is)
+      made v x holds allowed said next (Stops u) is f = absurd (never_stops h x op m v u is)
 
 pub whole_lawful : Lawful inode_calls
 whole_lawful =

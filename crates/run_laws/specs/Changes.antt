@@ -1,15 +1,15 @@
 -- What an operation on whole inodes changes that outlasts its call: inodes on the disk, and open files.
-use Rattle.std.specs.Prelude.{◌≡◌, ◌⊎◌, ℕ, Bool, true, false, List, [], ◌∷◌, ◌++◌, take, length, Option, Some, None}
+use Rattle.std.specs.Prelude.{◌≡◌, ◌≢◌, ◌⊎◌, ◌==◌, if◌then◌else◌, ℕ, Bool, true, false, List, [], ◌∷◌, ◌++◌, take, length, Option, Some, None}
 use Rattle.plain_tree.specs.declared.step.Action.TheVariants.{Bump, Unbump}
 use Rattle.plain_tree.specs.Steps.{node_or}
-use Rattle.plain_tree.specs.Tree.{Name}
+use Rattle.plain_tree.specs.Tree.{Name, look}
 use Rattle.tree_moves.specs.Moves.{Deed}
 use Rattle.tree_moves.specs.Moves.Move.{Own}
 use Rattle.inode_machine.specs.Exec.{entry_moved, entry_of, with_bytes}
 use Rattle.inode_machine.specs.Inodes.{face_or}
 use Rattle.inode_machine.specs.World.{Answer, ClaimResult, Entry, EntryResult, InPlace, Mark, New, NoBlock, NoInode, NoPlace, NoSlot, Op}
 use Rattle.inode_machine.specs.World.{Refused, Short, Whole, World, Wrote as WriteResult}
-use Rattle.inode_machine.specs.World.Mark.{Makes}
+use Rattle.inode_machine.specs.World.Mark.{Frees, Makes}
 use Rattle.inode_machine.specs.World.Op.{Claim, Clear, Double, Empty, Enter, Fill, Free, Install, Lend, LendDirectory, ReadFile, Settle}
 use Rattle.inode_machine.specs.World.Op.{Shut, Slot, Store, Take, WriteFile}
 use Rattle.run_laws.specs.WholeInodes.{IsStep, Operation}
@@ -19,8 +19,7 @@ pub record Sighting : Type 0 where
   pub number : ℕ
   pub count : ℕ
 
--- Locks, references and transactions are none. Nor is it one that an inode is freed: it has no links then, and so no name, and nobody else
--- refers to it.
+-- Locks, references and transactions are none. Nor is it one that an inode is freed which goes from the tree with that: it has no name.
 pub data Change : Type 0 where
   -- a free inode has a type, but no links and no content
   Claimed : ℕ → Change
@@ -35,6 +34,8 @@ pub data Change : Type 0 where
   Cleared : ℕ → Name → Change
   -- a file has no bytes
   Emptied : ℕ → Change
+  -- an inode has no type, and stays in the tree
+  Freed : ℕ → Change
   -- these bytes are written by this descriptor, where its file stands, and the offset is behind them
   Wrote : ℕ → List ℕ → Change
   -- a place is taken for an open file; it is given back
@@ -47,6 +48,11 @@ abbrev pub by_claim : ClaimResult → List Change
 by_claim (New n) = Claimed n ∷ []
 by_claim NoInode = []
 by_claim NoPlace = []
+
+-- whether the tree's node goes is told by the mark
+abbrev pub by_free : ℕ → Option Mark → List Change
+by_free n (Some (Frees m)) = if m == n then [] else Freed n ∷ []
+by_free n mark = Freed n ∷ []
 
 -- a link's raise and its end are told by the mark
 abbrev pub by_count : Option Sighting → ℕ → ℕ → Option Mark → Change
@@ -89,6 +95,7 @@ changed_by seen (Fill n d) there mark = where_there (Filled n) there
 changed_by seen (Enter d e n) made mark = by_entry d e n made
 changed_by seen (Clear d e) cleared mark = Cleared d e ∷ []
 changed_by seen (Empty n) emptied mark = Emptied n ∷ []
+changed_by seen (Free n) freed mark = by_free n mark
 changed_by seen Slot there mark = where_there TookPlace there
 changed_by seen (Install f sort) fd mark = by_install (Install f sort) fd
 changed_by seen (ReadFile fd n offset count) bytes mark = Moved (ReadFile fd n offset count) ∷ []
@@ -115,10 +122,14 @@ changes_of es = changes_after None es
 
 -- ---- what is told is all
 
--- The operation leaves each inode on the disk, but one that it frees; each open file, with its offset; and of each hart its descriptors,
--- its place in hand and its current directory.
-pub record LeavesAll (t : World) (op : Op) (u : World) : Type 0 where
-  pub inodes : (n : ℕ) → (u.disk n ≡ t.disk n) ⊎ (op ≡ Free n)
+-- no other directory has a name for this inode
+abbrev pub HasNoName : World → ℕ → Type 0
+HasNoName w n = (d : ℕ) (e : Name) → d ≢ n → look w.all.nodes d e ≢ Some n
+
+-- These are left: each inode on the disk, but one without a name; each open file, with its offset; and of each hart its descriptors, its
+-- place in hand and its current directory.
+pub record LeavesAll (t u : World) : Type 0 where
+  pub inodes : (n : ℕ) → (u.disk n ≡ t.disk n) ⊎ HasNoName t n
   pub files : (k : ℕ) → u.files k ≡ t.files k
   pub descriptors : (g fd : ℕ) → (u.desks g).fds fd ≡ (t.desks g).fds fd
   pub places : (g : ℕ) → (u.desks g).hand ≡ (t.desks g).hand
@@ -132,9 +143,9 @@ pub record HasWritten (t : World) (h fd : ℕ) (bytes : List ℕ) (u : World) : 
   pub content : u.disk entry.file.number ≡ Some (with_bytes entry.file.offset bytes (node_or (t.disk entry.file.number)))
   pub stands : entry_of u h fd ≡ Some (entry_moved entry (length bytes))
 
--- So does each one of which no change is told.
+-- So does each operation of which no change is told.
 abbrev pub ChangesAreTold : Type 0
-ChangesAreTold = (t u : World) (h : ℕ) (e : Operation) → IsStep t h e u → changes_of (e ∷ []) ≡ [] → LeavesAll t e.op u
+ChangesAreTold = (t u : World) (h : ℕ) (e : Operation) → IsStep t h e u → changes_of (e ∷ []) ≡ [] → LeavesAll t u
 
 -- And one that is told to have written bytes has written just these.
 abbrev pub WritesAreMade : Type 0

@@ -15,7 +15,7 @@ use Rattle.inode_machine.specs.Marks.{go, made_by, new_id}
 use Rattle.inode_machine.specs.Parts.{P}
 use Rattle.inode_machine.specs.Programs.{program}
 use Rattle.inode_machine.specs.Rules as rules
-use Rattle.inode_machine.specs.Rules.{Honest, May}
+use Rattle.inode_machine.specs.Rules.{Honest, Inv, May}
 use Rattle.inode_machine.specs.World.{Answer, Desk, Mark, Op, Outside, World}
 use Rattle.inode_machine.specs.World.Mark.{Fills, Frees, Makes, Mends, Orphans, Spoils}
 use Rattle.tree_moves.specs.Moves.{Deed}
@@ -66,6 +66,9 @@ pub record IsStep (t : World) (h : ℕ) (e : Operation) (u : World) : Type 0 whe
   pub may : May h e.op before
   pub honest : Honest h e.op before outside
   pub goes : go h outside e.op (λ _. e.mark) before ≡ Ran e.answer after
+  -- what always holds does before it, and after it
+  pub holds : Inv before
+  pub keeps : Inv after
   pub tells : e.told ≡ told_by h e.mark before
 
 -- these operations, the oldest first, are a run of the program that ends with r

@@ -1,6 +1,6 @@
 //! Every run of the calls on blocks is a run of the machine of whole inodes, has one list of tree steps, finds no room only where there is
-//! none, records at most ten blocks in a transaction, and leaves nothing behind in an idle hart. The functions do nothing: each carries a
-//! law.
+//! none, and then takes back what the call had changed, records at most ten blocks in a transaction, and leaves nothing behind in an idle
+//! hart. The functions do nothing: each carries a law.
 #![tactic(auto)]
 
 ghost use Rattle.run_laws.specs.ActsAt.{OperationsActFirstOrLast};
@@ -82,8 +82,8 @@ pub fn calls_find_none_where_there_is_none<D: Device>(world: &World<D>)
 /// And what its own operations have changed then is as the kind of room says: nothing; or what was changed was taken back, as the raise of
 /// a link's count, an inode that was claimed, and a place of an open file. Two things stay: the file that CREATE made where there is no
 /// open file or no descriptor, and then no file was emptied; and of a write the bytes before the block that there wasn't, which the offset
-/// is behind. All changes are told: an operation of which none is leaves the inodes on the disk, but one that it frees, open files, and
-/// what harts have of them; and the bytes that are told are in the file, which stands behind them.
+/// is behind. All changes are told: an operation of which none is leaves each inode on the disk, but one without a name that it frees, open
+/// files, and what harts have of them; and the bytes that are told are in the file, which stands behind them.
 pub fn calls_without_room_take_back<D: Device>(world: &World<D>)
     ensures take_back { CallsWithoutRoomTakeBack D.contents D.failures world.now }
     ensures told { ChangesAreTold }
