@@ -9,11 +9,13 @@ use Rattle.inode_parts.specs.FileReads.{read_file_left}
 use Rattle.inode_parts.specs.FileStats.{stat_left}
 use Rattle.inode_parts.specs.FileWrites.{write_file_left}
 use Rattle.inode_parts.specs.InodeParts.{part_left_after}
+use Rattle.inode_parts.specs.Takes.{take_left}
 use Rattle.inode_parts.specs.declared.lock_file_part.LockFilePart.{LockFilePart}
 use Rattle.inode_parts.specs.declared.note.Notes.{Notes}
 use Rattle.inode_parts.specs.declared.part.InodePart.TheVariants as part
 use Rattle.inode_parts.specs.declared.read_file_part.ReadFilePart.{ReadFilePart}
 use Rattle.inode_parts.specs.declared.stat_file_part.StatFilePart.{StatFilePart}
+use Rattle.inode_parts.specs.declared.take_part.TakePart.{TakePart}
 use Rattle.inode_parts.specs.declared.write_file_part.WriteFilePart.{WriteFilePart}
 
 pub lock_file_after : (path : List ℕ) (m : Notes) (r : Option Heard) (p : LockFilePart) (h : Hand) → left_after (lock_file_left path m) (handed path m) r p h ≡ part_left_after path m r (part.LockFile p) h
@@ -31,3 +33,7 @@ read_after text m (Some x) p h = refl
 pub stat_after : (path : List ℕ) (m : Notes) (r : Option Heard) (p : StatFilePart) (h : Hand) → left_after (stat_left path m) (handed path m) r p h ≡ part_left_after path m r (part.StatFile p) h
 stat_after path m None p h = refl
 stat_after path m (Some x) p h = refl
+
+pub take_after : (path : List ℕ) (m : Notes) (r : Option Heard) (p : TakePart) (h : Hand) → left_after (take_left path m) (handed path m) r p h ≡ part_left_after path m r (part.Take p) h
+take_after path m None p h = refl
+take_after path m (Some x) p h = refl

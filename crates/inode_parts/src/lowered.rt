@@ -152,7 +152,7 @@ fn part_next(
             Whole::Read { fd: _, buf, at: _ } => read.next(buf.as_mut_slice(), answer, hand, heard),
             _ => unreachable!(),
         }
-        _ => part.next(call.text(), call.second(), notes, answer, hand, heard),
+        _ => part.next(call, notes, answer, hand, heard),
     }
 }
 
@@ -173,7 +173,7 @@ impl Control for Lowered {
 
     #[inline(always)]
     fn op(&self, hand: &mut Hand) -> Op {
-        self.part.op(self.call.text(), hand)
+        self.part.op(&self.call, hand)
     }
 
     #[inline(always)]

@@ -7,6 +7,7 @@ ghost use Rattle.hands.specs.declared.hand.Hand.{Hand as HandState};
 ghost use Rattle.inode_machine.specs.World.{Op as OpAbove};
 ghost use Rattle.inode_machine.specs.World.Op.{Take};
 ghost use Rattle.path_walk.specs.Asks.{op_in as above_op, query_in};
+ghost use Rattle.whole_calls.specs.Wholes.{first_in, second_in, text_in};
 ghost use Rattle.inode_parts.specs.Expecting.{BeginsWith};
 ghost use Rattle.inode_parts.specs.Carries.{carry_in, handed};
 ghost use Rattle.inode_parts.specs.Holding.{Having};
@@ -41,6 +42,7 @@ use crate::write_file_part::WriteFilePart;
 use fs_layout::Super;
 use hands::{Answer, Control, Finish, Hand, Op};
 use path_walk::{Ask, Heard, Query};
+use whole_calls::Whole;
 
 /// The operation of a call under way, whichever it is.
 #[derive(Drop)]
@@ -216,14 +218,14 @@ impl InodePart {
         }
     }
 
-    /// The next operation in a call with this text, of two the first. Bytes to be recorded are written in their buffer.
+    /// The next operation of a call, whose bytes are read where they are written. Bytes to be recorded are written in their buffer.
     #[inline(always)]
-    pub fn op(&self, text: &[u8], hand: &mut Hand) -> Op
+    pub fn op(&self, call: &Whole, hand: &mut Hand) -> Op
         requires ready { PartReady self.now hand.old }
-        requires told { (more : List ℕ) × PartTold text.now more self.now }
+        requires told { (more : List ℕ) × PartTold (first_in call.now) more self.now }
         ensures op { result ≡ part_asked self.now }
-        ensures asks { (more : List ℕ) (notes : NotesState) → PartTold text.now more self.now
-            → asks (part_left (text.now ++ more) notes self.now hand.old) ≡ Some (op_in hand.new result) }
+        ensures asks { (more : List ℕ) (notes : NotesState) → PartTold (first_in call.now) more self.now
+            → asks (part_left (first_in call.now ++ more) notes self.now hand.old) ≡ Some (op_in hand.new result) }
         ensures can { CanDo result hand.new }
         ensures prepared { Prepared result hand.old hand.new }
     {
@@ -243,35 +245,34 @@ impl InodePart {
             InodePart::Take(part) => part.op(hand),
             InodePart::Relock(part) => part.op(hand),
             InodePart::ReadFile(part) => part.op(hand),
-            InodePart::WriteFile(part) => part.op(text, hand),
+            InodePart::WriteFile(part) => part.op(call.text(), hand),
         }
     }
 
-    /// How it goes on in a call with this path and a second one, where it reads nothing into that: true where it is over, with what is
-    /// heard left in `heard`. The record of a locked inode may change in hand.
+    /// How it goes on in a call, where it reads nothing into that: true where it is over, with what is heard left in `heard`. The record
+    /// of a locked inode may change in hand.
     #[tactic(auto, using(crate::proofs::Goings::leave_on))]
     pub fn next(
         &mut self,
-        path: &[u8],
-        second: &[u8],
+        call: &Whole,
         notes: &mut Notes,
         answer: &Answer,
         hand: &mut Hand,
         heard: &mut Heard,
     ) -> bool
         requires stays { ReadsInto self.old → ⊥ }
-        requires told { PartTold path.now second.now self.old }
+        requires told { PartTold (first_in call.now) (second_in call.now) self.old }
         requires came { (before : HandState) × PartReady self.old before × IsAfter (part_asked self.old) before answer.now hand.old }
-        ensures goes { let text = path.now ++ second.now in (before : HandState) → PartReady self.old before
+        ensures goes { let text = text_in call.now in (before : HandState) → PartReady self.old before
             → IsAfter (part_asked self.old) before answer.now hand.old
             → Goes (part_left text notes.old self.old before) (answer_in (part_asked self.old) answer.now hand.old)
             (part_left_after text notes.new (heard_if result heard.new) self.new hand.new) }
-        ensures under { let text = path.now ++ second.now in (op : OpAbove) (start : Having) (before : HandState)
+        ensures under { let text = text_in call.now in (op : OpAbove) (start : Having) (before : HandState)
             → UnderWay text op start self.old (having before notes.old)
             → PartReady self.old before → IsAfter (part_asked self.old) before answer.now hand.old
             → GoesOrLeaves text op start (heard_if result heard.new) self.new (having hand.new notes.new) }
         ensures ready { IfNone (heard_if result heard.new) (PartReady self.new hand.new) }
-        ensures told { IfNone (heard_if result heard.new) (PartTold path.now second.now self.new) }
+        ensures told { IfNone (heard_if result heard.new) (PartTold (first_in call.now) (second_in call.now) self.new) }
         ensures stays { IfNone (heard_if result heard.new) (ReadsInto self.new → ⊥) }
         ensures on { IfNone (heard_if result heard.new) (MayGoOn self.old) }
         ensures same { ChangesNone self.old → hand.new ≡ hand.old }
@@ -299,10 +300,17 @@ impl InodePart {
             InodePart::LockOpen(part) => part.next(notes, answer, hand, heard),
             InodePart::LockFile(part) => part.next(notes, answer, hand, heard),
             InodePart::StatFile(part) => part.next(notes, answer, hand, heard),
-            InodePart::Take(part) => part.next(path, second, notes, answer, hand, heard),
+            InodePart::Take(part) => part.next(
+                call.text(),
+                call.second(),
+                notes,
+                answer,
+                hand,
+                heard,
+            ),
             InodePart::Relock(part) => part.next(notes, answer, hand, heard),
             InodePart::ReadFile(_) => unreachable!(),
-            InodePart::WriteFile(part) => part.next(path, answer, hand, heard),
+            InodePart::WriteFile(part) => part.next(call.text(), answer, hand, heard),
         }
     }
 }

@@ -1,15 +1,12 @@
 use Rattle.std.proofs.Common.{◌≡◌, ℕ, List, ◌++◌, length, take, drop, sym, ap, subst, ◌∙◌, arith}
 use Rattle.std.proofs.lemmas.List.{append-nil, drop_all, take_all}
-use Rattle.std.specs.Prelude.{IfNone}
 use Rattle.hands.specs.Controls.{Goes, left_after}
 use Rattle.hands.specs.Ops.{answer_in}
-use Rattle.whole_calls.specs.Wholes.{first_in, text_in}
+use Rattle.whole_calls.specs.Wholes.{text_in}
 use Rattle.inode_parts.specs.Carries.{handed}
 use Rattle.inode_parts.specs.FileReads.{read_file_asked, read_file_left}
-use Rattle.inode_parts.specs.InodeParts.{part_asked, part_left, part_left_after, PartTold}
-use Rattle.inode_parts.specs.Leaving.{having, heard_if}
-use Rattle.inode_parts.specs.UnderWay.{GoesOrLeaves, UnderWay}
-use Rattle.inode_parts.proofs.OnWay.{read_text}
+use Rattle.inode_parts.specs.InodeParts.{part_left_after}
+use Rattle.inode_parts.specs.Leaving.{heard_if}
 use Rattle.inode_parts.specs.Parts.{Part}
 use Rattle.inode_parts.specs.declared.part.InodePart.TheVariants as part
 use Rattle.inode_parts.proofs.Lefts.{read_after}
@@ -49,37 +46,3 @@ returns-in-Read-clause-under c op start before =
     let h = c.args.hand.now in
     rw c.in-ReadFile.is (λ under ready after.
     reads path start before h m m (heard_if c.next.result c.next.new.heard) c.in-ReadFile.read c.next.new.self (λ fd n offset count amid. c.next.ensures.leaves path m fd n offset count start.hand before amid ready after) op under)
-
--- ---- another part, by the text as it was read in two
-
-pub returns-in_default-clause-goes : goal.returns-in_default-clause-goes
-returns-in_default-clause-goes c before ready after =
-    let w = c.args.call.now in
-    let p = c.args.part.now in
-    let did = c.next-in_default in
-    let q = did.new.self in
-    let o = heard_if did.result did.new.heard in
-    let answer = answer_in (part_asked p) c.args.answer.now c.args.hand.now in
-    subst (λ (t : List ℕ). Goes (part_left t c.args.notes.now p before) answer (part_left_after t did.new.notes o q did.new.hand))
-    (read_text w c.text.result.now c.second.result.now c.text.ensures c.second.ensures)
-    (did.ensures.goes before ready after)
-
-pub returns-in_default-clause-under : goal.returns-in_default-clause-under
-returns-in_default-clause-under c op start before under ready after =
-    let w = c.args.call.now in
-    let p = c.args.part.now in
-    let did = c.next-in_default in
-    let q = did.new.self in
-    let o = heard_if did.result did.new.heard in
-    let read = read_text w c.text.result.now c.second.result.now c.text.ensures c.second.ensures in
-    subst (λ (t : List ℕ). GoesOrLeaves t op start o q (having did.new.hand did.new.notes)) read
-    (did.ensures.under op start before (subst (λ (t : List ℕ). UnderWay t op start p (having before c.args.notes.now)) (sym read) under) ready after)
-
-pub returns-in_default-clause-told : goal.returns-in_default-clause-told
-returns-in_default-clause-told c =
-    let w = c.args.call.now in
-    let did = c.next-in_default in
-    let q = did.new.self in
-    let o = heard_if did.result did.new.heard in
-    subst (λ (second : List ℕ). IfNone o (PartTold (first_in w) second q)) c.second.ensures
-    (subst (λ (path : List ℕ). IfNone o (PartTold path c.second.result.now q)) c.text.ensures did.ensures.told)
