@@ -7,7 +7,7 @@ use Rattle.plain_tree.specs.declared.answer.Full.{Full}
 use Rattle.plain_tree.specs.declared.answer.Full.TheVariants.{Blocks, Descriptors, Directory, DiskInodes, MemInodes, OpenFiles}
 use Rattle.plain_tree.specs.declared.answer.Reply.{Reply}
 use Rattle.plain_tree.specs.declared.call.Call.{Call}
-use Rattle.plain_tree.specs.declared.call.Call.TheVariants.{Link, Open, Write}
+use Rattle.plain_tree.specs.declared.call.Call.TheVariants.{Chdir, Dup, Link, Mkdir, Open, Unlink, Write}
 use Rattle.plain_tree.specs.declared.trace.TracedCall.{TracedCall}
 use Rattle.plain_tree.specs.Steps.{creates}
 use Rattle.plain_tree.specs.Tree.{Name}
@@ -67,20 +67,26 @@ WroteFrom fd bytes [] = Unit {0}
 WroteFrom fd bytes (Wrote by b ∷ cs) = (by ≡ fd) × (rest : List ℕ) × (bytes ≡ b ++ rest) × WroteFrom fd rest cs
 WroteFrom fd bytes (c ∷ cs) = ⊥
 
--- What a call's operations have changed where it is answered that there is no room of this kind.
+-- What a call's operations have changed where it is answered that there is no room of this kind. No other call is answered so.
 abbrev pub Stands : Full → Call → List Change → Type 0
+Stands MemInodes (Open path flags) cs = ChangedNothing cs
+Stands MemInodes (Mkdir path) cs = ChangedNothing cs
+Stands MemInodes (Unlink path) cs = ChangedNothing cs
+Stands MemInodes (Chdir path) cs = ChangedNothing cs
 Stands MemInodes (Link old new) cs = ChangedNothing cs ⊎ TookBackRaise cs
-Stands MemInodes call cs = ChangedNothing cs
 Stands OpenFiles (Open path flags) cs = MadeFileAtMost flags cs
-Stands OpenFiles call cs = ChangedNothing cs
 Stands Descriptors (Open path flags) cs = GaveBackPlace flags cs
-Stands Descriptors call cs = ChangedNothing cs
+Stands Descriptors (Dup fd) cs = ChangedNothing cs
+Stands Blocks (Open path flags) cs = GaveUpInode cs
+Stands Blocks (Mkdir path) cs = GaveUpInode cs
 Stands Blocks (Link old new) cs = TookBackRaise cs
 Stands Blocks (Write fd bytes) cs = WroteFrom fd bytes cs
-Stands Blocks call cs = GaveUpInode cs
-Stands DiskInodes call cs = ChangedNothing cs
+Stands DiskInodes (Open path flags) cs = ChangedNothing cs
+Stands DiskInodes (Mkdir path) cs = ChangedNothing cs
+Stands Directory (Open path flags) cs = GaveUpInode cs
+Stands Directory (Mkdir path) cs = GaveUpInode cs
 Stands Directory (Link old new) cs = TookBackRaise cs
-Stands Directory call cs = GaveUpInode cs
+Stands room call cs = ⊥
 
 -- ---- of each call of a run
 

@@ -82,8 +82,9 @@ pub fn calls_find_none_where_there_is_none<D: Device>(world: &World<D>)
 /// And what its own operations have changed then is as the kind of room says: nothing; or what was changed was taken back, as the raise of
 /// a link's count, an inode that was claimed, and a place of an open file. Two things stay: the file that CREATE made where there is no
 /// open file or no descriptor, and then no file was emptied; and of a write the bytes before the block that there wasn't, which the offset
-/// is behind. All changes are told: an operation of which none is leaves each inode on the disk, but one without a name that it frees, open
-/// files, and what harts have of them; and the bytes that are told are in the file, which stands behind them.
+/// is behind. Only the calls listed there are answered so. All changes are told: an operation of which none is leaves each inode on the
+/// disk, but one without a name that it frees, open files, and what harts have of them; and the bytes that are told are in the file, which
+/// stands behind them.
 pub fn calls_without_room_take_back<D: Device>(world: &World<D>)
     ensures take_back { CallsWithoutRoomTakeBack D.contents D.failures world.now }
     ensures told { ChangesAreTold }
