@@ -121,7 +121,8 @@ module _ (call : Call) where
       ifs : (last : Bool)
           → Leaves b cs
           (if last then Do (Free n) (λ _. Some (Frees n)) (λ _. Do (Give n) unmarked (λ _. Do (Forget n) unmarked (λ _. k))) else k)
-      ifs true = λ _. subst (λ (z : List Change). Leaves b z (Do (Give n) unmarked (λ _. Do (Forget n) unmarked (λ _. k)))) (none_freed cs n)
+      ifs true =
+          λ _. subst (λ (z : List Change). Leaves b z (Do (Give n) unmarked (λ _. Do (Forget n) unmarked (λ _. k)))) (none_freed cs n)
           (λ _ _. goes)
       ifs false = goes
 
@@ -130,7 +131,8 @@ module _ (call : Call) where
 
   free_all_l : (b : Bool) (cs : List Change) (ns : List ℕ) (r : Reply) → Ends b cs r → Leaves b cs (free_all ns (say r))
   free_all_l b cs [] r ends = say_l b cs r ends
-  free_all_l b cs (n ∷ ns) r ends = λ _ _ _. subst (λ (z : List Change). Leaves b z rest) (none_freed cs n) (λ _ _ _. free_all_l b cs ns r ends)
+  free_all_l b cs (n ∷ ns) r ends =
+      λ _ _ _. subst (λ (z : List Change). Leaves b z rest) (none_freed cs n) (λ _ _ _. free_all_l b cs ns r ends)
     where
       rest : P Reply
       rest = Do (Give n) unmarked (λ _. Do (Forget n) unmarked (λ _. Do Leave unmarked (λ _. free_all ns (say r))))

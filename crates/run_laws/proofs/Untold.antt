@@ -387,8 +387,8 @@ nameless w all n well gone d e other found =
     let none : all.nodes n ≡ None = ap (λ (f : ℕ → Option Node). f n) gone ∙ put_same w.all.nodes n None in
     never_so (ap (λ (v : Option Node). is_live v) (sym none) ∙ live)
 
-free_nameless : (h : ℕ) (x : Outside) (n : ℕ) (m : Option Mark) (w u : World) → Inv u → (a : Unit {0}) → go h x (Free n) (λ _. m) w ≡ Ran a u
-    → by_free n m ≡ [] → HasNoName w n
+free_nameless : (h : ℕ) (x : Outside) (n : ℕ) (m : Option Mark) (w u : World) → Inv u → (a : Unit {0})
+    → go h x (Free n) (λ _. m) w ≡ Ran a u → by_free n m ≡ [] → HasNoName w n
 free_nameless h x n None w u inv a ran none = absurd (some_told (Freed n) [] none)
 free_nameless h x n (Some (Makes v)) w u inv a ran none = absurd (some_told (Freed n) [] none)
 free_nameless h x n (Some (Orphans k)) w u inv a ran none = absurd (some_told (Freed n) [] none)

@@ -1,7 +1,8 @@
 -- What a write is told to have written it has written.
-use Rattle.std.proofs.Common.{◌≡◌, ℕ, Bool, true, false, nat_lt, if◌then◌else◌, List, [], ◌∷◌, length, take, Option, Some, None}
+use Rattle.std.proofs.Common.{◌≡◌, ◌<◌, ℕ, Bool, true, false, nat_lt, if◌then◌else◌, List, [], ◌∷◌, length, take, Option, Some, None}
 use Rattle.std.proofs.Common.{refl, sym, ◌∙◌, ap, subst}
 use Rattle.plain_tree.specs.declared.answer.Cause.{Cause}
+use Rattle.plain_tree.specs.declared.answer.Cause.TheVariants.{BadDescriptor}
 use Rattle.plain_tree.specs.declared.node.Node.{Node}
 use Rattle.plain_tree.specs.Steps.{node_or, write_kind}
 use Rattle.plain_tree.specs.Tree.{put}
@@ -13,9 +14,9 @@ use Rattle.inode_machine.specs.Exec.{changed_record, entry_at, entry_moved, entr
 use Rattle.inode_machine.specs.Exec.{with_bytes, with_offset, write_at}
 use Rattle.inode_machine.specs.Exec.{write_if, wrote_in}
 use Rattle.inode_machine.specs.Marks.{with_mark}
-use Rattle.inode_machine.specs.Rules.{Writes}
+use Rattle.inode_machine.specs.Rules.{HonestPiece, Writes}
 use Rattle.inode_machine.specs.World.{Entry, Mark, Outside, Picks, Refused, Room, RoomFor, Short, Whole, World, Wrote as WriteResult}
-use Rattle.run_laws.specs.Changes.{Change, HasWritten, WritesAreMade, Wrote, by_write}
+use Rattle.run_laws.specs.Changes.{Change, HasWritten, ShortWritesAreShort, WritesAreMade, Wrote, by_write}
 use Rattle.run_laws.proofs.Untold.{Kept, answer_or, kept_of, marked_kept}
 
 abbrev entry_in : Kept → ℕ → ℕ → Option Entry
@@ -100,6 +101,38 @@ module _ (h fd n : ℕ) (w : World) (e : Entry) (opened : entry_of w h fd ≡ So
     wrote x q =
         writes x (write_kind (node_or (w.disk n)).kind e.file.offset bytes)
         (subst (λ (o : Option Entry). with_mark h (λ (z : WriteResult). m) (write_at w (slot_at w h fd) n bytes x o) ≡ Ran a u) opened q)
+
+-- ---- a short write
+
+refused_short : (why : Cause) (k : ℕ) → Refused why ≡ Short k → ⊥
+refused_short why k q = cc
+
+whole_short : (k : ℕ) → Whole ≡ Short k → ⊥
+whole_short k q = cc
+
+short_same : (j k : ℕ) → Short j ≡ Short k → j ≡ k
+short_same j k q = cc
+
+module _ (h n : ℕ) (w u : World) (s : Option ℕ) (bytes : List ℕ) (k : ℕ) (m : Option Mark) where
+  answered : (c : WriteResult) (v : World) → with_mark h (λ (z : WriteResult). m) (Ran c v) ≡ Ran (Short k) u → c ≡ Short k
+  answered c v q = ap (λ (d : Did WriteResult World). answer_or (Short k) d) q
+
+  short_if : (e : Entry) (x : Outside) → HonestPiece bytes x → (c : Option Cause)
+      → with_mark h (λ (z : WriteResult). m) (write_if w s e n bytes x c) ≡ Ran (Short k) u → k < length bytes
+  short_if e x honest (Some why) q = absurd (refused_short why k (answered (Refused why) (unlocked n w (w.alone n)) q))
+  short_if e Room honest None q = absurd (whole_short k (answered Whole (wrote_in w s e n bytes) q))
+  short_if e (RoomFor j) honest None q =
+      subst (λ (z : ℕ). z < length bytes) (short_same j k (answered (Short j) (wrote_in w s e n (take j bytes)) q)) honest
+  short_if e (Picks j) honest None q = absurd honest
+
+  short_at : (x : Outside) → HonestPiece bytes x → (o : Option Entry)
+      → with_mark h (λ (z : WriteResult). m) (write_at w s n bytes x o) ≡ Ran (Short k) u → k < length bytes
+  short_at x honest None q = absurd (refused_short BadDescriptor k (answered (Refused BadDescriptor) (unlocked n w (w.alone n)) q))
+  short_at x honest (Some e) q = short_if e x honest (write_kind (node_or (w.disk n)).kind e.file.offset bytes) q
+
+pub writes_short : ShortWritesAreShort
+writes_short t u h fd n offset k bytes mark told s =
+    short_at h n s.before s.after (slot_at s.before h fd) bytes k mark s.outside s.honest (entry_of s.before h fd) s.goes
 
 pub writes_made : WritesAreMade
 writes_made t u h fd n offset bytes b a mark told s is =

@@ -1,5 +1,6 @@
 -- What an operation on whole inodes changes that outlasts its call: inodes on the disk, and open files.
-use Rattle.std.specs.Prelude.{◌≡◌, ◌≢◌, ◌⊎◌, ◌==◌, if◌then◌else◌, ℕ, Bool, true, false, List, [], ◌∷◌, ◌++◌, take, length, Option, Some, None}
+use Rattle.std.specs.Prelude.{◌≡◌, ◌≢◌, ◌⊎◌, ◌==◌, ◌<◌, if◌then◌else◌, ℕ, Bool, true, false, List, [], ◌∷◌, ◌++◌, take, length}
+use Rattle.std.specs.Prelude.{Option, Some, None}
 use Rattle.plain_tree.specs.declared.step.Action.TheVariants.{Bump, Unbump}
 use Rattle.plain_tree.specs.Steps.{node_or}
 use Rattle.plain_tree.specs.Tree.{Name, look}
@@ -153,3 +154,9 @@ WritesAreMade =
     (t u : World) (h fd n offset : ℕ) (bytes b : List ℕ) (wrote : WriteResult) (mark : Option Mark) (told : Option Deed)
     → IsStep t h (record { op = WriteFile fd n offset bytes; answer = wrote; mark = mark; told = told }) u
     → by_write fd bytes wrote ≡ Wrote fd b ∷ [] → HasWritten t h fd b u
+
+-- And one that is answered that there was no block for all of its bytes has written fewer than it was to.
+abbrev pub ShortWritesAreShort : Type 0
+ShortWritesAreShort =
+    (t u : World) (h fd n offset k : ℕ) (bytes : List ℕ) (mark : Option Mark) (told : Option Deed)
+    → IsStep t h (record { op = WriteFile fd n offset bytes; answer = Short k; mark = mark; told = told }) u → k < length bytes

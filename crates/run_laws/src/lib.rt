@@ -5,7 +5,7 @@
 
 ghost use Rattle.run_laws.specs.ActsAt.{OperationsActFirstOrLast};
 ghost use Rattle.run_laws.specs.Answered.{CallsFindNoneWhereThereIsNone};
-ghost use Rattle.run_laws.specs.Changes.{ChangesAreTold, WritesAreMade};
+ghost use Rattle.run_laws.specs.Changes.{ChangesAreTold, ShortWritesAreShort, WritesAreMade};
 ghost use Rattle.run_laws.specs.Faithful.{CallsGoOnAsTheyActed};
 ghost use Rattle.run_laws.specs.Idle.{IdleHartsHaveBegunNothing};
 ghost use Rattle.run_laws.specs.Laws.{RunsRefineWholeInodes};
@@ -84,11 +84,12 @@ pub fn calls_find_none_where_there_is_none<D: Device>(world: &World<D>)
 /// open file or no descriptor, and then no file was emptied; and of a write the bytes before the block that there wasn't, which the offset
 /// is behind. Only the calls listed there are answered so. All changes are told: an operation of which none is leaves each inode on the
 /// disk, but one without a name that it frees, open files, and what harts have of them; and the bytes that are told are in the file, which
-/// stands behind them.
+/// stands behind them, and are fewer than those of the piece where a block wasn't there.
 pub fn calls_without_room_take_back<D: Device>(world: &World<D>)
     ensures take_back { CallsWithoutRoomTakeBack D.contents D.failures world.now }
     ensures told { ChangesAreTold }
     ensures written { WritesAreMade }
+    ensures short { ShortWritesAreShort }
 {
     let _ = world;
 }

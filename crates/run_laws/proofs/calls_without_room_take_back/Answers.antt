@@ -1,6 +1,6 @@
 use Rattle.run_laws.proofs.Standing.{take_back}
 use Rattle.run_laws.proofs.Untold.{untold}
-use Rattle.run_laws.proofs.Written.{writes_made}
+use Rattle.run_laws.proofs.Written.{writes_made, writes_short}
 use Rattle.run_laws.proofs.calls_without_room_take_back.Goals as goal
 
 pub returns-clause-take_back : goal.returns-clause-take_back
@@ -11,3 +11,6 @@ returns-clause-told g c = untold
 
 pub returns-clause-written : goal.returns-clause-written
 returns-clause-written g c = writes_made
+
+pub returns-clause-short : goal.returns-clause-short
+returns-clause-short g c = writes_short
