@@ -1,22 +1,20 @@
 -- Each operation of a program above acts once within its own program below, with the answer that this program ends with.
-use Rattle.std.proofs.Common.{◌≡◌, ◌≢◌, ◌⊎◌, inl, inr, ◌<◌, ◌+◌, ◌-◌, ℕ, suc, Bool, true, false, Option, Some, None, is_some, List, [], ◌∷◌, ◌++◌, refl, sym, ◌∙◌, ap, subst, arith}
-use Rattle.std.specs.Prelude.{nat_eq, if◌then◌else◌}
-use Rattle.std.proofs.lemmas.Bool.{eq-eqb, ne_eqb}
+use Rattle.std.proofs.Common.{◌≡◌, ◌≢◌, ◌⊎◌, inl, inr, ◌<◌, ◌+◌, ◌-◌, ℕ, suc, true, Option, Some, None, is_some, List, [], ◌∷◌, ◌++◌, refl, sym, ◌∙◌, ap, subst, arith}
+use Rattle.std.proofs.lemmas.Bool.{ne_eqb}
 use Rattle.atomic_programs.specs.Prog.{Ret, Do, bind, Did, Waits, Ran, Stops}
-use Rattle.atomic_programs.specs.Logic.{Machine, P, own, onto, oldest_first, Goes, placed_with, Grown, Good, Wp, Laws}
+use Rattle.atomic_programs.specs.Logic.{Machine, OpWithAnswer, P, own, onto, oldest_first, placed_with, Grown, Good, Wp, Laws}
 use Rattle.atomic_programs.specs.Joined.{Lower, Both, joined, LowerLaws, Handover, Handlers, lowered, Lasts, Below}
 use Rattle.atomic_programs.specs.Lifting.{Uses}
-use Rattle.atomic_programs.specs.Noted.{Note, Runs, Places, Notes, noted_steps, noted}
 use Rattle.atomic_programs.specs.Spending.{Budget, Affords, AtomicWithin}
 use Rattle.atomic_programs.proofs.Noted.{Alone}
 use Rattle.atomic_programs.proofs.Operations.{own_one}
 use Rattle.atomic_programs.proofs.Sound.{Wp-weaker, Wp-more, Wp-bind, Wp-others}
-use Rattle.run_laws.specs.Faithful.{ActsNow, ActsWithin, EndsWith, IsFaithful, IsUnderWay}
+use Rattle.run_laws.specs.Faithful.{ActsWithin, EndsWith, IsFaithful, IsUnderWay, Notes, StepNote, stepwise}
 
 -- ---- a machine with its notes
 
-pub noted_laws : (L : Machine) → Laws L → Laws (noted L)
-noted_laws L laws =
+pub stepwise_laws : (L : Machine) → Laws L → Laws (stepwise L)
+stepwise_laws L laws =
     record {
       same = λ h w. (refl, laws.same h w);
       trans = λ h u v w xs ys a b. (rw (a.0, b.0) refl, laws.trans h u v w [] [] a.1 b.1);
@@ -25,22 +23,11 @@ noted_laws L laws =
       clean_before = λ h v w xs o y. laws.clean_before h v w [] o.1 y;
     }
 
-goes_noted : (L : Machine) (t : L.Tree) (ps : List (ℕ × L.Step)) (u : L.Tree) → Goes L t ps u → Goes (noted L) t (noted_steps ps) u
-goes_noted L t [] u g = g
-goes_noted L t (p ∷ ps) u g = (g.0, g.1, goes_noted L g.0 ps u g.2)
+abbrev note : {E S : Type 0} → E → List S → StepNote E S
+note e xs = record { ran = e; made = xs }
 
-abbrev all_placed : {E S : Type 0} → List S → List (Note E S)
-all_placed [] = []
-all_placed (x ∷ xs) = Places x ∷ all_placed xs
-
-own_noted : {E S : Type 0} (j : ℕ) (ps : List (ℕ × S)) → ◌≡◌ {A = List (Note E S)} (own j (noted_steps ps)) (all_placed (own j ps))
-own_noted j [] = refl
-own_noted {E} {S} j (p ∷ ps) = at (nat_eq p.0 j) (own_noted j ps)
-  where
-    at : (b : Bool) → ◌≡◌ {A = List (Note E S)} (own j (noted_steps ps)) (all_placed (own j ps))
-        → ◌≡◌ {A = List (Note E S)} (if b then Places p.1 ∷ own j (noted_steps ps) else own j (noted_steps ps)) (all_placed (if b then p.1 ∷ own j ps else own j ps))
-    at true e = ap (λ (zs : List (Note E S)). Places p.1 ∷ zs) e
-    at false e = e
+own_none : {A : Type 0} (g h : ℕ) (e : A) → g ≢ h → own g ((h, e) ∷ []) ≡ []
+own_none g h e ne = rw (ne_eqb h g (λ q. ne (sym q))) refl
 
 -- a list of at least two isn't a list of one
 two_left : {A : Type 0} (zs es : List A) (x y z : A) → onto zs (x ∷ y ∷ es) ≡ z ∷ [] → ⊥
@@ -55,44 +42,42 @@ tail_is x y xs ys e = cc
 
 -- ---- beginnings
 
--- notes that are open may end before the first step
-open_yet : (L : Machine) {A C : Type 0} (IsOf : A → L.Step → Type 0) (Open : Type 0) (Then : Handover A C → Notes L → Type 0) (p : P L (Handover A C)) → Open → ActsWithin L IsOf Open Then p []
-open_yet L IsOf Open Then (Ret x) o = o
-open_yet L IsOf Open Then (Do op m k) o = o
-
 module _ (L : Machine) {A C : Type 0} (IsOf : A → L.Step → Type 0) (Open : Type 0) (Then Shorter : Handover A C → Notes L → Type 0) (rest : Notes L) (then_ : (x : Handover A C) (es : Notes L) → Then x (es ++ rest) → Shorter x es) where
   ends_shorter : (a : A) (p : P L (Handover A C)) (es : Notes L) → EndsWith L IsOf Open Then a p (es ++ rest) → EndsWith L IsOf (Unit {0}) Shorter a p es
   ends_shorter a (Ret x) es t = (t.0, then_ x es t.1)
   ends_shorter a (Do op m k) [] t = tt
   ends_shorter a (Do op m k) (e ∷ es) t = (t.0, t.1, ends_shorter a (k t.0) es t.2)
 
-  now_shorter : (marked : Type 0) (p : P L (Handover A C)) (es : Notes L) → marked × ActsNow L IsOf Open Then p (es ++ rest) → ActsWithin L IsOf (Unit {0}) Shorter p es ⊎ (marked × ActsNow L IsOf (Unit {0}) Shorter p es)
-  now_shorter marked p [] t = inl (open_yet L IsOf (Unit {0}) Shorter p tt)
-  now_shorter marked p (e ∷ es) t = let s = t.1 in inr (t.0, (s.0, s.1, s.2, s.3, ends_shorter s.0 p es s.4))
-
   within_shorter : (p : P L (Handover A C)) (es : Notes L) → ActsWithin L IsOf Open Then p (es ++ rest) → ActsWithin L IsOf (Unit {0}) Shorter p es
-  within_shorter p [] t = open_yet L IsOf (Unit {0}) Shorter p tt
-  within_shorter (Ret x) (e ∷ es) t = absurd t
-  within_shorter (Do op m k) (e ∷ es) t = (t.0, t.1, at (is_some (m t.0) ≡ true) (k t.0) (λ s. within_shorter (k t.0) es s) t.2)
+  within_shorter (Ret x) es t = absurd t
+  within_shorter (Do op m k) [] t = tt
+  within_shorter (Do op m k) (e ∷ es) t = (t.0, at (λ s. within_shorter (k t.0) es s) t.1)
     where
-      at : (marked : Type 0) (p : P L (Handover A C)) → (ActsWithin L IsOf Open Then p (es ++ rest) → ActsWithin L IsOf (Unit {0}) Shorter p es)
-          → ActsWithin L IsOf Open Then p (es ++ rest) ⊎ (marked × ActsNow L IsOf Open Then p (es ++ rest)) → ActsWithin L IsOf (Unit {0}) Shorter p es ⊎ (marked × ActsNow L IsOf (Unit {0}) Shorter p es)
-      at marked p ih (inl s) = inl (ih s)
-      at marked p ih (inr s) = now_shorter marked p es s
+      at : (ActsWithin L IsOf Open Then (k t.0) (es ++ rest) → ActsWithin L IsOf (Unit {0}) Shorter (k t.0) es)
+          → ((e ≡ note (op, t.0) []) × ActsWithin L IsOf Open Then (k t.0) (es ++ rest)) ⊎ ((a : A) × (s : L.Step) × (e ≡ note (op, t.0) (s ∷ [])) × IsOf a s × (is_some (m t.0) ≡ true) × EndsWith L IsOf Open Then a (k t.0) (es ++ rest))
+          → ((e ≡ note (op, t.0) []) × ActsWithin L IsOf (Unit {0}) Shorter (k t.0) es) ⊎ ((a : A) × (s : L.Step) × (e ≡ note (op, t.0) (s ∷ [])) × IsOf a s × (is_some (m t.0) ≡ true) × EndsWith L IsOf (Unit {0}) Shorter a (k t.0) es)
+      at ih (inl s) = inl (s.0, ih s.1)
+      at ih (inr s) = inr (s.0, s.1, s.2, s.3, s.4, ends_shorter s.0 (k t.0) es s.5)
+
+-- notes that end before the first step are open
+acts_open : (L : Machine) {A C : Type 0} (IsOf : A → L.Step → Type 0) (Open : Type 0) (Then : Handover A C → Notes L → Type 0) (p : P L (Handover A C)) → ActsWithin L IsOf Open Then p [] → Open
+acts_open L IsOf Open Then (Ret x) t = absurd t
+acts_open L IsOf Open Then (Do op m k) t = t
 
 module _ (U : Machine) (R : Lower U.World) (handler : Handlers U R) (IsOf : (op : U.Op) → (U.Answer op → Option U.Mark) → U.Answer op → U.Step → Type 0) where
   -- a program that is under way may be at its start
   pub none_noted : {A : Type 0} (c : R.Carry) (p : P U A) → IsFaithful U R handler IsOf None c p []
   none_noted c (Ret a) = tt
-  none_noted {A} c (Do op m k) = open_yet (joined U R) {C = R.Carry} (IsOf op m) (Unit {0}) (λ x rest. IsFaithful U R handler IsOf None x.carry (k x.answer) rest) (handler c op m) tt
+  none_noted c (Do op m k) = tt
 
   -- what begins such notes is notes of a program that is under way
   pub faithful_shorter : {A : Type 0} (r : Option A) (c : R.Carry) (p : P U A) (es rest : Notes (joined U R)) → IsFaithful U R handler IsOf r c p (es ++ rest) → IsFaithful U R handler IsOf None c p es
   faithful_shorter r c (Ret a) [] rest t = tt
   faithful_shorter r c (Ret a) (e ∷ es) rest t = absurd t
-  faithful_shorter r c (Do op m k) es rest t =
+  faithful_shorter r c (Do op m k) [] rest t = tt
+  faithful_shorter r c (Do op m k) (e ∷ es) rest t =
       within_shorter (joined U R) {C = R.Carry} (IsOf op m) (IsUnderWay r) (λ x more. IsFaithful U R handler IsOf r x.carry (k x.answer) more) (λ x more. IsFaithful U R handler IsOf None x.carry (k x.answer) more) rest
-      (λ x fs s. faithful_shorter r x.carry (k x.answer) fs rest s) (handler c op m) es t
+      (λ x fs s. faithful_shorter r x.carry (k x.answer) fs rest s) (handler c op m) (e ∷ es) t
 
 -- ---- the program of one operation
 
@@ -139,16 +124,16 @@ module _ (L : Machine) (alone : Alone L) (clean : (w : L.World) → L.Clean w) (
 
     -- one operation more, at which zs were placed
     stage_on : (op : L.Op) (m : L.Answer op → Option L.Mark) (k : L.Answer op → P L (Handover A C)) (b : L.Answer op) (zs gs : List L.Step) (fs : Notes L) → ((z : L.Step) (ys : List L.Step) → zs ≡ z ∷ ys → is_some (m b) ≡ true)
-        → Stage (Do op m k) gs fs → Grown OneStep zs gs → Stage (k b) (onto zs gs) (onto (all_placed zs) (Runs (op, b) ∷ fs))
-    stage_on op m k b [] gs fs marked (inl s) grown = inl (s.0, λ r rest t. s.1 r (Runs (op, b) ∷ rest) (b, refl, inl t))
-    stage_on op m k b [] gs fs marked (inr s) grown = inr (s.0, s.1, s.2, λ r a rest is t. s.3 r a (Runs (op, b) ∷ rest) is (b, refl, t))
+        → Stage (Do op m k) gs fs → Grown OneStep zs gs → Stage (k b) (onto zs gs) (note (op, b) zs ∷ fs)
+    stage_on op m k b [] gs fs marked (inl s) grown = inl (s.0, λ r rest t. s.1 r (note (op, b) [] ∷ rest) (b, inl (refl, t)))
+    stage_on op m k b [] gs fs marked (inr s) grown = inr (s.0, s.1, s.2, λ r a rest is t. s.3 r a (note (op, b) [] ∷ rest) is (b, refl, t))
     stage_on op m k b (z ∷ zs) gs fs marked s (inl grown) = absurd cc
     stage_on op m k b (z ∷ []) gs fs marked (inl s) (inr one) =
         inr (
           z,
           ap (λ (ys : List L.Step). z ∷ ys) s.0,
           (one.0, subst (IsOf one.0) (sym (head_is z one.1 gs [] one.2)) one.3),
-          λ r a rest is t. s.1 r (Runs (op, b) ∷ Places z ∷ rest) (b, refl, inr (marked z [] refl, (a, z, refl, is, t))),
+          λ r a rest is t. s.1 r (note (op, b) (z ∷ []) ∷ rest) (b, inr (a, z, refl, is, marked z [] refl, t)),
         )
     stage_on op m k b (z ∷ []) gs fs marked (inr s) (inr one) = absurd (let q : s.0 ∷ [] ≡ [] = sym s.1 ∙ tail_is z one.1 gs [] one.2 in cc)
     stage_on op m k b (z ∷ y ∷ zs) gs fs marked s (inr one) = absurd (two_left zs gs y z one.1 one.2)
@@ -158,45 +143,42 @@ module _ (L : Machine) (alone : Alone L) (clean : (w : L.World) → L.Clean w) (
     marks op b v (Some t) z ys e = refl
     marks op b v None z ys e = absurd (let q : [] ≡ z ∷ ys = sym (ap (λ (ps : List (ℕ × L.Step)). own h ps) (quiet h op b v)) ∙ e in cc)
 
-    inside : (q : P L (Handover A C)) (n : ℕ) (gs : List L.Step) (w : L.World) (fs : Notes L) → Stage q gs fs → Wp L h OneStep G q n gs w → Wp (noted L) h SoFar Q q n fs w
+    inside : (q : P L (Handover A C)) (n : ℕ) (gs : List L.Step) (w : L.World) (fs : Notes L) → Stage q gs fs → Wp L h OneStep G q n gs w → Wp (stepwise L) h SoFar Q q n fs w
     inside (Ret x) n gs w fs (inl s) g = absurd (not_none x gs w s.0 g)
     inside (Ret x) n gs w fs (inr s) g = (λ r rest t. s.3 r x.answer rest (same_answer x gs w s.0 s.1 g) (refl, t), (gs, g))
     inside (Do op m k) n gs w fs s g =
         λ v xs o i. let q = g v [] o.1 i in (
           λ y. inl o.0,
           q.1,
-          λ x t. subst (λ (zs : Notes L). Good (noted L) (L.Answer op) h (placed_with (noted L) h op m v) (L.more op) n SoFar (onto zs fs) v (L.MayWait h op v) (L.go h x op m v) (λ l b u. Wp (noted L) h SoFar Q (k b) l (onto (own h (placed_with (noted L) h op m v b)) (onto zs fs)) u)) (sym o.0)
+          λ x t. subst (λ (zs : Notes L). Good (stepwise L) (L.Answer op) h (placed_with (stepwise L) h op m v) (L.more op) n SoFar (onto zs fs) v (L.MayWait h op v) (L.go h x op m v) (λ l b u. Wp (stepwise L) h SoFar Q (k b) l (onto (own h (placed_with (stepwise L) h op m v b)) (onto zs fs)) u)) (sym o.0)
               (made v (λ b l ys es u st gg. inside (k b) l ys u es st gg) (L.go h x op m v) (q.2 x t)),
           q.3,
         )
       where
-        own_here : (b : L.Answer op) (v : L.World) → own h (placed_with (noted L) h op m v b) ≡ Runs (op, b) ∷ all_placed (own h (placed_with L h op m v b))
-        own_here b v = rw (eq-eqb h h refl) (ap (λ (zs : Notes L). Runs (op, b) ∷ zs) (own_noted h (placed_with L h op m v b)))
+        step : (b : L.Answer op) (v : L.World) → StepNote (OpWithAnswer L) L.Step
+        step b v = note (op, b) (own h (placed_with L h op m v b))
 
-        own_there : (b : L.Answer op) (v : L.World) (other : ℕ) → other ≢ h → own other (placed_with L h op m v b) ≡ [] → own other (placed_with (noted L) h op m v b) ≡ []
-        own_there b v other ne e = rw (ne_eqb h other (λ q. ne (sym q))) (own_noted other (placed_with L h op m v b) ∙ ap (λ (zs : List L.Step). placed_all zs) e)
-          where
-            placed_all : List L.Step → Notes L
-            placed_all zs = all_placed zs
+        own_here : (b : L.Answer op) (v : L.World) → own h (placed_with (stepwise L) h op m v b) ≡ step b v ∷ []
+        own_here b v = own_one h (step b v)
 
         made : (v : L.World)
-            → ((b : L.Answer op) (l : ℕ) (ys : List L.Step) (es : Notes L) (u : L.World) → Stage (k b) ys es → Wp L h OneStep G (k b) l ys u → Wp (noted L) h SoFar Q (k b) l es u)
+            → ((b : L.Answer op) (l : ℕ) (ys : List L.Step) (es : Notes L) (u : L.World) → Stage (k b) ys es → Wp L h OneStep G (k b) l ys u → Wp (stepwise L) h SoFar Q (k b) l es u)
             → (d : Did (L.Answer op) L.World)
             → Good L (L.Answer op) h (placed_with L h op m v) (L.more op) n OneStep gs v (L.MayWait h op v) d (λ l b u. Wp L h OneStep G (k b) l (onto (own h (placed_with L h op m v b)) gs) u)
-            → Good (noted L) (L.Answer op) h (placed_with (noted L) h op m v) (L.more op) n SoFar fs v (L.MayWait h op v) d (λ l b u. Wp (noted L) h SoFar Q (k b) l (onto (own h (placed_with (noted L) h op m v b)) fs) u)
+            → Good (stepwise L) (L.Answer op) h (placed_with (stepwise L) h op m v) (L.more op) n SoFar fs v (L.MayWait h op v) d (λ l b u. Wp (stepwise L) h SoFar Q (k b) l (onto (own h (placed_with (stepwise L) h op m v b)) fs) u)
         made v ih Waits f = f
         made v ih (Ran b u) f =
             let zs : List L.Step = own h (placed_with L h op m v b) in
             let st = stage_on op m k b zs gs fs (λ z ys e. marks op b v (m b) z ys e) s (f.begun (clean u)) in
             record {
               inv = f.inv;
-              kept = λ other ne. (own_there b v other ne (alone other v u (own other (placed_with L h op m v b)) (f.kept other ne)), subst (λ (ys : List L.Step). L.Others other v ys u) (alone other v u (own other (placed_with L h op m v b)) (f.kept other ne)) (f.kept other ne));
-              goes = λ y. (L.tree v, refl, goes_noted L (L.tree v) (placed_with L h op m v b) (L.tree u) (f.goes y));
+              kept = λ other ne. (own_none other h (step b v) ne, subst (λ (ys : List L.Step). L.Others other v ys u) (alone other v u (own other (placed_with L h op m v b)) (f.kept other ne)) (f.kept other ne));
+              goes = λ y. (L.tree u, tt, refl);
               clean = f.clean;
-              begun = λ y. inr (subst (λ (ys : Notes L). SoFar (onto ys fs)) (sym (own_here b v)) (so_far (k b) f.left (onto zs gs) u (onto (all_placed zs) (Runs (op, b) ∷ fs)) st f.next));
+              begun = λ y. inr (subst (λ (ys : Notes L). SoFar (onto ys fs)) (sym (own_here b v)) (so_far (k b) f.left (onto zs gs) u (step b v ∷ fs) st f.next));
               left = f.left;
               falls = f.falls;
-              next = subst (λ (ys : Notes L). Wp (noted L) h SoFar Q (k b) f.left (onto ys fs) u) (sym (own_here b v)) (ih b f.left (onto zs gs) (onto (all_placed zs) (Runs (op, b) ∷ fs)) u st f.next);
+              next = subst (λ (ys : Notes L). Wp (stepwise L) h SoFar Q (k b) f.left (onto ys fs) u) (sym (own_here b v)) (ih b f.left (onto zs gs) (step b v ∷ fs) u st f.next);
             }
         made v ih (Stops u) f = record { halted = f.halted; kept = λ other ne. (refl, f.kept other ne); tree = f.tree; clean = f.clean }
 
@@ -225,15 +207,15 @@ module _ (U : Machine) (R : Lower U.World) (handler : Handlers U R) (IsOf : (op 
 
   pub handles : (p : P U A) → Uses U (AtomicWithin U R handler b Has h) p → (spent : b.Spent) → Affords U b spent p → (c : R.Carry) (n : ℕ) (es : List U.Step) (fs : Notes J) (w : Both R.World U.World) → Has w.real spent
       → ((r : Option A) (rest : Notes J) → IsFaithful U R handler IsOf r c p rest → Faithful r (onto fs rest))
-      → Wp U h B Q p n es w.seen → R.Base h w.real w.seen c → U.Inv w.seen → Wp (noted J) h NotedSoFar NotedWhole (lowered U R handler c p) n fs w
+      → Wp U h B Q p n es w.seen → R.Base h w.real w.seen c → U.Inv w.seen → Wp (stepwise J) h NotedSoFar NotedWhole (lowered U R handler c p) n fs w
   handles (Ret a) used spent affords c n es fs w has way g base inv = (way (Some a) [] refl, (below.idle h w.real w.seen c inv (idle a es w.seen g) base, idle a es w.seen g))
   handles (Do op m k) used spent affords c n es fs w has way g base inv =
-      Wp-more (noted J) h (bind (handler c op m) rest) NotedSoFar NotedWhole (suc (U.more op) + (n - suc (U.more op))) n fs w (omega (arith, enough))
-      (Wp-bind (noted J) h (handler c op m) rest NotedSoFar NotedWhole (suc (U.more op)) (n - suc (U.more op)) fs w
-      (Wp-weaker (noted J) h (handler c op m) NotedSoFar NotedSoFar (λ x ys u. Through x ys × ((zs : List U.Step) × After x zs u)) (λ x. Wp (noted J) h NotedSoFar NotedWhole (rest x) (n - suc (U.more op))) (suc (U.more op)) fs w (λ ys e. e)
+      Wp-more (stepwise J) h (bind (handler c op m) rest) NotedSoFar NotedWhole (suc (U.more op) + (n - suc (U.more op))) n fs w (omega (arith, enough))
+      (Wp-bind (stepwise J) h (handler c op m) rest NotedSoFar NotedWhole (suc (U.more op)) (n - suc (U.more op)) fs w
+      (Wp-weaker (stepwise J) h (handler c op m) NotedSoFar NotedSoFar (λ x ys u. Through x ys × ((zs : List U.Step) × After x zs u)) (λ x. Wp (stepwise J) h NotedSoFar NotedWhole (rest x) (n - suc (U.more op))) (suc (U.more op)) fs w (λ ys e. e)
       (λ x ys u e. let d = e.1.1 in handles (k x.answer) (used.1 x.answer) (b.after op spent) (affords.1 x.answer) x.carry (n - suc (U.more op)) d.0.0.1.0 ys u d.1 e.0 d.0.0.1.1 d.0.1 d.0.0.2)
       (inside J (λ j v u xs o. alone j v.seen u.seen xs o.1) (λ v. clean v.seen) (λ j lop a v. refl) h {C = R.Carry} {E = Option A} (IsOf op m) (λ r. IsUnderWay r) (λ r x ys. IsFaithful U R handler IsOf r x.carry (k x.answer) ys) (λ r ys. Faithful r ys) None tt (λ x. none_noted U R handler IsOf x.carry (k x.answer)) After (λ x zs u e. e.0.0.0)
-      (handler c op m) (suc (U.more op)) [] w fs (inl (refl, way))
+      (handler c op m) (suc (U.more op)) [] w fs (inl (refl, λ r ys t. way r ys (starts r ys t)))
       (used.0 c spent One Then [] w
       (λ a gs xs v u o i e. (λ y. inl (alone h v u xs o), (still a gs xs (alone h v u xs o) e.0, (onto xs e.1.0, Wp-others U above h (k a) B Q (n - suc (U.more op)) e.1.0 xs v u (λ x d. (lasts x e.1.0 xs v u o i d).1) o e.1.1), i)))
       (λ v xs o i. (
@@ -262,6 +244,10 @@ module _ (U : Machine) (R : Lower U.World) (handler : Handlers U R) (IsOf : (op 
 
       rest : Handover (U.Answer op) R.Carry → P J A
       rest x = lowered U R handler x.carry (k x.answer)
+
+      starts : (r : Option A) (ys : Notes J) → ActsWithin J {C = R.Carry} (IsOf op m) (IsUnderWay r) (λ x more. IsFaithful U R handler IsOf r x.carry (k x.answer) more) (handler c op m) ys → IsFaithful U R handler IsOf r c (Do op m k) ys
+      starts r [] t = acts_open J {C = R.Carry} (IsOf op m) (IsUnderWay r) (λ x more. IsFaithful U R handler IsOf r x.carry (k x.answer) more) (handler c op m) t
+      starts r (y ∷ ys) t = t
 
       enough : U.more op < n
       enough = (g w.seen [] (above.same h w.seen) inv).3

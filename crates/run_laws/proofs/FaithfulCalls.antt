@@ -6,21 +6,20 @@ use Rattle.atomic_programs.specs.Calls.{Theory, Began, Begins, Begun, Ends, Lawf
 use Rattle.atomic_programs.specs.Joined.{Lower, Both, joined, LowerLaws, Handlers, Lasts}
 use Rattle.atomic_programs.specs.Lifting.{BeginsSome, IsStarted, Uses}
 use Rattle.atomic_programs.specs.Lowered.{Starts, StartsBoth, began_to, lowered_calls}
-use Rattle.atomic_programs.specs.Noted.{Notes, noted}
 use Rattle.atomic_programs.specs.Spending.{Budget, Affords, AtomicWithin}
 use Rattle.atomic_programs.proofs.Beginnings.{whole_begins}
 use Rattle.atomic_programs.proofs.Explains.{ends_last}
 use Rattle.atomic_programs.proofs.Lowered.{begun_both}
 use Rattle.atomic_programs.proofs.Noted.{Alone}
 use Rattle.atomic_programs.proofs.Sound.{Wp-weaker, Wp-more, Wp-bind}
-use Rattle.run_laws.specs.Faithful.{IsFaithful}
-use Rattle.run_laws.proofs.Faithful.{PlacesItself, handles, none_noted, noted_laws}
+use Rattle.run_laws.specs.Faithful.{IsFaithful, Notes, stepwise}
+use Rattle.run_laws.proofs.Faithful.{PlacesItself, handles, none_noted, stepwise_laws}
 
 -- The same calls, with their notes. Each ends with Some of its reply; so what explains a call by None is of one that is under way.
 abbrev pub telling : (L : Theory) → (L.Call → Option L.Reply → Notes L.M → Type 0) → Theory
 telling L AreOf =
     record {
-      M = noted L.M;
+      M = stepwise L.M;
       Call = L.Call;
       Reply = Option L.Reply;
       Refusal = L.Refusal;
@@ -89,7 +88,7 @@ module _ (T : Theory) (R : Lower T.M.World) (handler : Handlers T.M R) (begin : 
     pub faithful_lawful : Lawful faithful_calls
     faithful_lawful =
         record {
-          laws = noted_laws L.M lawful_below.laws;
+          laws = stepwise_laws L.M lawful_below.laws;
           calls = λ h call busy w u holds idle free e.
               let r = lawful_below.calls h call busy w u holds idle free e in
               record {

@@ -1,5 +1,5 @@
 -- In each run of a mounted world the calls go on as their operations acted.
-use Rattle.std.proofs.Common.{◌≡◌, ◌<◌, ◌∙◌, ℕ, true, List, refl, sym, subst}
+use Rattle.std.proofs.Common.{◌≡◌, ◌<◌, ◌∙◌, ℕ, true, List, refl, sym, subst, Option, None, Some, ap}
 use Rattle.fs_layout.specs.declared.superblock.Super.{Super}
 use Rattle.fs_layout.specs.Recovered.{sizes_of}
 use Rattle.plain_tree.specs.declared.call.Call.{Call}
@@ -7,13 +7,15 @@ use Rattle.plain_tree.specs.Tree.{put}
 use Rattle.plain_tree.specs.Widths.{hart_count}
 use Rattle.atomic_programs.specs.Calls.{Theory, AllHonest, Event as EventOf, Lawful, fresh, run}
 use Rattle.atomic_programs.specs.Explained.{IsExplained, history, steps_of}
-use Rattle.atomic_programs.specs.Joined.{Both}
+use Rattle.atomic_programs.specs.Joined.{ActOf, Both, placed_at}
 use Rattle.atomic_programs.specs.Lifting.{BeginsSome, IsStarted, Uses}
-use Rattle.atomic_programs.specs.Noted.{SameRuns}
+use Rattle.atomic_programs.specs.Logic.{own, placed_with}
+use Rattle.atomic_programs.specs.Prog.{Did, Waits, Ran, Stops}
 use Rattle.atomic_programs.proofs.Explains.{explains}
 use Rattle.atomic_programs.proofs.Noted.{Alone}
-use Rattle.atomic_programs.proofs.NotedRuns.{same_runs}
+use Rattle.atomic_programs.proofs.Operations.{own_one}
 use Rattle.fs_machine.specs.LogPart.{Outside}
+use Rattle.fs_machine.specs.Steps.{Answer as AnswerBelow, Op}
 use Rattle.inode_machine.specs.Budget.{unspent}
 use Rattle.inode_machine.specs.Programs.{program}
 use Rattle.inode_machine.specs.World as above
@@ -36,7 +38,7 @@ use Rattle.hart_core.specs.Worlds.{WorldOf}
 use Rattle.hart_core.proofs.Histories.{all_honest}
 use Rattle.hart_core.proofs.Resting.{mountable, rests_erased}
 use Rattle.run_laws.specs.Faithful.{AreOf, AreOfFinished, CallsGoOnAsTheyActed, GoOnAsTheyActed, IsOperation, noted_inode_calls}
-use Rattle.run_laws.specs.WholeInodes.{inode_calls, lowered_inode_calls, operations, told_by, whole_inodes}
+use Rattle.run_laws.specs.WholeInodes.{Operation, inode_calls, lowered_inode_calls, operations, told_by, whole_inodes}
 use Rattle.run_laws.proofs.CallFits.{call_fits, most_written}
 use Rattle.run_laws.proofs.Faithful.{PlacesItself, faithful_shorter}
 use Rattle.run_laws.proofs.FaithfulCalls.{faithful_calls, faithful_lawful, telling}
@@ -44,6 +46,7 @@ use Rattle.run_laws.proofs.Lowered.{has_inodes, lowered_lawful, none_yet, whole_
 use Rattle.run_laws.proofs.Operations.{Within, all_within}
 use Rattle.run_laws.proofs.Retold.{retold_begun, retold_honest, retold_whole}
 use Rattle.run_laws.proofs.SameRuns.{honest_same}
+use Rattle.run_laws.proofs.StepRuns.{all_by, steps_entries, steps_honest, steps_outcomes}
 use Rattle.run_laws.proofs.Whole.{whole_lawful}
 
 alone : Alone whole_inodes
@@ -53,6 +56,18 @@ itself : PlacesItself whole_inodes IsOperation
 itself h op m a w = (record { op = op; answer = a; mark = m a; told = told_by h (m a) w }, refl, (told_by h (m a) w, refl))
 
 module _ (sizes : Super) where
+  -- a step makes operations of its own hart alone
+  alone_places : (h : ℕ) (op : Op) (a : AnswerBelow op) (m : Option (ActOf whole_inodes)) (w : Both World above.World)
+      → (lowered_inode_calls sizes).M.places h op a m w ≡ all_by h (own h ((lowered_inode_calls sizes).M.places h op a m w))
+  alone_places h op a None w = refl
+  alone_places h op a (Some t) w = at (whole_inodes.go h t.outside t.op t.mark w.seen)
+    where
+      at : (d : Did (above.Answer t.op) above.World)
+          → placed_at (placed_with whole_inodes h t.op t.mark w.seen) d ≡ all_by h (own h (placed_at (placed_with whole_inodes h t.op t.mark w.seen) d))
+      at Waits = refl
+      at (Ran b u) = ap (λ (xs : List Operation). all_by h xs) (sym (own_one {A = Operation} h (record { op = t.op; answer = b; mark = t.mark b; told = told_by h (t.mark b) w.seen })))
+      at (Stops u) = refl
+
   is_below : (h : ℕ) (call : Call) → BeginsSome inode_calls (layer sizes) (begins sizes) h call → (h < hart_count) × (serves call ≡ true)
   is_below h call can =
       let t : World = record (can.1) { children = put can.1.children h (child_of call) } in
@@ -86,19 +101,16 @@ module _ (disk : List (List ℕ)) (failures : ℕ) (events : List (EventOf Call 
   O = telling (lowered_inode_calls (sizes_of disk)) (AreOf (sizes_of disk))
 
   module _ (may : IsMountable disk) (honest : AllHonest (lowered_inode_calls (sizes_of disk)) events (fresh (lowered_inode_calls (sizes_of disk)) (first disk failures))) where
-    same : SameRuns L (AreOfFinished sizes) (first disk failures)
-    same = same_runs L (AreOfFinished sizes) (first disk failures)
-
     explained : IsExplained O (O.M.tree (first disk failures)) (run O events (fresh O (first disk failures)))
     explained =
         let shows = mounts_show_their_trees disk failures may in
-        explains O (faithful sizes) (first disk failures) events (first_holds disk failures shows) (first_idle disk failures shows) (retold_honest L (AreOfFinished sizes) (AreOf sizes) (first disk failures) events (same.honest events honest))
+        explains O (faithful sizes) (first disk failures) events (first_holds disk failures shows) (first_idle disk failures shows) (retold_honest L (AreOfFinished sizes) (AreOf sizes) (first disk failures) events (steps_honest L (AreOfFinished sizes) (alone_places sizes) (first disk failures) events honest))
 
     go_on : GoOnAsTheyActed disk failures events
     go_on =
         record {
-          outcomes_are = same.outcomes_are events;
-          operations_are = same.entries_are events;
+          outcomes_are = steps_outcomes L (AreOfFinished sizes) (alone_places sizes) (first disk failures) events;
+          operations_are = steps_entries L (AreOfFinished sizes) (alone_places sizes) (first disk failures) events;
           finished = λ f i. retold_whole L (AreOfFinished sizes) (AreOf sizes) (first disk failures) (O.M.tree (first disk failures)) events explained (λ v. tt) f i;
           under_way = λ h r is.
               let b = retold_begun L (AreOfFinished sizes) (AreOf sizes) (first disk failures) (O.M.tree (first disk failures)) events explained (λ v. tt) h r is in

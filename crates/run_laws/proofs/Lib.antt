@@ -27,6 +27,7 @@ pub mod Worlds
 pub mod Faithful
 pub mod FaithfulCalls
 pub mod Retold
+pub mod StepRuns
 pub mod FaithfulRuns
 pub mod ActsAt
 pub mod RoomRuns

@@ -5,12 +5,12 @@ use Rattle.atomic_programs.specs.Prog.{Ret, Do, bind, Did, Waits, Ran, Stops, as
 use Rattle.atomic_programs.specs.Logic.{P, OpWithAnswer, own, onto}
 use Rattle.atomic_programs.specs.Calls.{Theory, Began, Refuses, Begins, IsBeginning, Run, PlacedStep, FinishedCall, State, Event, Start, Step, changed, is_some, start_of, placed, told, all_told, moved, tried, step_prog, step_unless, step_run, begun, busy_in, start_run, HonestStep, IsHonest, AllHonest, next, run, fresh}
 use Rattle.atomic_programs.specs.Explained.{In, IsExplained, history, steps_of}
-use Rattle.atomic_programs.specs.Noted.{Notes, with_notes}
+use Rattle.run_laws.specs.Faithful.{Notes, with_steps}
 use Rattle.run_laws.proofs.FaithfulCalls.{telling}
 
 module _ (L : Theory) (Written : L.Call → Notes L.M → L.Reply → Type 0) (AreOf : L.Call → Option L.Reply → Notes L.M → Type 0) where
   abbrev N : Theory
-  N = with_notes L Written
+  N = with_steps L Written
 
   abbrev O : Theory
   O = telling L AreOf
@@ -151,7 +151,7 @@ module _ (L : Theory) (Written : L.Call → Notes L.M → L.Reply → Type 0) (A
   honest_all [] s t e a = tt
   honest_all (x ∷ es) s t e a = (subst (IsHonest O x) e (honest_event x s a.0), honest_all es (next N x s) (next O x t) (next_there x s ∙ ap (next O x) e) a.1)
 
-  pub retold_honest : (w : L.M.World) (es : List (Event L.Call L.M.Outside)) → AllHonest (with_notes L Written) es (fresh (with_notes L Written) w) → AllHonest (telling L AreOf) es (fresh (telling L AreOf) w)
+  pub retold_honest : (w : L.M.World) (es : List (Event L.Call L.M.Outside)) → AllHonest (with_steps L Written) es (fresh (with_steps L Written) w) → AllHonest (telling L AreOf) es (fresh (telling L AreOf) w)
   retold_honest w es a = honest_all es (fresh N w) (fresh O w) refl a
 
   -- ---- what is noted
@@ -179,14 +179,14 @@ module _ (L : Theory) (Written : L.Call → Notes L.M → L.Reply → Type 0) (A
 
   -- so what explains the one run is of the calls of the other
   module _ (w : L.M.World) (base : L.M.Tree) (es : List (Event L.Call L.M.Outside)) (e : IsExplained (telling L AreOf) base (run (telling L AreOf) es (fresh (telling L AreOf) w))) (clean : (v : L.M.World) → L.M.Clean v) where
-    abbrev s : State (with_notes L Written)
-    s = run (with_notes L Written) es (fresh (with_notes L Written) w)
+    abbrev s : State (with_steps L Written)
+    s = run (with_steps L Written) es (fresh (with_steps L Written) w)
 
     explained : IsExplained O base (there s)
     explained = subst (IsExplained O base) (sym (run_is es (fresh N w) (fresh O w) refl)) e
 
-    pub retold_whole : (f : FinishedCall (with_notes L Written)) → In f s.finished → AreOf f.call (Some f.reply) (steps_of (with_notes L Written) f.start (history (with_notes L Written) s))
+    pub retold_whole : (f : FinishedCall (with_steps L Written)) → In f s.finished → AreOf f.call (Some f.reply) (steps_of (with_steps L Written) f.start (history (with_steps L Written) s))
     retold_whole f i = subst (λ (zs : Notes L.M). AreOf f.call (Some f.reply) zs) (notes_there f.start s) (explained.whole (clean s.world) (finished_there f) (in_there f s.finished i))
 
-    pub retold_begun : (h : ℕ) (r : Run (with_notes L Written)) → s.running h ≡ Some r → IsBeginning (telling L AreOf) r.call (steps_of (with_notes L Written) r.start (history (with_notes L Written) s))
+    pub retold_begun : (h : ℕ) (r : Run (with_steps L Written)) → s.running h ≡ Some r → IsBeginning (telling L AreOf) r.call (steps_of (with_steps L Written) r.start (history (with_steps L Written) s))
     retold_begun h r is = subst (λ (zs : Notes L.M). IsBeginning O r.call zs) (notes_there r.start s) (explained.begun (clean s.world) h (call_there r) (ap (λ (z : Option (Run N)). run_there z) is))

@@ -5,11 +5,10 @@ use Rattle.fs_layout.specs.declared.superblock.Super.{Super}
 use Rattle.fs_layout.specs.Recovered.{sizes_of}
 use Rattle.plain_tree.specs.declared.answer.Reply.{Reply}
 use Rattle.plain_tree.specs.declared.call.Call.{Call}
-use Rattle.atomic_programs.specs.Calls.{Theory, Event as EventOf, FinishedCall, Run, State, fresh, outcomes, run}
+use Rattle.atomic_programs.specs.Calls.{Theory, Event as EventOf, FinishedCall, PlacedStep, Run, State, fresh, outcomes, run}
 use Rattle.atomic_programs.specs.Explained.{In, history, steps_of}
 use Rattle.atomic_programs.specs.Joined.{Handlers, Handover, Lower, joined}
-use Rattle.atomic_programs.specs.Logic.{Machine, P}
-use Rattle.atomic_programs.specs.Noted.{Notes, Places, Runs, entries_of, with_notes}
+use Rattle.atomic_programs.specs.Logic.{Machine, OpWithAnswer, P, own}
 use Rattle.atomic_programs.specs.Prog.{Ret, Do}
 use Rattle.fs_machine.specs.LogPart.{Outside}
 use Rattle.inode_machine.specs.Programs.{program}
@@ -26,29 +25,79 @@ use Rattle.hart_core.specs.Runs.{IsHistory, IsMounted}
 use Rattle.hart_core.specs.Worlds.{WorldOf}
 use Rattle.run_laws.specs.WholeInodes.{Operation, lowered_inode_calls, whole_inodes}
 
+-- ---- what is noted
+
+-- a step below that ran, with its answer, and the operations above that were made in it
+pub record StepNote (E S : Type 0) : Type 0 where
+  pub ran : E
+  pub made : List S
+
+abbrev pub Notes : Machine → Type 0
+Notes L = List (StepNote (OpWithAnswer L) L.Step)
+
+-- The same machine, where each step that runs is noted for its hart, with all that is placed in it. No step is placed for another hart;
+-- and where the placed ones lead isn't asked again.
+abbrev pub stepwise : Machine → Machine
+stepwise L =
+    record {
+      Op = L.Op;
+      Answer = L.Answer;
+      Mark = L.Mark;
+      Step = StepNote (OpWithAnswer L) L.Step;
+      World = L.World;
+      Tree = L.Tree;
+      more = L.more;
+      Outside = L.Outside;
+      Honest = L.Honest;
+      May = L.May;
+      go = L.go;
+      places = λ h op a m w. (h, record { ran = (op, a); made = own h (L.places h op a m w) }) ∷ [];
+      tree = L.tree;
+      Takes = λ t h e u. Unit {0};
+      Inv = L.Inv;
+      Halted = L.Halted;
+      Others = λ h v xs w. (xs ≡ []) × L.Others h v [] w;
+      Idle = L.Idle;
+      MayWait = L.MayWait;
+      Clean = L.Clean;
+    }
+
+-- the same calls, each explained by all that is noted of it
+abbrev pub with_steps : (L : Theory) → (L.Call → Notes L.M → L.Reply → Type 0) → Theory
+with_steps L Written = record L { M = stepwise L.M; Written = Written }
+
+module _ (L : Theory) (Written : L.Call → Notes L.M → L.Reply → Type 0) where
+  -- entries of one event, put one after the other onto a list that has the newest first
+  abbrev pub with_entries : (number hart call : ℕ) → List L.M.Step → List (PlacedStep L) → List (PlacedStep L)
+  with_entries number hart call [] list = list
+  with_entries number hart call (x ∷ xs) list =
+      with_entries number hart call xs (record { number = number; hart = hart; call = call; step = x } ∷ list)
+
+  -- the entries of all that was made, each at its event, in its call; both lists have the newest first
+  abbrev pub entries_of : List (PlacedStep (with_steps L Written)) → List (PlacedStep L)
+  entries_of [] = []
+  entries_of (e ∷ es) = with_entries e.number e.hart e.call e.step.made (entries_of es)
+
 -- ---- the program of one operation
 
 -- What is noted of it, the oldest first. IsOf a s: s is the operation with answer a. Where the notes end within the program, this is Open;
 -- from its end on they are as Then says, of what it ends with.
 module _ (L : Machine) {A C : Type 0} (IsOf : A → L.Step → Type 0) (Open : Type 0) (Then : Handover A C → Notes L → Type 0) where
-  -- It has acted with this answer: its program runs on, places nothing more, and ends with the same answer.
+  -- It has acted with this answer: its program runs on, in which nothing more is made, and ends with the same answer.
   abbrev pub EndsWith : A → P L (Handover A C) → Notes L → Type 0
   EndsWith a (Ret x) es = (x.answer ≡ a) × Then x es
   EndsWith a (Do op m k) [] = Open
-  EndsWith a (Do op m k) (e ∷ es) = (b : L.Answer op) × (e ≡ Runs (op, b)) × EndsWith a (k b) es
+  EndsWith a (Do op m k) (e ∷ es) = (b : L.Answer op) × (e ≡ record { ran = (op, b); made = [] }) × EndsWith a (k b) es
 
-  -- it acts now, with some answer
-  abbrev pub ActsNow : P L (Handover A C) → Notes L → Type 0
-  ActsNow p [] = ⊥
-  ActsNow p (e ∷ es) = (a : A) × (s : L.Step) × (e ≡ Places s) × IsOf a s × EndsWith a p es
-
-  -- It hasn't acted yet. It acts right behind one of its program's steps that are marked, at the same event: neither before the first step
-  -- nor later than the last one.
+  -- It acts in one of its program's steps that are marked, with some answer; in those before nothing is made. So it has acted as its
+  -- program ends.
   abbrev pub ActsWithin : P L (Handover A C) → Notes L → Type 0
-  ActsWithin p [] = Open
-  ActsWithin (Ret x) (e ∷ es) = ⊥
+  ActsWithin (Ret x) es = ⊥
+  ActsWithin (Do op m k) [] = Open
   ActsWithin (Do op m k) (e ∷ es) =
-      (b : L.Answer op) × (e ≡ Runs (op, b)) × (ActsWithin (k b) es ⊎ ((is_some (m b) ≡ true) × ActsNow (k b) es))
+      (b : L.Answer op)
+      × (((e ≡ record { ran = (op, b); made = [] }) × ActsWithin (k b) es)
+      ⊎ ((a : A) × (s : L.Step) × (e ≡ record { ran = (op, b); made = s ∷ [] }) × IsOf a s × (is_some (m b) ≡ true) × EndsWith a (k b) es))
 
 -- ---- a program above
 
@@ -65,14 +114,15 @@ IsReply a (Some r) = a ≡ r
 module _ (U : Machine) (R : Lower U.World) (handler : Handlers U R)
     (IsOf : (op : U.Op) → (U.Answer op → Option U.Mark) → U.Answer op → U.Step → Type 0) where
   -- Notes of a program above that ends with r; where no r is given it is under way. For each of its operations, one after the other, they
-  -- have the steps of the operation's own program, within which it acts once; that program ends with the answer with which it acted, and by
+  -- have the steps of the operation's own program, in which it acts once; that program ends with the answer with which it acted, and by
   -- this answer the program above goes on. c: what is in hand.
   abbrev pub IsFaithful : {A : Type 0} → Option A → R.Carry → P U A → Notes (joined U R) → Type 0
   IsFaithful r c (Ret a) [] = IsReply a r
   IsFaithful r c (Ret a) (e ∷ es) = ⊥
-  IsFaithful r c (Do op m k) es =
+  IsFaithful r c (Do op m k) [] = IsUnderWay r
+  IsFaithful r c (Do op m k) (e ∷ es) =
       ActsWithin (joined U R) {C = R.Carry} (IsOf op m) (IsUnderWay r) (λ x rest. IsFaithful r x.carry (k x.answer) rest)
-      (handler c op m) es
+      (handler c op m) (e ∷ es)
 
 -- ---- the calls
 
@@ -91,9 +141,9 @@ module _ (sizes : Super) where
   abbrev pub AreOfFinished : Call → Notes inodes.M → Reply → Type 0
   AreOfFinished call es reply = AreOf call (Some reply) es
 
-  -- the calls, with all that is noted of each: the steps on the blocks as they run, and the operations on whole inodes as they act
+  -- the calls, with all that is noted of each: the steps on the blocks as they run, and in which of them operations on whole inodes act
   abbrev pub noted_inode_calls : Theory
-  noted_inode_calls = with_notes inodes AreOfFinished
+  noted_inode_calls = with_steps inodes AreOfFinished
 
 -- ---- the law
 
@@ -115,8 +165,8 @@ module _ (disk : List (List ℕ)) (failures : ℕ) (events : List (EventOf Call 
   -- under way, they show that it goes on as its operations acted.
   pub record GoOnAsTheyActed : Type 0 where
     pub outcomes_are : outcomes noted events (fresh noted (first disk failures)) ≡ outcomes plain events (fresh plain (first disk failures))
-    pub operations_are : entries_of plain (AreOfFinished (sizes_of disk)) (history noted ran)
-        ≡ history plain (run plain events (fresh plain (first disk failures)))
+    pub operations_are : entries_of plain (AreOfFinished (sizes_of disk)) ran.list
+        ≡ (run plain events (fresh plain (first disk failures))).list
     pub finished : (f : FinishedCall noted) → In f ran.finished → AreOf (sizes_of disk) f.call (Some f.reply) (notes_of f.start)
     pub under_way : (h : ℕ) (r : Run noted) → ran.running h ≡ Some r → AreOf (sizes_of disk) r.call None (notes_of r.start)
 
