@@ -1,5 +1,16 @@
 //! The tree kept beside a run, and the list of the tree steps so far. Each event appends to it; no entry is changed.
-ghost use Rattle.whole_calls.specs.Wholes.{IsCall};
+ghost use Rattle.std.specs.Prelude.{◌≡◌, ◌-◌, ◌<◌, ◌^◌, ◌&&◌, ℕ, false, not, None, Some, IfOk, IfSome, MatchOption, slice_index_or};
+ghost use Rattle.std.specs.Option.{option_map};
+ghost use Rattle.plain_tree.specs.Tree.{look, tree_of};
+ghost use Rattle.plain_tree.specs.Widths.{hart_count};
+ghost use Rattle.plain_tree.specs.declared.answer.Reply.{Reply};
+ghost use Rattle.tree_moves.specs.History.{History, passes, replies, starts};
+ghost use Rattle.kept_history.specs.Kept.{nothing_yet};
+ghost use Rattle.whole_calls.specs.Wholes.{IsCall, action_in, call_in};
+ghost use Rattle.explain_parts.specs.Books.{IsBook};
+ghost use Rattle.explain_parts.specs.Keeping.{HasHeard, HasStarted, IsMarked, Under, counted, hart_in, is_lost, more_made, nothing_kept, passed, stage_of, with_hart, with_walk, written};
+ghost use Rattle.explain_parts.specs.Moving.{HasRun, HaveFallen, IsActed, MovesBy, NoneFalls, OnlyMoves, StaysFor, TellsOf, WereLost, told_in, tree_step};
+ghost use Rattle.explain_parts.specs.Walks.{IsNextWalk, step_in, walk_of};
 
 use crate::sees::{is_live_directory, look, sight};
 use crate::standing::{Standing, Walk};
@@ -7,6 +18,7 @@ use history_search::Hint;
 use path_walk::{Ask, Heard, Locked, Mark};
 use plain_tree::{Action, ApplyRefused, Call, NoMemory, Tree, TreeStep};
 use std::alloc::Global;
+use std::marker::Model;
 use std::mem;
 
 const HARTS: u8 = 8;
@@ -25,6 +37,10 @@ const FAILED_WALK: Deed = Deed { new: 0 };
 /// It is told of each event of a run: a start, what a call heard in a step that ran, a reply, or that the event shows nothing. A step
 /// of the tree is appended at the event at which the operation acts that makes it, and behind it, in order of hart, the failing steps
 /// of the walks that it loses, whose directory it removes. So a list is that of the events before, with what is appended.
+///
+/// A contract sees the tree with the walks in it as the theory's stage, and the list as that of the theory's history (`IsBook`): a start, a
+/// move, a reply and an event that shows nothing take both on as they take the theory's, where the tree makes the move's step as the
+/// theory has it (`MayMake`).
 #[derive(Drop)]
 pub struct Kept {
     tree: Tree,
@@ -32,6 +48,17 @@ pub struct Kept {
     events: u64,
     calls: usize,
     harts: [Option<Standing>; HARTS as usize],
+}
+
+impl Model for Kept {
+    ghost use Rattle.std.specs.Prelude.{◌≡◌, length};
+    ghost use Rattle.explain_parts.specs.Keeping.{KeptTree};
+
+    ghost Value = { KeptTree };
+
+    ghost view = { λ k. record { tree = k.tree; list = k.list.items; events = k.events; calls = k.calls; harts = k.harts } };
+
+    ghost invariant = { λ k. length k.harts ≡ 8 };
 }
 
 // What the operation that was asked for answers where its lock is taken, as far as the tree shows it. What it finds there is read from
@@ -54,9 +81,22 @@ fn acts_first(ask: &Ask) -> bool {
     )
 }
 
+// A node's number, as the tree has it.
+fn node_number(new: u32) -> u16
+    ensures { new < 2 ^ 16 → result ≡ new }
+{
+    match u16::try_from(new) {
+        Ok(number) => number,
+        Err(_) => 0,
+    }
+}
+
 impl Kept {
     /// Beside a run that begins with this tree.
-    pub fn new(alloc: Global, tree: Tree) -> Kept {
+    pub fn new(alloc: Global, tree: Tree) -> Kept
+        ensures kept { result ≡ nothing_kept tree }
+        ensures book { IsBook result nothing_yet }
+    {
         Kept {
             tree,
             list: Vec::new(alloc),
@@ -67,23 +107,31 @@ impl Kept {
     }
 
     /// The event shows nothing more of calls.
-    pub fn passes(&mut self) {
+    pub fn passes(&mut self)
+        ensures kept { self.new ≡ passed self.old }
+        ensures book { (b : History) → IsBook self.old b → IsBook self.new (passes b) }
+    {
         self.events = self.events.saturating_add(1);
     }
 
     /// The event starts this call of a hart.
     pub fn starts(&mut self, alloc: Global, hart: u8, call: Call) -> Result<(), NoMemory>
         requires { IsCall call }
+        ensures kept { IfOk result (λ _. HasStarted self.old hart call self.new) }
+        ensures book { IfOk result (λ _. (b : History) → hart < hart_count → self.old.calls < 2 ^ 64 - 1 → IsBook self.old b
+            → IsBook self.new (starts b hart call)) }
     {
-        let standing = Standing::new(alloc, self.calls, call)?;
+        let standing = Standing::new(alloc, self.next_id(), call)?;
         self.put(hart, Some(standing));
-        self.calls = self.calls.saturating_add(1);
+        self.count_call();
         self.passes();
         Ok(())
     }
 
     /// A step of the hart's call runs in this event; `heard` is what the call heard, where an operation ended there.
-    pub fn runs(&mut self, alloc: Global, hart: u8, heard: Option<Heard>) -> Result<(), NoMemory> {
+    pub fn runs(&mut self, alloc: Global, hart: u8, heard: Option<Heard>) -> Result<(), NoMemory>
+        ensures { IfOk result (λ _. HasRun self.old hart heard self.new) }
+    {
         let Some(mark) = self.mark(hart, heard) else {
             self.hears(hart, heard);
             return Ok(());
@@ -94,17 +142,44 @@ impl Kept {
     }
 
     /// The event ends with the hart's reply.
-    pub fn replies(&mut self, hart: u8) {
+    pub fn replies(&mut self, hart: u8)
+        ensures kept { self.new ≡ passed (with_hart self.old hart None) }
+        ensures book { (b : History) (r : Reply) → hart < hart_count → IsBook self.old b → IsBook self.new (replies b hart r) }
+    {
         self.put(hart, None);
         self.passes();
     }
 
     /// The list so far, as what a search for a list is to try.
-    pub fn into_hints(self) -> Vec<Hint> {
+    pub fn into_hints(self) -> Vec<Hint>
+        ensures { result.items ≡ self.list }
+    {
         self.list
     }
 
-    fn standing(&self, hart: u8) -> Option<&Standing> {
+    // The place in the trace of the next call that starts.
+    fn next_id(&self) -> usize
+        ensures { result ≡ self.now.calls }
+    {
+        self.calls
+    }
+
+    fn count_call(&mut self)
+        ensures { self.new ≡ record self.old { calls = counted self.old.calls } }
+    {
+        self.calls = self.calls.saturating_add(1);
+    }
+
+    // The hart's current directory in the tree.
+    fn directory(&self, hart: u8) -> u16
+        ensures { result ≡ (tree_of self.now.tree).cwd hart }
+    {
+        self.tree.directory(hart)
+    }
+
+    fn standing(&self, hart: u8) -> Option<&Standing>
+        ensures { MatchOption result (hart_in self.now hart ≡ None) (λ s. hart_in self.now hart ≡ Some s.now) }
+    {
         match self.harts.get(usize::from(hart)) {
             Some(Some(standing)) => Some(standing),
             _ => None,
@@ -112,23 +187,30 @@ impl Kept {
     }
 
     // The hart has this call under way, or none.
-    fn put(&mut self, hart: u8, standing: Option<Standing>) {
-        if hart >= HARTS {
+    fn put(&mut self, hart: u8, standing: Option<Standing>)
+        ensures { self.new ≡ with_hart self.old hart standing }
+    {
+        let Some(_) = self.harts.get(usize::from(hart)) else {
             return;
-        }
+        };
         self.harts[usize::from(hart)] = standing;
     }
 
     // Takes the hart's call out.
-    fn take(&mut self, hart: u8) -> Option<Standing> {
-        if hart >= HARTS {
+    fn take(&mut self, hart: u8) -> Option<Standing>
+        ensures call { result ≡ hart_in self.old hart }
+        ensures rest { self.new ≡ with_hart self.old hart None }
+    {
+        let Some(_) = self.harts.get(usize::from(hart)) else {
             return None;
-        }
+        };
         mem::replace(&mut self.harts[usize::from(hart)], None)
     }
 
     // The move that is made in this step, if its operation acts here and makes one.
-    fn mark(&self, hart: u8, heard: Option<Heard>) -> Option<Mark> {
+    fn mark(&self, hart: u8, heard: Option<Heard>) -> Option<Mark>
+        ensures { IfSome result (λ m. IsMarked self.now hart heard m) }
+    {
         let standing = self.standing(hart)?;
         if acts_first(&standing.ask()) && standing.has_begun() {
             return None;
@@ -146,7 +228,9 @@ impl Kept {
     }
 
     // The call goes on.
-    fn hears(&mut self, hart: u8, heard: Option<Heard>) {
+    fn hears(&mut self, hart: u8, heard: Option<Heard>)
+        ensures { HasHeard self.old hart heard self.new }
+    {
         let Some(standing) = self.take(hart) else {
             return;
         };
@@ -164,7 +248,9 @@ impl Kept {
     }
 
     // Whether the hart's walk stands in no live directory.
-    fn is_lost(&self, hart: u8) -> bool {
+    fn is_lost(&self, hart: u8) -> bool
+        ensures { result ≡ is_lost (stage_of self.now) hart }
+    {
         let Some(standing) = self.standing(hart) else {
             return false;
         };
@@ -174,7 +260,9 @@ impl Kept {
         }
     }
 
-    fn lost(&self) -> [bool; HARTS as usize] {
+    fn lost(&self) -> [bool; HARTS as usize]
+        ensures { WereLost result (stage_of self.now) }
+    {
         let mut lost = [false; HARTS as usize];
         for hart in 0..HARTS {
             lost[usize::from(hart)] = self.is_lost(hart);
@@ -183,7 +271,9 @@ impl Kept {
     }
 
     // What the move tells is written, unless it was as the walk was lost; then the walks that it loses fail, in order of hart.
-    fn moves(&mut self, alloc: Global, hart: u8, mark: Mark) -> Result<(), NoMemory> {
+    fn moves(&mut self, alloc: Global, hart: u8, mark: Mark) -> Result<(), NoMemory>
+        ensures { IfOk result (λ _. MovesBy self.old hart mark self.new) }
+    {
         let before = self.lost();
         let was_lost = self.is_lost(hart);
         let told = self.told(alloc, hart, mark)?;
@@ -192,7 +282,9 @@ impl Kept {
     }
 
     // What is told is written, unless the walk was lost before.
-    fn tell(&mut self, hart: u8, told: Option<Deed>, was_lost: bool) -> Result<(), NoMemory> {
+    fn tell(&mut self, hart: u8, told: Option<Deed>, was_lost: bool) -> Result<(), NoMemory>
+        ensures { IfOk result (λ _. self.new ≡ told_in self.old hart told was_lost) }
+    {
         match told {
             Some(deed) => {
                 if was_lost {
@@ -205,10 +297,22 @@ impl Kept {
         }
     }
 
+    // The hart's walk is lost by now and wasn't before.
+    fn falls(&self, before: &[bool; HARTS as usize], hart: u8) -> bool
+        requires { hart < 8 }
+        ensures { result ≡ (not (slice_index_or before.now hart false) && is_lost (stage_of self.now) hart) }
+    {
+        !before[usize::from(hart)] && self.is_lost(hart)
+    }
+
     // The walks fail that are lost by now and weren't before, in order of hart.
-    fn fall(&mut self, before: &[bool; HARTS as usize]) -> Result<(), NoMemory> {
+    fn fall(&mut self, before: &[bool; HARTS as usize]) -> Result<(), NoMemory>
+        ensures stage { IfOk result (λ _. stage_of self.new ≡ stage_of self.old) }
+        ensures book { IfOk result (λ _. HaveFallen before.now self.old self.new) }
+        ensures none { IfOk result (λ _. NoneFalls before.now self.old self.new) }
+    {
         for hart in 0..HARTS {
-            if !before[usize::from(hart)] && self.is_lost(hart) {
+            if self.falls(before, hart) {
                 self.write(hart, FAILED_WALK)?;
             }
         }
@@ -216,7 +320,11 @@ impl Kept {
     }
 
     // What is told of a tree step where this move is made. Where there is no room, no list explains the run, and nothing is told.
-    fn told(&mut self, alloc: Global, hart: u8, mark: Mark) -> Result<Option<Deed>, NoMemory> {
+    fn told(&mut self, alloc: Global, hart: u8, mark: Mark) -> Result<Option<Deed>, NoMemory>
+        ensures only { IfOk result (λ _. OnlyMoves self.old self.new) }
+        ensures tells { IfOk result (λ d. TellsOf self.old hart mark d self.new) }
+        ensures stays { IfOk result (λ d. StaysFor self.old mark d self.new) }
+    {
         match mark {
             Mark::Begin => self.begins(alloc, hart),
             Mark::Look(new) => self.looks(alloc, hart, new),
@@ -241,7 +349,9 @@ impl Kept {
         hart: u8,
         action: Action,
         new: u16,
-    ) -> Result<Option<Deed>, NoMemory> {
+    ) -> Result<Option<Deed>, NoMemory>
+        ensures { IfOk result (λ d. IsActed self.old (tree_step hart new action) d self.new) }
+    {
         self.set_walk(hart, None);
         let step = TreeStep { hart, new, action };
         match self.tree.apply(alloc, &step) {
@@ -252,12 +362,11 @@ impl Kept {
     }
 
     // The step that the mark is for acts.
-    fn acts_alone(
-        &mut self,
-        alloc: Global,
-        hart: u8,
-        mark: Mark,
-    ) -> Result<Option<Deed>, NoMemory> {
+    fn acts_alone(&mut self, alloc: Global, hart: u8, mark: Mark) -> Result<Option<Deed>, NoMemory>
+        ensures only { IfOk result (λ _. OnlyMoves self.old self.new) }
+        ensures acts { IfOk result (λ d. (u : Under) → hart_in self.old hart ≡ Some u
+            → IsActed self.old (tree_step hart 0 (step_in (action_in u.whole) mark)) d self.new) }
+    {
         let Some(standing) = self.standing(hart) else {
             return Ok(None);
         };
@@ -266,11 +375,14 @@ impl Kept {
     }
 
     // A walk stands at the start of its path; a path without elements is found there.
-    fn begins(&mut self, alloc: Global, hart: u8) -> Result<Option<Deed>, NoMemory> {
+    fn begins(&mut self, alloc: Global, hart: u8) -> Result<Option<Deed>, NoMemory>
+        ensures only { IfOk result (λ _. OnlyMoves self.old self.new) }
+        ensures tells { IfOk result (λ d. TellsOf self.old hart Mark.Begin d self.new) }
+    {
         let Some(standing) = self.standing(hart) else {
             return Ok(None);
         };
-        match standing.start(self.tree.directory(hart)) {
+        match standing.start(self.directory(hart)) {
             Some(walk) => {
                 self.set_walk(hart, Some(walk));
                 Ok(None)
@@ -283,13 +395,19 @@ impl Kept {
     }
 
     // Where the walk stands when it has looked up its next element, if it found that and goes on.
-    fn next_walk(&self, standing: &Standing, walk: Walk) -> Option<Walk> {
+    fn next_walk(&self, standing: &Standing, walk: Walk) -> Option<Walk>
+        ensures { let before = walk_of (call_in standing.now.whole) walk in
+            IsNextWalk (call_in standing.now.whole) result before (look (tree_of self.now.tree).nodes before.at before.next) }
+    {
         let number = look(&self.tree, walk.directory, standing.name(walk))?;
         standing.after(walk, number)
     }
 
     // The next element is looked up: the step acts at the last one, or where nothing is found. Without a walk nothing is.
-    fn looks(&mut self, alloc: Global, hart: u8, new: u32) -> Result<Option<Deed>, NoMemory> {
+    fn looks(&mut self, alloc: Global, hart: u8, new: u32) -> Result<Option<Deed>, NoMemory>
+        ensures only { IfOk result (λ _. OnlyMoves self.old self.new) }
+        ensures tells { IfOk result (λ d. TellsOf self.old hart (Mark.Look new) d self.new) }
+    {
         let Some(standing) = self.standing(hart) else {
             return Ok(None);
         };
@@ -303,18 +421,23 @@ impl Kept {
             }
             None => {
                 let action = standing.step(walk)?;
-                self.acts(alloc, hart, action, u16::try_from(new).unwrap_or(0))
+                self.acts(alloc, hart, action, node_number(new))
             }
         }
     }
 
     // The walk is given up: its step fails.
-    fn quits(&mut self, hart: u8) -> Deed {
+    fn quits(&mut self, hart: u8) -> Deed
+        ensures kept { self.new ≡ with_walk self.old hart None }
+        ensures deed { result ≡ FAILED_WALK }
+    {
         self.set_walk(hart, None);
         FAILED_WALK
     }
 
-    fn set_walk(&mut self, hart: u8, walk: Option<Walk>) {
+    fn set_walk(&mut self, hart: u8, walk: Option<Walk>)
+        ensures { self.new ≡ with_walk self.old hart walk }
+    {
         let Some(standing) = self.take(hart) else {
             return;
         };
@@ -324,7 +447,9 @@ impl Kept {
     }
 
     // The hart's call has made a step more.
-    fn count(&mut self, hart: u8) {
+    fn count(&mut self, hart: u8)
+        ensures { self.new ≡ with_hart self.old hart (option_map more_made (hart_in self.old hart)) }
+    {
         let Some(standing) = self.take(hart) else {
             return;
         };
@@ -334,7 +459,9 @@ impl Kept {
     }
 
     // An entry at this event.
-    fn write(&mut self, hart: u8, deed: Deed) -> Result<(), NoMemory> {
+    fn write(&mut self, hart: u8, deed: Deed) -> Result<(), NoMemory>
+        ensures { IfOk result (λ _. self.new ≡ written self.old hart deed.new) }
+    {
         let Some(standing) = self.standing(hart) else {
             return Ok(());
         };
