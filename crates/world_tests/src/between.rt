@@ -1,14 +1,13 @@
 //! A hart's calls, each between two steps of a call of another one.
 use crate::histories::history_of;
 use crate::images::{Image, counts, disk_of};
-use crate::lists::{play, traced};
+use crate::lists::{holds, play, traced};
 use crate::rows::Ask::{Close, Fill, Link, Mkdir, Open, Read, Unlink, Write};
 use crate::rows::Line::{Between, Do};
 use crate::rows::Says::{Count, Done, Fd};
 use crate::rows::{Ask, CREATE, READ, READ_AND_WRITE, TRUNCATE, WRITE};
 use std::alloc::Global;
 use std::process::Abort;
-use std::test::Fail;
 
 // A call of hart 0, calls of hart 1 in turn, and what is on the disk then: nodes with a name, nodes without one, and blocks of contents.
 type Meeting = (Ask<'static>, &'static [Ask<'static>], (u32, u32, u32));
@@ -70,7 +69,7 @@ const MEETINGS: &[Meeting] = &[
 ];
 
 // One list of tree steps explains all replies, and the image is in order, where so many calls of hart 1 come first.
-fn meets(rt: &impl Abort, alloc: Global, meeting: &Meeting, first: usize) -> Result<(), Fail> {
+fn meets(rt: &impl Abort, alloc: Global, meeting: &Meeting, first: usize) {
     let (call, calls, left) = meeting;
     let lines = [
         Do(0, Open(b"/f", READ_AND_WRITE), Fd(0)),
@@ -81,20 +80,20 @@ fn meets(rt: &impl Abort, alloc: Global, meeting: &Meeting, first: usize) -> Res
         Between(call, *calls, first),
     ];
     let image = Image::WithFile(60, b"A");
-    let (made, disk) = play(rt, alloc, disk_of(alloc, image)?, &lines)?;
-    let trace = traced(alloc, &made)?;
-    let _list = history_of(alloc, &mut disk_of(alloc, image)?, &trace)?;
-    assert_eq!(rt; counts(alloc, disk)?, *left, "with {first} before");
-    Ok(())
+    let mut old = disk_of(rt, alloc, image);
+    let (made, disk) = play(rt, alloc, disk_of(rt, alloc, image), &lines);
+    let trace = traced(rt, alloc, &made);
+    let _list = history_of(rt, alloc, &mut old, &trace);
+    let counts = counts(rt, alloc, disk);
+    holds(rt, counts == *left, "with calls before:", first);
 }
 
 /// Whatever another hart does between two steps of a call, each has its own blocks and inodes, and all replies are those of one history.
 #[test]
-fn calls_come_between_steps(rt: HostRuntime) -> Result<(), Fail> {
+fn calls_come_between_steps(rt: HostRuntime) {
     for meeting in MEETINGS {
         for first in 0..meeting.1.len() {
-            meets(&rt, rt.alloc(), meeting, first)?;
+            meets(&rt, rt.alloc(), meeting, first);
         }
     }
-    Ok(())
 }

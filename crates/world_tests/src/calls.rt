@@ -12,7 +12,6 @@ use crate::stops::calls_of_mount;
 use crate::worked::{DIRECTORY_IS_MADE, NEW_FILE_IS_WRITTEN};
 use block_device::{BLOCK_LEN, Device, Fault, MemoryDisk};
 use plain_tree::{Cause, NodeType};
-use std::test::Fail;
 
 // So many calls are told.
 const MOST_CALLS: usize = 4096;
@@ -91,21 +90,21 @@ const TOLD: &[(&[Line], &[i16])] = &[
 
 /// Behind those of the mount a row makes these calls of the device, in this order.
 #[test]
-fn the_calls_of_the_device_are_these(rt: HostRuntime) -> Result<(), Fail> {
+fn the_calls_of_the_device_are_these(rt: HostRuntime) {
     let image = Image::Made(2000, 200);
-    let first = calls_of_mount(rt.alloc(), disk_of(rt.alloc(), image)?)?;
+    let first = calls_of_mount(&rt, rt.alloc(), disk_of(&rt, rt.alloc(), image));
     for (row, calls) in TOLD {
-        let (made, _disk) = play(&rt, rt.alloc(), disk_of(rt.alloc(), image)?, *row)?;
+        let disk = disk_of(&rt, rt.alloc(), image);
+        let (made, _disk) = play(&rt, rt.alloc(), disk, *row);
         let told = Told {
-            disk: disk_of(rt.alloc(), image)?,
+            disk: disk_of(&rt, rt.alloc(), image),
             calls: [0; MOST_CALLS],
             count: 0,
         };
-        let ended = run_over(rt.alloc(), told, made.events.as_slice())?;
+        let ended = run_over(&rt, rt.alloc(), told, made.events.as_slice());
         let told = ended.device;
-        assert_eq!(rt; told.calls.get(first as usize..told.count), Some(*calls));
+        assert!(rt; told.calls.get(first as usize..told.count) == Some(*calls));
     }
-    Ok(())
 }
 
 // Eighty-nine pieces of the file are written.

@@ -1,13 +1,18 @@
 //! Directories of few and many names, with free slots between them.
 use crate::images::{Image, counts, disk_of, name};
-use crate::lists::play;
+use crate::lists::{holds, play};
+use crate::memory::push;
 use crate::rows::Ask::{Close, Fstat, Link, Mkdir, Open, Read, Unlink};
 use crate::rows::Line::Do;
 use crate::rows::Says::{Bytes, Done, Failed, Fd, State};
 use crate::rows::{Line, READ};
+use block_device::MemoryDisk;
 use plain_tree::{Cause, NodeType};
-use std::alloc::{AllocError, Global};
-use std::test::Fail;
+use std::alloc::Global;
+use std::process::Abort;
+
+// Paths that lead to nothing.
+const MISSING: [&[u8]; 3] = [b"/d/missing", b"/d/aaa", b"/d/aaaaa"];
 
 // A path in `/d`, and whether its name is there to stay, goes again, or comes later.
 #[derive(Clone, Copy)]
@@ -22,108 +27,123 @@ fn path(number: u32) -> [u8; 7] {
 }
 
 // Names of the numbers below a count, those of which go whose number leaves this rest by this divisor.
-fn entries(alloc: Global, count: u32, divisor: u32, rest: u32) -> Result<Vec<Entry>, AllocError> {
+fn entries(rt: &impl Abort, alloc: Global, count: u32, divisor: u32, rest: u32) -> Vec<Entry> {
     let mut entries = Vec::new(alloc);
     for number in 0..count {
-        entries.push(Entry {
-            path: path(number),
-            goes: number.checked_rem(divisor) == Some(rest),
-        })?;
+        let (path, goes) = (path(number), number.checked_rem(divisor) == Some(rest));
+        push(rt, &mut entries, Entry { path, goes });
     }
-    Ok(entries)
+    entries
 }
 
 // For each name that goes another one, and one more.
-fn later(alloc: Global, entries: &[Entry]) -> Result<Vec<[u8; 7]>, AllocError> {
+fn later(rt: &impl Abort, alloc: Global, entries: &[Entry]) -> Vec<[u8; 7]> {
     let mut paths = Vec::new(alloc);
     let mut number = 40_000u32;
-    paths.push(path(number))?;
+    push(rt, &mut paths, path(number));
     for entry in entries {
         number = number.saturating_add(1);
         if entry.goes {
-            paths.push(path(number))?;
+            push(rt, &mut paths, path(number));
         }
     }
-    Ok(paths)
+    paths
 }
 
 // A slot of this number and of a path's name; all zeros for a free one.
-fn push_slot(content: &mut Vec<u8>, number: u8, path: &[u8]) -> Result<(), AllocError> {
-    content.push(number)?;
-    content.push(0)?;
+fn push_slot(rt: &impl Abort, content: &mut Vec<u8>, number: u8, path: &[u8]) {
+    push(rt, content, number);
+    push(rt, content, 0);
     for i in 3..17 {
-        content.push(match path.get(i) {
-            Some(byte) => *byte,
-            None => 0,
-        })?;
+        push(rt, content, path.get(i).copied().unwrap_or(0));
     }
-    Ok(())
 }
 
 // The directory's content. The free slots are those of later names in turn, and then those behind the last one.
-fn content(alloc: Global, entries: &[Entry], later: &[[u8; 7]]) -> Result<Vec<u8>, AllocError> {
+fn content(rt: &impl Abort, alloc: Global, entries: &[Entry], later: &[[u8; 7]]) -> Vec<u8> {
     let mut content = Vec::new(alloc);
-    push_slot(&mut content, 3, b"/d/.")?;
-    push_slot(&mut content, 1, b"/d/..")?;
+    push_slot(rt, &mut content, 3, b"/d/.");
+    push_slot(rt, &mut content, 1, b"/d/..");
     let mut next = 0usize;
     for entry in entries {
         match later.get(next) {
-            Some(path) if entry.goes => push_slot(&mut content, 2, path)?,
-            None if entry.goes => push_slot(&mut content, 0, b"")?,
-            _ => push_slot(&mut content, 2, &entry.path)?,
+            Some(path) if entry.goes => push_slot(rt, &mut content, 2, path),
+            None if entry.goes => push_slot(rt, &mut content, 0, b""),
+            _ => push_slot(rt, &mut content, 2, &entry.path),
         }
         if entry.goes {
             next = next.saturating_add(1);
         }
     }
     if let Some(path) = later.get(next) {
-        push_slot(&mut content, 2, path)?;
+        push_slot(rt, &mut content, 2, path);
     }
-    Ok(content)
+    content
 }
 
 // The names are entered, and then some go.
-fn push_changes<'a>(lines: &mut Vec<Line<'a>>, entries: &'a [Entry]) -> Result<(), AllocError> {
+fn push_changes<'a>(rt: &impl Abort, lines: &mut Vec<Line<'a>>, entries: &'a [Entry]) {
     for entry in entries {
-        lines.push(Do(0, Link(b"/f", &entry.path), Done))?;
+        push(rt, lines, Do(0, Link(b"/f", &entry.path), Done));
     }
     for entry in entries {
         if entry.goes {
-            lines.push(Do(0, Unlink(&entry.path), Done))?;
+            push(rt, lines, Do(0, Unlink(&entry.path), Done));
         }
     }
-    Ok(())
 }
 
 // Each name is found that is there, and no other one; and the directory has this content.
 fn push_looks<'a>(
+    rt: &impl Abort,
     lines: &mut Vec<Line<'a>>,
     entries: &'a [Entry],
     content: &'a [u8],
-) -> Result<(), AllocError> {
+) {
     for entry in entries {
-        if entry.goes {
-            lines.push(Do(0, Open(&entry.path, READ), Failed(Cause::NoEntry)))?;
+        let found = if entry.goes {
+            Failed(Cause::NoEntry)
         } else {
-            lines.push(Do(0, Open(&entry.path, READ), Fd(0)))?;
-            lines.push(Do(0, Close(0), Done))?;
+            Fd(0)
+        };
+        push(rt, lines, Do(0, Open(&entry.path, READ), found));
+        if !entry.goes {
+            push(rt, lines, Do(0, Close(0), Done));
         }
     }
-    lines.push(Do(0, Open(b"/d/missing", READ), Failed(Cause::NoEntry)))?;
-    lines.push(Do(0, Open(b"/d/aaa", READ), Failed(Cause::NoEntry)))?;
-    lines.push(Do(0, Open(b"/d/aaaaa", READ), Failed(Cause::NoEntry)))?;
-    lines.push(Do(0, Open(b"/d", READ), Fd(0)))?;
+    for path in MISSING {
+        push(rt, lines, Do(0, Open(path, READ), Failed(Cause::NoEntry)));
+    }
+    push(rt, lines, Do(0, Open(b"/d", READ), Fd(0)));
     let state = State(3, NodeType::Directory, 1, content.len() as u64);
-    lines.push(Do(0, Fstat(0), state))?;
-    lines.push(Do(0, Read(0, 20_000), Bytes(content)))?;
-    lines.push(Do(0, Close(0), Done))?;
-    Ok(())
+    push(rt, lines, Do(0, Fstat(0), state));
+    push(rt, lines, Do(0, Read(0, 20_000), Bytes(content)));
+    push(rt, lines, Do(0, Close(0), Done));
+}
+
+// A directory of so many names, of which some go, and others come: the disk then.
+fn change_names(rt: &impl Abort, alloc: Global, count: u32, divisor: u32, rest: u32) -> MemoryDisk {
+    let entries = entries(rt, alloc, count, divisor, rest);
+    let later = later(rt, alloc, entries.as_slice());
+    let old = content(rt, alloc, entries.as_slice(), &[]);
+    let new = content(rt, alloc, entries.as_slice(), later.as_slice());
+    let mut lines = Vec::new(alloc);
+    push(rt, &mut lines, Do(0, Mkdir(b"/d"), Done));
+    push_changes(rt, &mut lines, entries.as_slice());
+    push_looks(rt, &mut lines, entries.as_slice(), old.as_slice());
+    for path in later.as_slice() {
+        push(rt, &mut lines, Do(0, Link(b"/f", path), Done));
+    }
+    push_looks(rt, &mut lines, entries.as_slice(), new.as_slice());
+    let disk = disk_of(rt, alloc, Image::WithFile(60, b""));
+    let (_made, disk) = play(rt, alloc, disk, lines.as_slice());
+    disk
 }
 
 /// Of each name of a directory it is known whether it is there, also where names went between others; and a new name goes into the first
 /// free slot, or behind the last one.
 #[test]
-fn names_take_free_slots(rt: HostRuntime) -> Result<(), Fail> {
+fn names_take_free_slots(rt: HostRuntime) {
     // How many names, the divisor and the rest of those that go, and the blocks of the root and the directory at last.
     let rows: [(u32, u32, u32, u32); 9] = [
         (1, 5, 3, 2),
@@ -137,21 +157,8 @@ fn names_take_free_slots(rt: HostRuntime) -> Result<(), Fail> {
         (770, 97, 96, 15),
     ];
     for (count, divisor, rest, blocks) in rows {
-        let entries = entries(rt.alloc(), count, divisor, rest)?;
-        let later = later(rt.alloc(), entries.as_slice())?;
-        let old = content(rt.alloc(), entries.as_slice(), &[])?;
-        let new = content(rt.alloc(), entries.as_slice(), later.as_slice())?;
-        let mut lines = Vec::new(rt.alloc());
-        lines.push(Do(0, Mkdir(b"/d"), Done))?;
-        push_changes(&mut lines, entries.as_slice())?;
-        push_looks(&mut lines, entries.as_slice(), old.as_slice())?;
-        for path in later.as_slice() {
-            lines.push(Do(0, Link(b"/f", path), Done))?;
-        }
-        push_looks(&mut lines, entries.as_slice(), new.as_slice())?;
-        let disk = disk_of(rt.alloc(), Image::WithFile(60, b""))?;
-        let (_made, disk) = play(&rt, rt.alloc(), disk, lines.as_slice())?;
-        assert_eq!(rt; counts(rt.alloc(), disk)?, (3, 0, blocks), "of {count}");
+        let disk = change_names(&rt, rt.alloc(), count, divisor, rest);
+        let counts = counts(&rt, rt.alloc(), disk);
+        holds(&rt, counts == (3, 0, blocks), "of", count as usize);
     }
-    Ok(())
 }

@@ -1,17 +1,16 @@
 //! A stop behind each event of a row: the disk has the tree that a beginning of its history leads to.
 use crate::histories::is_named_after;
 use crate::images::{SMALL, disk_of};
-use crate::lists::{Ended, Group, first, groups_in, mounted_again, play, run_over};
+use crate::lists::{Group, first, groups_in, holds, mounted_again, play, run_over};
 use crate::rows::Line;
 use crate::worked::{
     DIRECTORY_IS_MADE, EMPTIED, LINKED_AND_UNLINKED, RAISED_AND_LOWERED, TWO_PIECES, WALK_IS_LOST,
 };
-use explain::{ExplainRefused, explain};
+use explain::explain;
 use hart_core::Event;
 use plain_tree::{Action, Placed};
-use std::alloc::{AllocError, Global};
+use std::alloc::Global;
 use std::process::Abort;
-use std::test::Fail;
 
 // Rows, and how many commits each makes.
 const STOPPED: &[(&[Line<'static>], usize)] = &[
@@ -24,13 +23,9 @@ const STOPPED: &[(&[Line<'static>], usize)] = &[
 ];
 
 // The list that is handed out for these events.
-fn list_of(alloc: Global, events: &[Event]) -> Result<Vec<Placed>, Fail> {
-    let image = disk_of(alloc, SMALL)?.into_bytes();
-    match explain(alloc, image.as_slice(), events) {
-        Ok(list) => Ok(list),
-        Err(ExplainRefused::NoMemory) => Err(Fail::from(AllocError)),
-        Err(_) => Err(Fail::new("no list is handed out")),
-    }
+fn list_of(rt: &impl Abort, alloc: Global, events: &[Event]) -> Vec<Placed> {
+    let image = disk_of(rt, alloc, SMALL).into_bytes();
+    explain(alloc, image.as_slice(), events).expect(rt, "error")
 }
 
 // Its first entries, up to that event.
@@ -111,44 +106,35 @@ fn stops_behind(
     events: &[Event],
     wanted: Option<u64>,
     list: &[Placed],
-) -> Result<(), Fail> {
-    let Ended {
-        device,
-        outcomes: _,
-        cut,
-        doubt,
-    } = run_over(alloc, disk_of(alloc, SMALL)?, events)?;
-    let count = events.len();
-    assert!(rt; cut == wanted && doubt.is_none(), "{count} events");
-    let mut disk = mounted_again(alloc, device)?;
-    let mut old = disk_of(alloc, SMALL)?;
-    let is_named = is_named_after(alloc, &mut old, list, &mut disk)?;
-    assert!(rt; is_named, "{count} events");
-    Ok(())
+) -> bool {
+    let ended = run_over(rt, alloc, disk_of(rt, alloc, SMALL), events);
+    let is_cut = (ended.cut, ended.doubt) == (wanted, None);
+    let mut disk = mounted_again(rt, alloc, ended.device);
+    let mut old = disk_of(rt, alloc, SMALL);
+    is_cut && is_named_after(rt, alloc, &mut old, list, &mut disk)
 }
 
 // Stops a row behind each of its events.
-fn stops(rt: &impl Abort, alloc: Global, row: &[Line], commits: usize) -> Result<(), Fail> {
-    let (made, _disk) = play(rt, alloc, disk_of(alloc, SMALL)?, row)?;
-    let groups = groups_in(alloc, made.outcomes.as_slice())?;
-    assert_eq!(rt; groups.len(), commits);
-    let whole = list_of(alloc, made.events.as_slice())?;
+fn stops(rt: &impl Abort, alloc: Global, row: &[Line], commits: usize) {
+    let (made, _disk) = play(rt, alloc, disk_of(rt, alloc, SMALL), row);
+    let groups = groups_in(rt, alloc, made.outcomes.as_slice());
+    assert!(rt; groups.len() == commits);
+    let whole = list_of(rt, alloc, made.events.as_slice());
     for count in 0..=made.events.len() {
         let cut = cut_of(&groups, count);
         let events = first(made.events.as_slice(), count);
-        let list = list_of(alloc, events)?;
-        assert!(rt; is_beginning(&list, &whole, count), "{count} events");
-        stops_behind(rt, alloc, events, cut, up_to(&list, cut))?;
+        let list = list_of(rt, alloc, events);
+        let is_so = is_beginning(&list, &whole, count)
+            && stops_behind(rt, alloc, events, cut, up_to(&list, cut));
+        holds(rt, is_so, "behind events:", count);
     }
-    Ok(())
 }
 
 /// Stopped behind any event of a row, the disk has the tree of the history that is handed out, up to the run's cut: the leave behind which
 /// the last head was written. And the history of a beginning of the events is a beginning of that of all.
 #[test]
-fn stop_everywhere(rt: HostRuntime) -> Result<(), Fail> {
+fn stop_everywhere(rt: HostRuntime) {
     for (row, commits) in STOPPED {
-        stops(&rt, rt.alloc(), *row, *commits)?;
+        stops(&rt, rt.alloc(), *row, *commits);
     }
-    Ok(())
 }

@@ -3,58 +3,50 @@ use crate::images::tree_in;
 use crate::trees::is_same_tree;
 use block_device::MemoryDisk;
 use history_search::find_history;
-use plain_tree::{ApplyRefused, Placed, Trace, Tree, check};
-use std::alloc::{AllocError, Global};
-use std::test::Fail;
+use plain_tree::{Placed, Trace, Tree, check};
+use std::alloc::Global;
+use std::process::Abort;
 
-pub fn explains(alloc: Global, base: &Tree, trace: &Trace, list: &[Placed]) -> Result<bool, Fail> {
-    match check(alloc, base, trace, list) {
-        Ok(explains) => Ok(explains),
-        Err(_) => Err(Fail::from(AllocError)),
-    }
+pub fn explains(
+    rt: &impl Abort,
+    alloc: Global,
+    base: &Tree,
+    trace: &Trace,
+    list: &[Placed],
+) -> bool {
+    check(alloc, base, trace, list).expect(rt, "error")
 }
 
 /// A list that explains a trace, from the tree of a disk on.
 pub fn history_of(
+    rt: &impl Abort,
     alloc: Global,
     disk: &mut MemoryDisk,
     trace: &Trace,
-) -> Result<Vec<Placed>, Fail> {
-    let base = tree_in(alloc, disk)?;
-    let list = match find_history(alloc, &base, trace, &[]) {
-        Ok(Some(list)) => list,
-        Ok(None) => return Err(Fail::new("nothing explains it")),
-        Err(_) => return Err(Fail::from(AllocError)),
-    };
-    if explains(alloc, &base, trace, list.as_slice())? {
-        Ok(list)
-    } else {
-        Err(Fail::new("what is found explains nothing"))
-    }
+) -> Vec<Placed> {
+    let base = tree_in(rt, alloc, disk);
+    let found = find_history(alloc, &base, trace, &[]).expect(rt, "error");
+    let list = found.expect(rt, "nothing explains it");
+    assert!(rt; explains(rt, alloc, &base, trace, list.as_slice()));
+    list
 }
 
-fn make_steps(alloc: Global, tree: &mut Tree, list: &[Placed]) -> Result<(), Fail> {
+fn make_steps(rt: &impl Abort, alloc: Global, tree: &mut Tree, list: &[Placed]) {
     for placed in list {
-        match tree.apply(alloc, &placed.step) {
-            Ok(_) => {}
-            Err(ApplyRefused::NoMemory) => return Err(Fail::from(AllocError)),
-            Err(_) => return Err(Fail::new("a step can't be made")),
-        }
+        let _answer = tree.apply(alloc, &placed.step).expect(rt, "error");
     }
-    Ok(())
 }
 
 /// Whether a disk has what has names after these steps, from the tree of another disk on.
 pub fn is_named_after(
+    rt: &impl Abort,
     alloc: Global,
     old: &mut MemoryDisk,
     list: &[Placed],
     disk: &mut MemoryDisk,
-) -> Result<bool, Fail> {
-    let mut tree = tree_in(alloc, old)?;
-    make_steps(alloc, &mut tree, list)?;
-    match tree.named(alloc) {
-        Ok(named) => Ok(is_same_tree(&tree_in(alloc, disk)?, &named)),
-        Err(_) => Err(Fail::from(AllocError)),
-    }
+) -> bool {
+    let mut tree = tree_in(rt, alloc, old);
+    make_steps(rt, alloc, &mut tree, list);
+    let named = tree.named(alloc).expect(rt, "error");
+    is_same_tree(&tree_in(rt, alloc, disk), &named)
 }

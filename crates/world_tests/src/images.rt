@@ -1,11 +1,12 @@
 //! Images that the tests begin with.
+use crate::memory::copied;
 use block_device::MemoryDisk;
-use image_tree::{MountFault, Shape, examine, tree_of};
-use mkfs::{MakeRefused, NewFile, make};
+use image_tree::{examine, tree_of};
+use mkfs::{NewFile, make};
 use plain_tree::Tree;
-use std::alloc::{AllocError, Global};
+use std::alloc::Global;
 use std::ops::Range;
-use std::test::Fail;
+use std::process::Abort;
 
 /// An image that a row begins with.
 #[derive(Clone, Copy)]
@@ -95,12 +96,12 @@ fn put(image: &mut [u8], at: usize, bytes: &[u8]) {
     }
 }
 
-fn image_of(alloc: Global, blocks: usize, parts: &[Part]) -> Result<Vec<u8>, AllocError> {
-    let mut image = vec![in alloc; 0u8; blocks.saturating_mul(1024)]?;
+fn image_of(rt: &impl Abort, alloc: Global, blocks: usize, parts: &[Part]) -> Vec<u8> {
+    let mut image = vec![in alloc; 0u8; blocks.saturating_mul(1024)].expect(rt, "error");
     for part in parts {
         put(image.as_mut_slice(), part.0, part.1);
     }
-    Ok(image)
+    image
 }
 
 // Where a slot of a directory lies, whose blocks stand in a row from this one on, the indirect one among them.
@@ -134,32 +135,26 @@ fn put_names(image: &mut [u8], inode: u16, first: u16, slots: Range<u16>) {
 }
 
 // Both directories' blocks stand in a row.
-fn crowded(alloc: Global) -> Result<Vec<u8>, AllocError> {
-    let mut image = image_of(alloc, 2000, &CROWDED)?;
+fn crowded(rt: &impl Abort, alloc: Global) -> Vec<u8> {
+    let mut image = image_of(rt, alloc, 2000, &CROWDED);
     put_names(image.as_mut_slice(), 1, 47, 3..17_152);
     put_names(image.as_mut_slice(), 2, 316, 2..15_620);
-    Ok(image)
+    image
 }
 
-fn made(alloc: Global, size: u32, ninodes: u32, files: &[NewFile]) -> Result<MemoryDisk, Fail> {
-    match make(alloc, size, ninodes, files) {
-        Ok(disk) => Ok(disk),
-        Err(MakeRefused::NoMemory) => Err(Fail::from(AllocError)),
-        Err(_) => Err(Fail::new("no image is made")),
-    }
+fn with_file(rt: &impl Abort, alloc: Global, size: u32, bytes: &[u8]) -> MemoryDisk {
+    let (name, content) = (copied(rt, alloc, b"f"), copied(rt, alloc, bytes));
+    make(alloc, size, 16, &[NewFile { name, content }]).expect(rt, "error")
 }
 
-pub fn disk_of(alloc: Global, image: Image) -> Result<MemoryDisk, Fail> {
+/// A disk with an image. Where memory for it is refused, the test says so, and ends.
+pub fn disk_of(rt: &impl Abort, alloc: Global, image: Image) -> MemoryDisk {
     match image {
-        Image::Tree => Ok(MemoryDisk::new(image_of(alloc, 64, &TREE)?)),
-        Image::Crowded => Ok(MemoryDisk::new(crowded(alloc)?)),
-        Image::ShortLog => Ok(MemoryDisk::new(image_of(alloc, 64, &SHORT_LOG)?)),
-        Image::Made(size, ninodes) => made(alloc, size, ninodes, &[]),
-        Image::WithFile(size, bytes) => {
-            let name = Vec::from_slice(alloc, b"f")?;
-            let content = Vec::from_slice(alloc, bytes)?;
-            made(alloc, size, 16, &[NewFile { name, content }])
-        }
+        Image::Tree => MemoryDisk::new(image_of(rt, alloc, 64, &TREE)),
+        Image::Crowded => MemoryDisk::new(crowded(rt, alloc)),
+        Image::ShortLog => MemoryDisk::new(image_of(rt, alloc, 64, &SHORT_LOG)),
+        Image::Made(size, ninodes) => make(alloc, size, ninodes, &[]).expect(rt, "error"),
+        Image::WithFile(size, bytes) => with_file(rt, alloc, size, bytes),
     }
 }
 
@@ -178,26 +173,13 @@ pub fn name(number: u32) -> [u8; 4] {
 }
 
 /// The tree of an image that is in order.
-pub fn tree_in(alloc: Global, disk: &mut MemoryDisk) -> Result<Tree, AllocError> {
-    match tree_of(alloc, disk) {
-        Ok(tree) => Ok(tree),
-        Err(_) => Err(AllocError),
-    }
+pub fn tree_in(rt: &impl Abort, alloc: Global, disk: &mut MemoryDisk) -> Tree {
+    tree_of(alloc, disk).expect(rt, "error")
 }
 
 /// How many nodes with a name, nodes without one and blocks of contents stand on a disk, whose image is well formed.
-pub fn counts(alloc: Global, disk: MemoryDisk) -> Result<(u32, u32, u32), Fail> {
+pub fn counts(rt: &impl Abort, alloc: Global, disk: MemoryDisk) -> (u32, u32, u32) {
     let mut disk = disk;
-    match examine(alloc, &mut disk) {
-        Ok(
-            Shape {
-                live,
-                orphans,
-                blocks,
-                ..
-            },
-        ) => Ok((live, orphans, blocks)),
-        Err(MountFault::NoMemory) => Err(Fail::from(AllocError)),
-        Err(_) => Err(Fail::new("the image is damaged")),
-    }
+    let shape = examine(alloc, &mut disk).expect(rt, "error");
+    (shape.live, shape.orphans, shape.blocks)
 }

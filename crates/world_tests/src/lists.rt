@@ -1,13 +1,13 @@
 //! Rows as lists of events: how they are played, what a run makes of them, and where a device has failed in it.
 use crate::images::{counts, disk_of};
+use crate::memory::push;
 use crate::rows::{Ask, Line, Row, Says, call, is_told};
 use block_device::{Device, MemoryDisk};
 use fs_machine::Kind;
 use hart_core::{Came, Event, Outcome, Run, StartRefused, Stop, World, run, trace};
 use plain_tree::{Call, Trace};
-use std::alloc::{AllocError, Global};
+use std::alloc::Global;
 use std::process::Abort;
-use std::test::Fail;
 
 // No call here takes as many steps.
 const MOST_STEPS: u32 = 100_000;
@@ -27,6 +27,11 @@ impl Made {
         }
     }
 
+    // Whether the last event gave a reply.
+    fn is_replied(&self) -> bool {
+        matches!(self.outcomes.last(), Some(Came::Stepped(Outcome::Done(_))))
+    }
+
     // What ran in the last event, where its call goes on.
     fn last_kind(&self) -> Option<Kind> {
         kind_of(self.outcomes.last()?)
@@ -41,146 +46,148 @@ fn kind_of(came: &Came) -> Option<Kind> {
 }
 
 // One event more.
-fn make(world: &mut World<MemoryDisk>, made: &mut Made, event: Event) -> Result<(), AllocError> {
-    made.events.push(event.clone()?)?;
+fn make(rt: &impl Abort, world: &mut World<MemoryDisk>, made: &mut Made, event: Event) {
+    let copy = event.clone().expect(rt, "error");
+    push(rt, &mut made.events, copy);
     let came = world.event(event);
-    made.outcomes.push(came)?;
-    Ok(())
+    push(rt, &mut made.outcomes, came);
 }
 
 // At most so many steps of a hart, until so many of a kind have run, or to one that doesn't run and leave the call under way.
 fn go_on(
+    rt: &impl Abort,
     world: &mut World<MemoryDisk>,
     made: &mut Made,
     hart: u8,
     kind: Kind,
     count: u32,
     most: u32,
-) -> Result<(), AllocError> {
+) {
     let mut left = count;
     for _ in 0..most {
-        make(world, made, Event::Step { hart })?;
+        make(rt, world, made, Event::Step { hart });
         let ran = made.last_kind();
         if ran == Some(kind) {
             left = left.saturating_sub(1);
         }
         if ran.is_none() || left == 0 {
-            return Ok(());
+            break;
         }
     }
-    Ok(())
 }
 
 // Steps to the call's end. No step of kind reply leaves its call under way.
-fn end(world: &mut World<MemoryDisk>, made: &mut Made, hart: u8) -> Result<(), AllocError> {
-    go_on(world, made, hart, Kind::Reply, 1, MOST_STEPS)
+fn end(rt: &impl Abort, world: &mut World<MemoryDisk>, made: &mut Made, hart: u8) {
+    go_on(rt, world, made, hart, Kind::Reply, 1, MOST_STEPS);
 }
 
 // Steps of the harts from 0 on in turn: whether the call of each ends with what is told.
 fn take_turns(
+    rt: &impl Abort,
     world: &mut World<MemoryDisk>,
     made: &mut Made,
     all: &[Says],
-) -> Result<bool, AllocError> {
+) -> bool {
     let mut ended = 0usize;
     for turn in 0..MOST_STEPS {
         let hart = turn % 8;
         let Some(says) = all.get(hart as usize) else {
             continue;
         };
-        make(world, made, Event::Step { hart: hart as u8 })?;
-        if matches!(made.outcomes.last(), Some(Came::Stepped(Outcome::Done(_)))) {
+        make(rt, world, made, Event::Step { hart: hart as u8 });
+        if made.is_replied() {
             ended = ended.saturating_add(1);
-            if !made.is_last(says) || ended == all.len() {
-                return Ok(made.is_last(says));
+            let is_told = made.is_last(says);
+            if !is_told || ended == all.len() {
+                return is_told;
             }
         }
     }
-    Ok(false)
+    false
 }
 
 // Plays a line, and answers whether it came to what it tells.
 fn tell(
+    rt: &impl Abort,
     alloc: Global,
     world: &mut World<MemoryDisk>,
     made: &mut Made,
     line: &Line,
-) -> Result<bool, AllocError> {
+) -> bool {
     match line {
         Line::Do(hart, ask, says) => {
-            if start(alloc, world, made, *hart, ask)? {
-                end(world, made, *hart)?;
+            if start(rt, alloc, world, made, *hart, ask) {
+                end(rt, world, made, *hart);
             }
-            Ok(made.is_last(says))
+            made.is_last(says)
         }
-        Line::Start(hart, ask) => start(alloc, world, made, *hart, ask),
+        Line::Start(hart, ask) => start(rt, alloc, world, made, *hart, ask),
         Line::Upto(hart, kind, count) => {
-            go_on(world, made, *hart, *kind, *count, MOST_STEPS)?;
-            Ok(made.is_last(&Says::Ran(*kind)))
-        }
-        Line::Steps(hart, most) => {
-            go_on(world, made, *hart, Kind::Reply, 1, *most)?;
-            Ok(true)
+            go_on(rt, world, made, *hart, *kind, *count, MOST_STEPS);
+            made.last_kind() == Some(*kind)
         }
         Line::End(hart, says) => {
-            end(world, made, *hart)?;
-            Ok(made.is_last(says))
+            end(rt, world, made, *hart);
+            made.is_last(says)
         }
-        Line::All(says) => take_turns(world, made, *says),
+        Line::All(says) => take_turns(rt, world, made, *says),
         Line::Between(call, calls, count) => {
-            come_between(alloc, world, made, *call, *calls, *count)
+            come_between(rt, alloc, world, made, *call, *calls, *count)
         }
     }
 }
 
 fn start(
+    rt: &impl Abort,
     alloc: Global,
     world: &mut World<MemoryDisk>,
     made: &mut Made,
     hart: u8,
     ask: &Ask,
-) -> Result<bool, AllocError> {
-    let call = call(alloc, ask)?;
-    make(world, made, Event::Start { hart, call })?;
-    Ok(made.is_last(&Says::Started))
+) -> bool {
+    let call = call(rt, alloc, ask);
+    make(rt, world, made, Event::Start { hart, call });
+    made.is_last(&Says::Started)
 }
 
 // Hart 1 makes a call, or goes on with the one that waits. Whether it waits then.
 fn cut_in(
+    rt: &impl Abort,
     alloc: Global,
     world: &mut World<MemoryDisk>,
     made: &mut Made,
     ask: &Ask,
     waits: bool,
-) -> Result<bool, AllocError> {
+) -> bool {
     if !waits {
-        start(alloc, world, made, 1, ask)?;
+        start(rt, alloc, world, made, 1, ask);
     }
-    end(world, made, 1)?;
-    Ok(made.is_last(&Says::Waits))
+    end(rt, world, made, 1);
+    made.is_last(&Says::Waits)
 }
 
 // Hart 1 makes these calls.
 fn make_all(
+    rt: &impl Abort,
     alloc: Global,
     world: &mut World<MemoryDisk>,
     made: &mut Made,
     calls: &[Ask],
-) -> Result<(), AllocError> {
+) {
     for ask in calls {
-        cut_in(alloc, world, made, ask, false)?;
+        cut_in(rt, alloc, world, made, ask, false);
     }
-    Ok(())
 }
 
 // Hart 0 goes on with its call to its end, and hart 1 makes calls, from this one on, before each step. Answers the next one.
 fn meet(
+    rt: &impl Abort,
     alloc: Global,
     world: &mut World<MemoryDisk>,
     made: &mut Made,
     calls: &[Ask],
     from: usize,
-) -> Result<usize, AllocError> {
+) -> usize {
     let mut next = from;
     let mut waits = false;
     for _ in 0..MOST_STEPS {
@@ -188,85 +195,86 @@ fn meet(
             next = 0;
             continue;
         };
-        waits = cut_in(alloc, world, made, ask, waits)?;
+        waits = cut_in(rt, alloc, world, made, ask, waits);
         if !waits {
             next = next.saturating_add(1);
         }
-        make(world, made, Event::Step { hart: 0 })?;
-        if matches!(made.outcomes.last(), Some(Came::Stepped(Outcome::Done(_)))) {
+        make(rt, world, made, Event::Step { hart: 0 });
+        if made.is_replied() {
             break;
         }
     }
     if waits {
-        end(world, made, 1)?;
+        end(rt, world, made, 1);
         next = next.saturating_add(1);
     }
-    Ok(next)
+    next
 }
 
 // A call of hart 0 with calls of hart 1, so many of which come before it. Whether both harts are idle then.
 fn come_between(
+    rt: &impl Abort,
     alloc: Global,
     world: &mut World<MemoryDisk>,
     made: &mut Made,
     call: &Ask,
     calls: &[Ask],
     count: usize,
-) -> Result<bool, AllocError> {
-    make_all(alloc, world, made, first(calls, count))?;
-    start(alloc, world, made, 0, call)?;
-    let next = meet(alloc, world, made, calls, count)?;
+) -> bool {
+    make_all(rt, alloc, world, made, first(calls, count));
+    start(rt, alloc, world, made, 0, call);
+    let next = meet(rt, alloc, world, made, calls, count);
     if let Some((_, rest)) = calls.split_at_checked(next) {
-        make_all(alloc, world, made, rest)?;
+        make_all(rt, alloc, world, made, rest);
     }
-    make_all(alloc, world, made, calls)?;
-    end(world, made, 0)?;
+    make_all(rt, alloc, world, made, calls);
+    end(rt, world, made, 0);
     let is_idle = made.is_last(&Says::Idle);
-    end(world, made, 1)?;
-    Ok(is_idle && made.is_last(&Says::Idle))
+    end(rt, world, made, 1);
+    is_idle && made.is_last(&Says::Idle)
 }
 
 // Plays lines, up to the first one that doesn't come to what it tells: its number.
 fn tell_all(
+    rt: &impl Abort,
     alloc: Global,
     world: &mut World<MemoryDisk>,
     made: &mut Made,
     lines: &[Line],
-) -> Result<Option<usize>, AllocError> {
+) -> Option<usize> {
     for (number, line) in lines.iter().enumerate() {
-        if !tell(alloc, world, made, line)? {
-            return Ok(Some(number));
+        if !tell(rt, alloc, world, made, line) {
+            return Some(number);
         }
     }
-    Ok(None)
+    None
 }
 
-/// A world over a device that doesn't fail in the mount. Where memory was refused the device that is handed back is mounted once more.
-pub fn mounted<D: Device + Drop>(alloc: Global, device: D) -> Result<World<D>, Fail> {
-    let device = match World::mount(alloc, device) {
-        Ok(world) => return Ok(world),
-        Err((device, _)) => device,
-    };
+/// A world over a device that doesn't fail in the mount. Where memory for it is refused, the test says so, and ends.
+pub fn mounted<D: Device + Drop>(rt: &impl Abort, alloc: Global, device: D) -> World<D> {
     match World::mount(alloc, device) {
-        Ok(world) => Ok(world),
-        Err(_) => Err(Fail::new("it isn't mounted")),
+        Ok(world) => world,
+        Err((_, fault)) => panic!(rt; "error: {fault:?}"),
     }
 }
 
-// Plays lines over a new world: what they made, the disk, and the number of the line that didn't come to what it tells.
-fn try_play(
+// Plays lines over a new world of a disk, each of which comes to what it tells, and gives the disk back. They are those of this row.
+fn play_row(
+    rt: &impl Abort,
     alloc: Global,
     disk: MemoryDisk,
     lines: &[Line],
-) -> Result<(Made, MemoryDisk, Option<usize>), Fail> {
+    row: usize,
+) -> (Made, MemoryDisk) {
     let mut made = Made {
         events: Vec::new(alloc),
         outcomes: Vec::new(alloc),
     };
-    let mut world = mounted(alloc, disk)?;
-    let missed = tell_all(alloc, &mut world, &mut made, lines);
+    let mut world = mounted(rt, alloc, disk);
+    let missed = tell_all(rt, alloc, &mut world, &mut made, lines);
     let disk = world.unmount();
-    Ok((made, disk, missed?))
+    assert_eq!(rt; missed, None, "this line of row {row}");
+    (made, disk)
 }
 
 /// Plays lines over a new world of a disk, each of which comes to what it tells, and gives the disk back.
@@ -275,23 +283,27 @@ pub fn play(
     alloc: Global,
     disk: MemoryDisk,
     lines: &[Line],
-) -> Result<(Made, MemoryDisk), Fail> {
-    let (made, disk, missed) = try_play(alloc, disk, lines)?;
-    assert_eq!(rt; missed, None, "this line");
-    Ok((made, disk))
+) -> (Made, MemoryDisk) {
+    play_row(rt, alloc, disk, lines, 0)
+}
+
+/// Ends the test where something isn't so, and tells a number.
+pub fn holds(rt: &impl Abort, is_so: bool, what: &str, number: usize) {
+    assert!(rt; is_so, "{what} {number}");
 }
 
 /// These events over a world. Where memory is short the world is handed back as it was, and ends.
 pub fn ran<D: Device + Drop>(
+    rt: &impl Abort,
     alloc: Global,
     world: World<D>,
     events: &[Event],
-) -> Result<Run<D>, Fail> {
+) -> Run<D> {
     match run(alloc, world, events) {
-        Ok(run) => Ok(run),
+        Ok(run) => run,
         Err((world, _)) => {
             let _device = world.unmount();
-            Err(Fail::from(AllocError))
+            panic!(rt; "error: AllocError")
         }
     }
 }
@@ -307,22 +319,23 @@ pub struct Ended<D: Device + Drop> {
 
 /// These events over a new world of a device that doesn't fail in the mount. Then the world ends.
 pub fn run_over<D: Device + Drop>(
+    rt: &impl Abort,
     alloc: Global,
     device: D,
     events: &[Event],
-) -> Result<Ended<D>, Fail> {
+) -> Ended<D> {
     let Run {
         world,
         outcomes,
         cut,
         doubt,
-    } = ran(alloc, mounted(alloc, device)?, events)?;
-    Ok(Ended {
+    } = ran(rt, alloc, mounted(rt, alloc, device), events);
+    Ended {
         device: world.unmount(),
         outcomes,
         cut,
         doubt,
-    })
+    }
 }
 
 /// At most so many first ones.
@@ -334,15 +347,12 @@ pub fn first<T>(items: &[T], count: usize) -> &[T] {
 }
 
 /// A disk that was mounted again, and so recovered.
-pub fn mounted_again(alloc: Global, disk: MemoryDisk) -> Result<MemoryDisk, Fail> {
-    Ok(mounted(alloc, disk)?.unmount())
+pub fn mounted_again(rt: &impl Abort, alloc: Global, disk: MemoryDisk) -> MemoryDisk {
+    mounted(rt, alloc, disk).unmount()
 }
 
-pub fn traced(alloc: Global, made: &Made) -> Result<Trace, AllocError> {
-    match trace(alloc, made.events.as_slice(), made.outcomes.as_slice()) {
-        Ok(trace) => Ok(trace),
-        Err(_) => Err(AllocError),
-    }
+pub fn traced(rt: &impl Abort, alloc: Global, made: &Made) -> Trace {
+    trace(alloc, made.events.as_slice(), made.outcomes.as_slice()).expect(rt, "error")
 }
 
 fn is_same_outcome(came: &Outcome, wanted: &Outcome) -> bool {
@@ -377,39 +387,32 @@ pub fn are_same(outcomes: &[Came], wanted: &[Came]) -> bool {
 
 // Whether `run` makes of these events, over a new world of a disk, the same outcomes, in their order, and the same bytes of the disk.
 // Its cut is the leave behind which the last head was written.
-fn is_run(alloc: Global, disk: MemoryDisk, made: &Made, bytes: &[u8]) -> Result<bool, Fail> {
-    let groups = groups_in(alloc, made.outcomes.as_slice())?;
+fn is_run(rt: &impl Abort, alloc: Global, disk: MemoryDisk, made: &Made, bytes: &[u8]) -> bool {
+    let groups = groups_in(rt, alloc, made.outcomes.as_slice());
     let last = groups.as_slice().last().map(|group| group.leave);
-    let Ended {
-        device,
-        outcomes,
-        cut,
-        doubt,
-    } = run_over(alloc, disk, made.events.as_slice())?;
-    let again = device.into_bytes();
-    Ok(
-        are_same(outcomes.as_slice(), made.outcomes.as_slice())
-            && again.as_slice() == bytes
-            && cut == last
-            && doubt.is_none(),
-    )
+    let ended = run_over(rt, alloc, disk, made.events.as_slice());
+    let again = ended.device.into_bytes();
+    are_same(ended.outcomes.as_slice(), made.outcomes.as_slice())
+        && again.as_slice() == bytes
+        && (ended.cut, ended.doubt) == (last, None)
+}
+
+// A row comes to what it tells, line by line, and leaves what it tells; and `run` makes the same of its events.
+fn row_is_run(rt: &impl Abort, alloc: Global, row: &Row, number: usize) {
+    let (image, lines, left) = row;
+    let (made, disk) = play_row(rt, alloc, disk_of(rt, alloc, *image), *lines, number);
+    let bytes = disk.into_bytes();
+    let disk = disk_of(rt, alloc, *image);
+    let is_run = is_run(rt, alloc, disk, &made, bytes.as_slice());
+    let counts = counts(rt, alloc, MemoryDisk::new(bytes));
+    holds(rt, is_run && counts == *left, "row", number);
 }
 
 /// Each row comes to what it tells, line by line, and leaves what it tells; and `run` makes the same of its events.
-pub fn are_run(rt: &impl Abort, alloc: Global, rows: &[Row]) -> Result<(), Fail> {
-    for (number, (image, lines, left)) in rows.iter().enumerate() {
-        let (made, disk, missed) = try_play(alloc, disk_of(alloc, *image)?, *lines)?;
-        assert_eq!(rt; missed, None, "this line of row {number}");
-        let bytes = disk.into_bytes();
-        let disk = disk_of(alloc, *image)?;
-        assert!(rt;
-            is_run(alloc, disk, &made, bytes.as_slice())?,
-            "row {number}"
-        );
-        let disk = MemoryDisk::new(bytes);
-        assert_eq!(rt; counts(alloc, disk)?, *left, "row {number}");
+pub fn are_run(rt: &impl Abort, alloc: Global, rows: &[Row]) {
+    for (number, row) in rows.iter().enumerate() {
+        row_is_run(rt, alloc, row, number);
     }
-    Ok(())
 }
 
 /// A group's commit: the events of the leave that began it, and of its writes. These are the copies in the log, the head, as many
@@ -432,7 +435,7 @@ impl Group {
 }
 
 /// The commits of a run, by what its events came to. Each of them has come to its end.
-pub fn groups_in(alloc: Global, outcomes: &[Came]) -> Result<Vec<Group>, AllocError> {
+pub fn groups_in(rt: &impl Abort, alloc: Global, outcomes: &[Came]) -> Vec<Group> {
     let mut groups: Vec<Group> = Vec::new(alloc);
     let mut leave = None;
     for (event, came) in outcomes.iter().enumerate() {
@@ -442,18 +445,16 @@ pub fn groups_in(alloc: Global, outcomes: &[Came]) -> Result<Vec<Group>, AllocEr
         }
         if kind == Some(Kind::Commit) {
             if let Some(leave) = leave {
-                groups.push(Group {
-                    leave,
-                    writes: Vec::new(alloc),
-                })?;
+                let writes = Vec::new(alloc);
+                push(rt, &mut groups, Group { leave, writes });
             }
             leave = None;
             if let Some(group) = groups.last_mut() {
-                group.writes.push(event as u64)?;
+                push(rt, &mut group.writes, event as u64);
             }
         }
     }
-    Ok(groups)
+    groups
 }
 
 // The calls of the harts that are under way, each with its child.
@@ -501,6 +502,10 @@ impl Calls {
     }
 }
 
+fn is_fault(came: &Came) -> bool {
+    matches!(came, Came::Stepped(Outcome::Stopped(Stop::DeviceFault)))
+}
+
 fn child_of(call: &Call) -> Option<u8> {
     match call {
         Call::Inherit { child } => Some(*child),
@@ -513,15 +518,18 @@ fn child_of(call: &Call) -> Option<u8> {
 pub fn stopped_at(rt: &impl Abort, made: &Made, outcomes: &[Came]) -> Option<u64> {
     let mut calls = Calls { harts: [None; 8] };
     let mut stopped = None;
-    assert_eq!(rt; outcomes.len(), made.events.len());
+    assert!(rt; outcomes.len() == made.events.len());
     let wanted = made.events.iter().zip(made.outcomes.iter());
     for (number, ((event, wanted), came)) in wanted.zip(outcomes.iter()).enumerate() {
-        if stopped.is_some() {
-            assert!(rt; calls.is_halted(event, came), "event {number}");
-        } else if matches!(came, Came::Stepped(Outcome::Stopped(Stop::DeviceFault))) {
+        if stopped.is_none() && is_fault(came) {
             stopped = Some(number as u64);
         } else {
-            assert!(rt; is_same(came, wanted), "event {number}");
+            let is_so = if stopped.is_some() {
+                calls.is_halted(event, came)
+            } else {
+                is_same(came, wanted)
+            };
+            holds(rt, is_so, "event", number);
         }
         calls.note(event, came);
     }

@@ -25,6 +25,8 @@ mod links;
 #[cfg(test)]
 mod lists;
 #[cfg(test)]
+mod memory;
+#[cfg(test)]
 mod opens;
 #[cfg(test)]
 mod rows;

@@ -8,7 +8,6 @@ use crate::rows::{LONG, LONGEST, READ, READ_AND_WRITE, Row, TRUNCATE, WRITE};
 use fs_machine::Kind;
 use hart_core::StartRefused;
 use plain_tree::{Cause, NodeType};
-use std::test::Fail;
 
 const ROWS: &[Row] = &[
     // On a fresh image the root opens, by its name and by an empty path, tells its state, and is read; and it has no parent.
@@ -194,6 +193,6 @@ const ROWS: &[Row] = &[
 
 /// Each row comes to what it tells, and is run again by its events.
 #[test]
-fn rows_are_run(rt: HostRuntime) -> Result<(), Fail> {
-    are_run(&rt, rt.alloc(), ROWS)
+fn rows_are_run(rt: HostRuntime) {
+    are_run(&rt, rt.alloc(), ROWS);
 }

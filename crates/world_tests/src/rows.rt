@@ -1,9 +1,11 @@
 //! Rows: what harts are told to do, line by line, and what each line comes to.
 use crate::images::Image;
+use crate::memory::{copied, push};
 use fs_machine::Kind;
 use hart_core::{Came, Outcome, StartRefused};
 use plain_tree::{Answer, Bytes, Call, Cause, Full, NodeType, Reply, Stat};
-use std::alloc::{AllocError, Global};
+use std::alloc::Global;
+use std::process::Abort;
 
 pub const READ: u32 = 0;
 
@@ -70,8 +72,6 @@ pub enum Line<'a> {
     Start(u8, Ask<'a>),
     /// Steps, until so many of this kind have run.
     Upto(u8, Kind, u32),
-    /// At most so many steps, to the call's end or to a wait, whatever they come to.
-    Steps(u8, u32),
     /// Steps to the call's end, or to a wait.
     End(u8, Says<'a>),
     /// Steps of the harts from 0 on in turn, until the call of each has ended.
@@ -89,55 +89,56 @@ fn byte_at(place: usize) -> u8 {
     (place % 251) as u8
 }
 
-fn pattern(alloc: Global, from: usize, count: usize) -> Result<Bytes, AllocError> {
+fn pattern(rt: &impl Abort, alloc: Global, from: usize, count: usize) -> Bytes {
     let mut bytes = Vec::new(alloc);
     for i in 0..count {
-        bytes.push(byte_at(from.saturating_add(i)))?;
+        push(rt, &mut bytes, byte_at(from.saturating_add(i)));
     }
-    Ok(Bytes::new(bytes))
+    Bytes::new(bytes)
 }
 
-fn bytes(alloc: Global, bytes: &[u8]) -> Result<Bytes, AllocError> {
-    Ok(Bytes::new(Vec::from_slice(alloc, bytes)?))
+/// Bytes of their own.
+pub fn owned(rt: &impl Abort, alloc: Global, bytes: &[u8]) -> Bytes {
+    Bytes::new(copied(rt, alloc, bytes))
 }
 
 /// The call, with paths and bytes of its own.
-pub fn call(alloc: Global, ask: &Ask) -> Result<Call, AllocError> {
-    Ok(match ask {
+pub fn call(rt: &impl Abort, alloc: Global, ask: &Ask) -> Call {
+    match ask {
         Ask::Open(path, flags) => Call::Open {
-            path: bytes(alloc, *path)?,
+            path: owned(rt, alloc, *path),
             flags: *flags,
         },
         Ask::Read(fd, count) => Call::Read {
             fd: *fd,
-            buf: pattern(alloc, 1, *count)?,
+            buf: pattern(rt, alloc, 1, *count),
         },
         Ask::Write(fd, written) => Call::Write {
             fd: *fd,
-            bytes: bytes(alloc, *written)?,
+            bytes: owned(rt, alloc, *written),
         },
         Ask::Fill(fd, from, count) => Call::Write {
             fd: *fd,
-            bytes: pattern(alloc, *from, *count)?,
+            bytes: pattern(rt, alloc, *from, *count),
         },
         Ask::Link(old, new) => Call::Link {
-            old: bytes(alloc, *old)?,
-            new: bytes(alloc, *new)?,
+            old: owned(rt, alloc, *old),
+            new: owned(rt, alloc, *new),
         },
         Ask::Unlink(path) => Call::Unlink {
-            path: bytes(alloc, *path)?,
+            path: owned(rt, alloc, *path),
         },
         Ask::Mkdir(path) => Call::Mkdir {
-            path: bytes(alloc, *path)?,
+            path: owned(rt, alloc, *path),
         },
         Ask::Chdir(path) => Call::Chdir {
-            path: bytes(alloc, *path)?,
+            path: owned(rt, alloc, *path),
         },
         Ask::Dup(fd) => Call::Dup { fd: *fd },
         Ask::Fstat(fd) => Call::Fstat { fd: *fd },
         Ask::Close(fd) => Call::Close { fd: *fd },
         Ask::Inherit(child) => Call::Inherit { child: *child },
-    })
+    }
 }
 
 // Whether a read's memory begins with the pattern's bytes from a place on, so many.

@@ -2,18 +2,19 @@
 use crate::histories::explains;
 use crate::images::{Image, SMALL, counts, disk_of, tree_in};
 use crate::lists::{Ended, Made, mounted, play, ran, run_over, traced};
+use crate::memory::push;
 use crate::rows::Ask::{Chdir, Close, Dup, Fill, Fstat, Inherit, Link, Open, Read, Unlink, Write};
 use crate::rows::Line::{Do, End, Start, Upto};
 use crate::rows::Says::{Done, Failed, Idle, Refused};
-use crate::rows::{Ask, LONG, READ, READ_AND_WRITE, TRUNCATE, call};
+use crate::rows::{Ask, LONG, READ, READ_AND_WRITE, TRUNCATE, call, owned};
 use fs_machine::Kind;
 use hart_core::{Came, Event, Outcome, Run, StartRefused};
 use history_search::find_history;
 use plain_tree::{
-    Action, Answer, Bytes, Call, Cause, Placed, Reply, StepAnswer, Trace, TracedCall, TreeStep,
+    Action, Answer, Call, Cause, Placed, Reply, StepAnswer, Trace, TracedCall, TreeStep,
 };
-use std::alloc::{AllocError, Global};
-use std::test::Fail;
+use std::alloc::Global;
+use std::process::Abort;
 
 // A hart's step at an event, of a call of the trace.
 fn placed(event: u64, call: usize, hart: u8, action: Action, answer: StepAnswer) -> Placed {
@@ -52,7 +53,7 @@ fn last_of(trace: &Trace, call: usize) -> u64 {
 /// Two harts' events are made in their order: two calls are finished, one is under way, and two starts are refused. The steps' list
 /// explains that, and doesn't where one of them comes after its reply.
 #[test]
-fn events_come_in_order(rt: HostRuntime) -> Result<(), Fail> {
+fn events_come_in_order(rt: HostRuntime) {
     let alloc = rt.alloc();
     let bad = Cause::BadDescriptor;
     let lines = [
@@ -65,10 +66,10 @@ fn events_come_in_order(rt: HostRuntime) -> Result<(), Fail> {
         End(0, Failed(bad)),
         Start(0, Dup(0)),
     ];
-    let mut disk = disk_of(alloc, SMALL)?;
-    let base = tree_in(alloc, &mut disk)?;
-    let (made, _disk) = play(&rt, alloc, disk, &lines)?;
-    let trace = traced(alloc, &made)?;
+    let mut disk = disk_of(&rt, alloc, SMALL);
+    let base = tree_in(&rt, alloc, &mut disk);
+    let (made, _disk) = play(&rt, alloc, disk, &lines);
+    let trace = traced(&rt, alloc, &made);
     assert!(rt; trace.events == 8 && trace.calls.as_slice().len() == 3);
     let calls = [(0, 0, Some(6)), (7, 2, Some(4)), (0, 7, None)];
     for (call, wanted) in trace.calls.as_slice().iter().zip(calls) {
@@ -78,92 +79,77 @@ fn events_come_in_order(rt: HostRuntime) -> Result<(), Fail> {
         placed(4, 1, 7, Action::Dup { fd: 16 }, failed(bad)),
         placed(6, 0, 0, Action::Fstat { fd: 3 }, failed(bad)),
     ];
-    assert!(rt; explains(alloc, &base, &trace, &list)?);
+    assert!(rt; explains(&rt, alloc, &base, &trace, &list));
     list[0].event = 5;
-    assert!(rt; !explains(alloc, &base, &trace, &list)?);
-    Ok(())
+    assert!(rt; !explains(&rt, alloc, &base, &trace, &list));
 }
 
 /// A run goes on where another ended, in mid-call.
 #[test]
-fn a_run_goes_on(rt: HostRuntime) -> Result<(), Fail> {
+fn a_run_goes_on(rt: HostRuntime) {
+    let alloc = rt.alloc();
     let row = [Do(2, Dup(1), Failed(Cause::BadDescriptor))];
-    let (made, disk) = play(&rt, rt.alloc(), disk_of(rt.alloc(), SMALL)?, &row)?;
-    let Made { events, outcomes } = made;
-    let Some((begin, rest)) = events.as_slice().split_at_checked(1) else {
-        return Err(Fail::new("there is no event"));
-    };
-    let world = mounted(rt.alloc(), disk)?;
+    let (made, disk) = play(&rt, alloc, disk_of(&rt, alloc, SMALL), &row);
+    let (begin, rest) = made
+        .events
+        .as_slice()
+        .split_at_checked(1)
+        .expect(&rt, "there is no event");
     let Run {
         world,
-        outcomes: first,
+        outcomes: one,
         cut: _,
         doubt: _,
-    } = ran(rt.alloc(), world, begin)?;
+    } = ran(&rt, alloc, mounted(&rt, alloc, disk), begin);
     let Run {
         world,
-        outcomes: second,
+        outcomes: other,
         cut: _,
         doubt: _,
-    } = ran(rt.alloc(), world, rest)?;
+    } = ran(&rt, alloc, world, rest);
     let _disk = world.unmount();
-    assert!(rt; first.len() == 1 && second.len() + 1 == outcomes.len());
-    assert!(rt;
-        matches!(
-            second.as_slice().last(),
-            Some(Came::Stepped(Outcome::Done(_)))
-        )
-    );
-    Ok(())
-}
-
-fn path(alloc: Global, bytes: &[u8]) -> Result<Bytes, AllocError> {
-    Ok(Bytes::new(Vec::from_slice(alloc, bytes)?))
+    let (one, other) = (one.as_slice(), other.as_slice());
+    assert!(rt; one.len() == 1 && other.len().saturating_add(1) == made.outcomes.len());
+    assert!(rt; matches!(other.last(), Some(Came::Stepped(Outcome::Done(_)))));
 }
 
 const MANY: usize = 20_000;
 
 // A hart asks for a second descriptor of a file that isn't open, so many times.
-fn many_calls(alloc: Global) -> Result<Made, AllocError> {
+fn many_calls(rt: &impl Abort, alloc: Global) -> Made {
     let mut events = Vec::new(alloc);
     let mut outcomes = Vec::new(alloc);
     for _ in 0..MANY {
-        let call = Call::Dup { fd: 0 };
-        let answer = Answer::Failed(Cause::BadDescriptor);
-        events.push(Event::Start {
-            hart: 0,
-            call: call.clone()?,
-        })?;
-        outcomes.push(Came::Started)?;
-        events.push(Event::Step { hart: 0 })?;
-        outcomes.push(Came::Stepped(Outcome::Done(Reply { answer, call })))?;
+        let (call, back) = (Call::Dup { fd: 0 }, Call::Dup { fd: 0 });
+        let reply = Reply {
+            answer: Answer::Failed(Cause::BadDescriptor),
+            call: back,
+        };
+        push(rt, &mut events, Event::Start { hart: 0, call });
+        push(rt, &mut outcomes, Came::Started);
+        push(rt, &mut events, Event::Step { hart: 0 });
+        push(rt, &mut outcomes, Came::Stepped(Outcome::Done(reply)));
     }
-    Ok(Made { events, outcomes })
+    Made { events, outcomes }
 }
 
 /// Many calls are traced, and their history is found, in a time that grows as their number does.
 #[test]
-fn many_calls_are_explained(rt: HostRuntime) -> Result<(), Fail> {
+fn many_calls_are_explained(rt: HostRuntime) {
     let alloc = rt.alloc();
-    let base = tree_in(alloc, &mut disk_of(alloc, SMALL)?)?;
-    let trace = traced(alloc, &many_calls(alloc)?)?;
-    let calls = trace.calls.as_slice();
+    let base = tree_in(&rt, alloc, &mut disk_of(&rt, alloc, SMALL));
+    let trace = traced(&rt, alloc, &many_calls(&rt, alloc));
+    let mut calls = trace.calls.as_slice().iter();
     assert!(rt; calls.len() == MANY);
-    assert!(rt;
-        calls
-            .iter()
-            .all(|call| end_of(call) == call.start.checked_add(1))
-    );
-    let Ok(Some(list)) = find_history(alloc, &base, &trace, &[]) else {
-        return Err(Fail::from(AllocError));
-    };
+    assert!(rt; calls.all(|call| end_of(call) == call.start.checked_add(1)));
+    let found = find_history(alloc, &base, &trace, &[]).expect(&rt, "error");
+    let list = found.expect(&rt, "nothing explains it");
     assert!(rt; list.len() == MANY);
-    Ok(())
 }
 
 /// A walk that finds the directory that it has reached removed is explained by a step behind the unlinks, and by none before them.
 #[test]
-fn a_lost_walk_is_explained(rt: HostRuntime) -> Result<(), Fail> {
+fn a_lost_walk_is_explained(rt: HostRuntime) {
     let alloc = rt.alloc();
     let lines = [
         Start(0, Open(b"/d/e/f", READ)),
@@ -172,30 +158,29 @@ fn a_lost_walk_is_explained(rt: HostRuntime) -> Result<(), Fail> {
         Do(1, Unlink(b"/d/e"), Done),
         End(0, Failed(Cause::NoEntry)),
     ];
-    let mut disk = disk_of(alloc, Image::Tree)?;
-    let base = tree_in(alloc, &mut disk)?;
-    let (made, _disk) = play(&rt, alloc, disk, &lines)?;
-    let trace = traced(alloc, &made)?;
+    let mut disk = disk_of(&rt, alloc, Image::Tree);
+    let base = tree_in(&rt, alloc, &mut disk);
+    let (made, _disk) = play(&rt, alloc, disk, &lines);
+    let trace = traced(&rt, alloc, &made);
     let open = Action::Open {
-        path: path(alloc, b"/d/e/f")?,
+        path: owned(&rt, alloc, b"/d/e/f"),
         flags: READ,
     };
     let file = Action::Unlink {
-        path: path(alloc, b"/d/e/f")?,
+        path: owned(&rt, alloc, b"/d/e/f"),
     };
     let directory = Action::Unlink {
-        path: path(alloc, b"/d/e")?,
+        path: owned(&rt, alloc, b"/d/e"),
     };
     let mut list = [
         placed(last_of(&trace, 1), 1, 1, file, StepAnswer::Done),
         placed(last_of(&trace, 2), 2, 1, directory, StepAnswer::Done),
         placed(last_of(&trace, 0), 0, 0, open, failed(Cause::NoEntry)),
     ];
-    assert!(rt; explains(alloc, &base, &trace, &list)?);
+    assert!(rt; explains(&rt, alloc, &base, &trace, &list));
     list[2].event = 20;
     list.rotate_right(1);
-    assert!(rt; !explains(alloc, &base, &trace, &list)?);
-    Ok(())
+    assert!(rt; !explains(&rt, alloc, &base, &trace, &list));
 }
 
 // What is asked at random.
@@ -232,10 +217,8 @@ fn next(number: u32) -> u32 {
     number ^ (number << 5)
 }
 
-/// Eight harts start calls and step at random, 100,000 events; each call comes to its end, and the image is well formed.
-#[test]
-fn eight_harts_at_random(rt: HostRuntime) -> Result<(), Fail> {
-    let alloc = rt.alloc();
+// Starts of calls and steps of eight harts, drawn.
+fn drawn_events(rt: &impl Abort, alloc: Global) -> Vec<Event> {
     let mut events = Vec::new(alloc);
     let mut number = 1u32;
     for _ in 0..100_000 {
@@ -243,28 +226,34 @@ fn eight_harts_at_random(rt: HostRuntime) -> Result<(), Fail> {
         let hart = (number % 8) as u8;
         if number >> 29 == 0 {
             let ask = &ASKS[(number >> 8) as usize % ASKS.len()];
-            let call = call(alloc, ask)?;
-            events.push(Event::Start { hart, call })?;
+            let call = call(rt, alloc, ask);
+            push(rt, &mut events, Event::Start { hart, call });
         } else {
-            events.push(Event::Step { hart })?;
+            push(rt, &mut events, Event::Step { hart });
         }
     }
+    events
+}
+
+/// Eight harts start calls and step at random, 100,000 events; each call comes to its end, and the image is well formed.
+#[test]
+fn eight_harts_at_random(rt: HostRuntime) {
+    let alloc = rt.alloc();
+    let mut events = drawn_events(&rt, alloc);
     for turn in 0..40_000u32 {
         let hart = (turn % 8) as u8;
-        events.push(Event::Step { hart })?;
+        push(&rt, &mut events, Event::Step { hart });
     }
-    let disk = disk_of(alloc, Image::Tree)?;
+    let disk = disk_of(&rt, alloc, Image::Tree);
     let Ended {
         device,
         outcomes,
         cut: _,
         doubt: _,
-    } = run_over(alloc, disk, events.as_slice())?;
-    let _counts = counts(alloc, device)?;
-    let trace = traced(alloc, &Made { events, outcomes })?;
-    for call in trace.calls.as_slice() {
-        assert!(rt; call.finished.is_some());
-    }
-    assert!(rt; trace.events == 140_000 && trace.calls.as_slice().len() > 1000);
-    Ok(())
+    } = run_over(&rt, alloc, disk, events.as_slice());
+    let _counts = counts(&rt, alloc, device);
+    let trace = traced(&rt, alloc, &Made { events, outcomes });
+    let mut calls = trace.calls.as_slice().iter();
+    assert!(rt; trace.events == 140_000 && calls.len() > 1000);
+    assert!(rt; calls.all(|call| call.finished.is_some()));
 }

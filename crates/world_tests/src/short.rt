@@ -3,6 +3,7 @@
 use crate::histories::{explains, history_of};
 use crate::images::{Image, SMALL, disk_of, tree_in};
 use crate::lists::{are_same, groups_in, mounted, play, ran, traced};
+use crate::memory::copied;
 use crate::rows::Ask::{Link, Mkdir, Open, Read, Unlink, Write};
 use crate::rows::Line::{Do, End, Start, Upto};
 use crate::rows::Says::{Bytes, Count, Done, Fd};
@@ -11,7 +12,6 @@ use block_device::MemoryDisk;
 use fs_machine::Kind;
 use hart_core::{Run, World};
 use plain_tree::{Trace, TracedCall};
-use std::test::Fail;
 
 // The answer of a call that was refused memory, and that of one that wasn't.
 const NO_MEMORY: u8 = 33;
@@ -33,10 +33,10 @@ const LINES: &[Line] = &[
 
 /// A device whose mount is refused memory is handed back unwritten, and mounted then.
 #[test]
-fn of_mount(rt: HostRuntime) -> Result<(), Fail> {
+fn of_mount(rt: HostRuntime) {
     let alloc = rt.alloc();
-    let image = disk_of(alloc, Image::Tree)?.into_bytes();
-    let disk = MemoryDisk::new(image.clone()?);
+    let image = disk_of(&rt, alloc, Image::Tree).into_bytes();
+    let disk = MemoryDisk::new(copied(&rt, alloc, image.as_slice()));
     let _ = println!(rt; "call");
     let came = World::mount(alloc, disk);
     let _ = println!(rt; "done");
@@ -44,30 +44,29 @@ fn of_mount(rt: HostRuntime) -> Result<(), Fail> {
         Ok(world) => (world.unmount(), ANSWERED),
         Err((disk, fault)) => (disk, fault.number()),
     };
-    println!(rt; "answer {answer}")?;
+    let _ = println!(rt; "answer {answer}");
     assert!(rt; answer == ANSWERED || answer == NO_MEMORY);
     let bytes = disk.into_bytes();
     assert!(rt; bytes.as_slice() == image.as_slice());
-    let disk = mounted(alloc, MemoryDisk::new(bytes))?.unmount();
+    let disk = mounted(&rt, alloc, MemoryDisk::new(bytes)).unmount();
     assert!(rt; disk.into_bytes().as_slice() == image.as_slice());
-    Ok(())
 }
 
 /// A world whose run is refused memory is handed back as it was: the same events come to the same on it.
 #[test]
-fn of_run(rt: HostRuntime) -> Result<(), Fail> {
+fn of_run(rt: HostRuntime) {
     let alloc = rt.alloc();
-    let (made, disk) = play(&rt, alloc, disk_of(alloc, SMALL)?, LINES)?;
+    let (made, disk) = play(&rt, alloc, disk_of(&rt, alloc, SMALL), LINES);
     let bytes = disk.into_bytes();
-    let groups = groups_in(alloc, made.outcomes.as_slice())?;
+    let groups = groups_in(&rt, alloc, made.outcomes.as_slice());
     let last = groups.as_slice().last().map(|group| group.leave);
-    let world = mounted(alloc, disk_of(alloc, SMALL)?)?;
+    let world = mounted(&rt, alloc, disk_of(&rt, alloc, SMALL));
     let _ = println!(rt; "call");
     let came = hart_core::run(alloc, world, made.events.as_slice());
     let _ = println!(rt; "done");
     let (run, answer) = match came {
         Ok(run) => (run, ANSWERED),
-        Err((world, _)) => (ran(alloc, world, made.events.as_slice())?, NO_MEMORY),
+        Err((world, _)) => (ran(&rt, alloc, world, made.events.as_slice()), NO_MEMORY),
     };
     let _ = println!(rt; "answer {answer}");
     let Run {
@@ -80,7 +79,6 @@ fn of_run(rt: HostRuntime) -> Result<(), Fail> {
     assert!(rt; are_same(outcomes.as_slice(), made.outcomes.as_slice()));
     assert!(rt; again.as_slice() == bytes.as_slice());
     assert!(rt; cut == last && doubt.is_none());
-    Ok(())
 }
 
 fn is_same_call(one: &TracedCall, other: &TracedCall) -> bool {
@@ -107,58 +105,52 @@ fn is_same_trace(one: &Trace, other: &Trace) -> bool {
 
 /// A trace that was refused memory is told by the next one.
 #[test]
-fn of_trace(rt: HostRuntime) -> Result<(), Fail> {
+fn of_trace(rt: HostRuntime) {
     let alloc = rt.alloc();
-    let (made, _disk) = play(&rt, alloc, disk_of(alloc, SMALL)?, LINES)?;
-    let wanted = traced(alloc, &made)?;
+    let (made, _disk) = play(&rt, alloc, disk_of(&rt, alloc, SMALL), LINES);
+    let wanted = traced(&rt, alloc, &made);
     let _ = println!(rt; "call");
     let came = hart_core::trace(alloc, made.events.as_slice(), made.outcomes.as_slice());
     let _ = println!(rt; "done");
     let (trace, answer) = match came {
         Ok(trace) => (trace, ANSWERED),
-        Err(_) => (traced(alloc, &made)?, NO_MEMORY),
+        Err(_) => (traced(&rt, alloc, &made), NO_MEMORY),
     };
-    println!(rt; "answer {answer}")?;
+    let _ = println!(rt; "answer {answer}");
     assert!(rt; is_same_trace(&trace, &wanted));
-    Ok(())
 }
 
 /// A check that was refused memory answers true the next time, of the same tree.
 #[test]
-fn of_check(rt: HostRuntime) -> Result<(), Fail> {
+fn of_check(rt: HostRuntime) {
     let alloc = rt.alloc();
-    let (made, _disk) = play(&rt, alloc, disk_of(alloc, SMALL)?, LINES)?;
-    let mut disk = disk_of(alloc, SMALL)?;
-    let base = tree_in(alloc, &mut disk)?;
-    let trace = traced(alloc, &made)?;
-    let list = history_of(alloc, &mut disk, &trace)?;
+    let (made, _disk) = play(&rt, alloc, disk_of(&rt, alloc, SMALL), LINES);
+    let mut disk = disk_of(&rt, alloc, SMALL);
+    let base = tree_in(&rt, alloc, &mut disk);
+    let trace = traced(&rt, alloc, &made);
+    let list = history_of(&rt, alloc, &mut disk, &trace);
     let _ = println!(rt; "call");
     let came = plain_tree::check(alloc, &base, &trace, list.as_slice());
     let _ = println!(rt; "done");
-    let answer = match came {
-        Ok(explains) => {
-            assert!(rt; explains);
-            ANSWERED
-        }
-        Err(_) => NO_MEMORY,
+    let (explained, answer) = match came {
+        Ok(explained) => (explained, ANSWERED),
+        Err(_) => (true, NO_MEMORY),
     };
-    println!(rt; "answer {answer}")?;
-    assert!(rt; explains(alloc, &base, &trace, list.as_slice())?);
-    Ok(())
+    let _ = println!(rt; "answer {answer}");
+    assert!(rt; explained && explains(&rt, alloc, &base, &trace, list.as_slice()));
 }
 
 /// No start and no step asks for memory.
 #[test]
-fn of_start_and_step(rt: HostRuntime) -> Result<(), Fail> {
+fn of_start_and_step(rt: HostRuntime) {
     let alloc = rt.alloc();
-    let (made, _disk) = play(&rt, alloc, disk_of(alloc, SMALL)?, LINES)?;
-    let mut world = mounted(alloc, disk_of(alloc, SMALL)?)?;
+    let (made, _disk) = play(&rt, alloc, disk_of(&rt, alloc, SMALL), LINES);
+    let mut world = mounted(&rt, alloc, disk_of(&rt, alloc, SMALL));
     let _ = println!(rt; "call");
     for event in made.events {
         let _ = world.event(event);
     }
     let _ = println!(rt; "done");
     let _disk = world.unmount();
-    println!(rt; "answer {ANSWERED}")?;
-    Ok(())
+    let _ = println!(rt; "answer {ANSWERED}");
 }

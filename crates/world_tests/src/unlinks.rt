@@ -6,7 +6,6 @@ use crate::rows::Line::{All, Do, Start};
 use crate::rows::Says::{Bytes, Done, Failed, Fd, State};
 use crate::rows::{LONGEST, READ, Row};
 use plain_tree::{Cause, NodeType};
-use std::test::Fail;
 
 const ROWS: &[Row] = &[
     // A file goes with its name, and then each directory that has no entry left; its parent has a link fewer.
@@ -106,6 +105,6 @@ const ROWS: &[Row] = &[
 
 /// Each row comes to what it tells, and is run again by its events.
 #[test]
-fn rows_are_run(rt: HostRuntime) -> Result<(), Fail> {
-    are_run(&rt, rt.alloc(), ROWS)
+fn rows_are_run(rt: HostRuntime) {
+    are_run(&rt, rt.alloc(), ROWS);
 }

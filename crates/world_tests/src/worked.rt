@@ -1,6 +1,6 @@
 //! Worked rows, over which each call of the device fails in turn.
 use crate::images::{Image, SMALL, counts, disk_of};
-use crate::lists::{Made, play};
+use crate::lists::{Made, holds, play};
 use crate::rows::Ask::{
     Chdir, Close, Dup, Fill, Fstat, Inherit, Link, Mkdir, Open, Read, Unlink, Write,
 };
@@ -14,7 +14,6 @@ use hart_core::StartRefused;
 use plain_tree::{Cause, Full, NodeType};
 use std::alloc::Global;
 use std::process::Abort;
-use std::test::Fail;
 
 const DOTS: &[u8] = b"\x01\0.\0\0\0\0\0\0\0\0\0\0\0\0\0\x01\0..\0\0\0\0\0\0\0\0\0\0\0\0";
 
@@ -277,28 +276,28 @@ const ROWS: &[Row] = &[
 
 // How many calls of the device a list of events makes behind those of the mount: each of them fails in turn, and that step is stopped,
 // and every one after it. The disk is in order then.
-fn count_stops(rt: &impl Abort, alloc: Global, image: Image, made: &Made) -> Result<u64, Fail> {
-    let first = calls_of_mount(alloc, disk_of(alloc, image)?)?;
+fn count_stops(rt: &impl Abort, alloc: Global, image: Image, made: &Made) -> u64 {
+    let first = calls_of_mount(rt, alloc, disk_of(rt, alloc, image));
     for more in 0..1000 {
         let calls = first.saturating_add(more);
-        let device = Fused::new(disk_of(alloc, image)?, calls);
-        let (device, stop) = stop(rt, alloc, device, made)?;
-        let _counts = counts(alloc, device.into_disk())?;
+        let device = Fused::new(disk_of(rt, alloc, image), calls);
+        let (device, stop) = stop(rt, alloc, device, made);
+        let _counts = counts(rt, alloc, device.into_disk());
         if stop.event.is_none() {
-            return Ok(more);
+            return more;
         }
     }
-    Err(Fail::new("the device is called more than a thousand times"))
+    panic!(rt; "the device is called more than a thousand times")
 }
 
 /// Each row comes to what it tells; and over its list each call of the device fails in turn, until there is none that fails.
 #[test]
-fn each_call_of_the_device_fails(rt: HostRuntime) -> Result<(), Fail> {
-    for (image, row, left) in ROWS {
-        let (made, disk) = play(&rt, rt.alloc(), disk_of(rt.alloc(), *image)?, *row)?;
-        assert_eq!(rt; counts(rt.alloc(), disk)?, *left);
-        let stops = count_stops(&rt, rt.alloc(), *image, &made)?;
-        assert!(rt; stops > 0);
+fn each_call_of_the_device_fails(rt: HostRuntime) {
+    for (number, (image, row, left)) in ROWS.iter().enumerate() {
+        let disk = disk_of(&rt, rt.alloc(), *image);
+        let (made, disk) = play(&rt, rt.alloc(), disk, *row);
+        let is_left = counts(&rt, rt.alloc(), disk) == *left;
+        let stops = count_stops(&rt, rt.alloc(), *image, &made);
+        holds(&rt, is_left && stops > 0, "row", number);
     }
-    Ok(())
 }

@@ -1,6 +1,7 @@
 //! Writes to a file in the root.
 use crate::images::{Image, counts, disk_of};
-use crate::lists::{are_run, play};
+use crate::lists::{are_run, holds, play};
+use crate::memory::push;
 use crate::rows::Ask::{Fill, Fstat, Open, Read, Write};
 use crate::rows::Line::{Do, End, Start, Upto};
 use crate::rows::Says::{Bytes, Count, Failed, Fd, NoRoom, Pattern, Refused, State};
@@ -8,8 +9,8 @@ use crate::rows::{Line, READ, READ_AND_WRITE, Row, TRUNCATE, WRITE};
 use fs_machine::Kind;
 use hart_core::StartRefused;
 use plain_tree::{Cause, Full, NodeType};
-use std::alloc::{AllocError, Global};
-use std::test::Fail;
+use std::alloc::Global;
+use std::process::Abort;
 
 const ROWS: &[Row] = &[
     // No file has more than 274,432 bytes: a piece that would end past them is refused, and those before it stay.
@@ -114,33 +115,39 @@ const ROWS: &[Row] = &[
 
 /// Each row comes to what it tells, and is run again by its events.
 #[test]
-fn rows_are_run(rt: HostRuntime) -> Result<(), Fail> {
-    are_run(&rt, rt.alloc(), ROWS)
+fn rows_are_run(rt: HostRuntime) {
+    are_run(&rt, rt.alloc(), ROWS);
 }
 
 // The lines of a content of so many bytes: it is written in pieces, and read in others by another hart.
 fn lines_of(
+    rt: &impl Abort,
     alloc: Global,
     size: usize,
     written: usize,
     read: usize,
-) -> Result<Vec<Line<'static>>, AllocError> {
+) -> Vec<Line<'static>> {
     let mut lines = Vec::new(alloc);
-    lines.push(Do(0, Open(b"/f", WRITE), Fd(0)))?;
-    lines.push(Do(1, Open(b"/f", READ), Fd(0)))?;
+    push(rt, &mut lines, Do(0, Open(b"/f", WRITE), Fd(0)));
+    push(rt, &mut lines, Do(1, Open(b"/f", READ), Fd(0)));
     for piece in 0..size.div_ceil(written.max(1)) {
         let from = piece.saturating_mul(written);
         let count = written.min(size.saturating_sub(from));
-        lines.push(Do(0, Fill(0, from, count), Count(told(count))))?;
+        push(
+            rt,
+            &mut lines,
+            Do(0, Fill(0, from, count), Count(told(count))),
+        );
     }
     for piece in 0..size.div_ceil(read.max(1)) {
         let from = piece.saturating_mul(read);
-        let count = read.min(size.saturating_sub(from));
-        lines.push(Do(1, Read(0, read), Pattern(from, told(count))))?;
+        let count = told(read.min(size.saturating_sub(from)));
+        push(rt, &mut lines, Do(1, Read(0, read), Pattern(from, count)));
     }
-    lines.push(Do(1, Read(0, read), Count(0)))?;
-    lines.push(Do(0, Fstat(0), State(2, NodeType::File, 1, size as u64)))?;
-    Ok(lines)
+    push(rt, &mut lines, Do(1, Read(0, read), Count(0)));
+    let state = State(2, NodeType::File, 1, size as u64);
+    push(rt, &mut lines, Do(0, Fstat(0), state));
+    lines
 }
 
 // A count as a reply tells it.
@@ -150,7 +157,7 @@ fn told(count: usize) -> u32 {
 
 /// Contents of sizes at which a block or the indirect block begins or ends, written in pieces, and read back in others.
 #[test]
-fn contents_have_all_sizes(rt: HostRuntime) -> Result<(), Fail> {
+fn contents_have_all_sizes(rt: HostRuntime) {
     // The size, the length of a piece written, that of one read, and the blocks of the root and the file.
     let sizes: [(usize, usize, usize, u32); 12] = [
         (0, 1, 1, 1),
@@ -167,10 +174,10 @@ fn contents_have_all_sizes(rt: HostRuntime) -> Result<(), Fail> {
         (274_432, 1021, 274_432, 270),
     ];
     for (size, written, read, blocks) in sizes {
-        let lines = lines_of(rt.alloc(), size, written, read)?;
-        let disk = disk_of(rt.alloc(), Image::WithFile(400, b""))?;
-        let (_made, disk) = play(&rt, rt.alloc(), disk, lines.as_slice())?;
-        assert_eq!(rt; counts(rt.alloc(), disk)?, (2, 0, blocks), "of {size}");
+        let lines = lines_of(&rt, rt.alloc(), size, written, read);
+        let disk = disk_of(&rt, rt.alloc(), Image::WithFile(400, b""));
+        let (_made, disk) = play(&rt, rt.alloc(), disk, lines.as_slice());
+        let counts = counts(&rt, rt.alloc(), disk);
+        holds(&rt, counts == (2, 0, blocks), "of", size);
     }
-    Ok(())
 }
