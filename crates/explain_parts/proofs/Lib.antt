@@ -4,5 +4,6 @@ pub mod Climbing
 pub mod Falling
 pub mod Harts
 pub mod Hearing
+pub mod Seeing
 pub mod Steps
 pub mod Telling

@@ -10,10 +10,8 @@ use Rattle.plain_tree.specs.Widths.{hart_count}
 use Rattle.tree_moves.specs.Moves as moves
 use Rattle.tree_moves.specs.Runs.{lost_of}
 use Rattle.inode_machine.specs.Programs.{program}
-use Rattle.path_walk.specs.Asks.{mark_at, mark_in}
 use Rattle.path_walk.specs.declared.asks.Heard.{Heard}
-use Rattle.path_walk.specs.declared.asks.Mark.{Mark}
-use Rattle.whole_calls.specs.Wholes.{action_in, call_in, whole_of}
+use Rattle.whole_calls.specs.Wholes.{call_in, whole_of}
 use Rattle.whole_calls.specs.declared.whole.Whole.{Whole}
 use Rattle.explain_parts.specs.declared.standing.Walk.{Walk}
 use Rattle.explain_parts.specs.Walks.{walk_of}
@@ -95,14 +93,6 @@ written_by k h new (Some u) = record (with_hart k h (Some (more_made u))) { list
 
 abbrev pub written : KeptTree → ℕ → ℕ → KeptTree
 written k h new = written_by k h new (hart_in k h)
-
--- The hart's call gives its operation this mark, at an answer that it hears; where one was heard, at that.
-pub record IsMarked (k : KeptTree) (h : ℕ) (heard : Option Heard) (m : Mark) : Type 0 where
-  pub under : Under
-  pub answer : Heard
-  pub stands : hart_in k h ≡ Some under
-  pub same : IfSome heard (λ x. answer ≡ x)
-  pub marks : (listed : List ℕ) → mark_at (whole_of listed under.whole) answer ≡ Some (mark_in (action_in under.whole) m)
 
 -- the hart's call after a step, which heard this, or nothing yet
 abbrev pub HeardBy : Option Under → Option Heard → Option Under → Type 0

@@ -1,5 +1,5 @@
 -- What is kept where a call makes a move.
-use Rattle.std.specs.Prelude.{◌≡◌, ℕ, ◌<◌, ◌^◌, ◌⊎◌, Bool, true, false, List, [], ◌∷◌, length, Option, Some, None, slice_index_or}
+use Rattle.std.specs.Prelude.{◌≡◌, ℕ, ◌<◌, ◌^◌, Bool, true, false, List, [], ◌∷◌, length, Option, Some, None, slice_index_or}
 use Rattle.std.specs.Option.{option_map}
 use Rattle.plain_tree.specs.declared.step.Action.{Action}
 use Rattle.plain_tree.specs.declared.step.TreeStep.{TreeStep}
@@ -22,7 +22,8 @@ use Rattle.path_walk.specs.declared.asks.Mark.TheVariants as mark
 use Rattle.whole_calls.specs.Wholes.{action_in}
 use Rattle.explain_parts.specs.declared.kept.Deed.{Deed}
 use Rattle.explain_parts.specs.Books.{IsBook}
-use Rattle.explain_parts.specs.Keeping.{HasHeard, IsMarked, KeptTree, Under, hart_in, is_lost, stage_of, walking, with_walk, written}
+use Rattle.explain_parts.specs.Sights.{MarksBy}
+use Rattle.explain_parts.specs.Keeping.{HasHeard, KeptTree, Under, hart_in, is_lost, stage_of, walking, with_walk, written}
 
 -- The tree makes the step as the move does: the step has its place, its path leads to what was found for the move, and a node that it makes
 -- takes a number that is free.
@@ -137,8 +138,16 @@ pub record MovesBy (k : KeptTree) (h : ℕ) (m : Mark) (k' : KeptTree) : Type 0 
       → IsMoved k h v k'
   pub still : makes_none m ≡ true → k' ≡ k
 
--- A step of the hart's call has run: the move of its mark is made, if it has one, and the call goes on by what it heard.
+-- without a mark nothing changes
+abbrev pub MovesByAny : KeptTree → ℕ → Option Mark → KeptTree → Type 0
+MovesByAny k h None k' = k' ≡ k
+MovesByAny k h (Some m) k' = MovesBy k h m k'
+
+-- A step of the hart's call has run: its operation has this mark there, if it acts; the move of that is made, and the call goes on by what
+-- it heard.
 pub record HasRun (k : KeptTree) (h : ℕ) (heard : Option Heard) (k' : KeptTree) : Type 0 where
+  pub marked : Option Mark
+  pub marks : MarksBy (tree_of k.tree) (hart_in k h) heard marked
   pub between : KeptTree
-  pub moved : (between ≡ k) ⊎ ((m : Mark) × IsMarked k h heard m × MovesBy k h m between)
-  pub heard_so : HasHeard between h heard k'
+  pub moves : MovesByAny k h marked between
+  pub hears : HasHeard between h heard k'

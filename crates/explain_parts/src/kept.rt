@@ -1,15 +1,17 @@
 //! The tree kept beside a run, and the list of the tree steps so far. Each event appends to it; no entry is changed.
-ghost use Rattle.std.specs.Prelude.{◌≡◌, ◌-◌, ◌<◌, ◌^◌, ◌&&◌, ℕ, false, not, None, Some, IfOk, IfSome, MatchOption, slice_index_or};
+ghost use Rattle.std.specs.Prelude.{◌≡◌, ◌-◌, ◌<◌, ◌^◌, ◌&&◌, ℕ, false, not, List, None, Some, IfOk, MatchOption, slice_index_or};
 ghost use Rattle.std.specs.Option.{option_map};
 ghost use Rattle.plain_tree.specs.Tree.{look, tree_of};
 ghost use Rattle.plain_tree.specs.Widths.{hart_count};
 ghost use Rattle.plain_tree.specs.declared.answer.Reply.{Reply};
 ghost use Rattle.tree_moves.specs.History.{History, passes, replies, starts};
 ghost use Rattle.kept_history.specs.Kept.{nothing_yet};
-ghost use Rattle.whole_calls.specs.Wholes.{IsCall, action_in, call_in};
+ghost use Rattle.path_walk.specs.Asks.{asks, op_in};
+ghost use Rattle.whole_calls.specs.Wholes.{IsCall, WholeFits, action_in, call_in, whole_of};
 ghost use Rattle.explain_parts.specs.Books.{IsBook};
-ghost use Rattle.explain_parts.specs.Keeping.{HasHeard, HasStarted, IsMarked, Under, counted, hart_in, is_lost, more_made, nothing_kept, passed, stage_of, with_hart, with_walk, written};
+ghost use Rattle.explain_parts.specs.Keeping.{HasHeard, HasStarted, Under, counted, hart_in, is_lost, more_made, nothing_kept, passed, stage_of, with_hart, with_walk, written};
 ghost use Rattle.explain_parts.specs.Moving.{HasRun, HaveFallen, IsActed, MovesBy, NoneFalls, OnlyMoves, StaysFor, TellsOf, WereLost, told_in, tree_step};
+ghost use Rattle.explain_parts.specs.Sights.{MarksBy, SeenFor, acts_first};
 ghost use Rattle.explain_parts.specs.Walks.{IsNextWalk, step_in, walk_of};
 
 use crate::sees::{is_live_directory, look, sight};
@@ -63,18 +65,23 @@ impl Model for Kept {
 
 // What the operation that was asked for answers where its lock is taken, as far as the tree shows it. What it finds there is read from
 // the device later, and nobody changes it in between.
-fn seen(tree: &Tree, standing: &Standing) -> Heard {
+fn seen(tree: &Tree, standing: &Standing) -> Heard
+    ensures { (listed : List ℕ) → WholeFits listed standing.now.whole
+        → SeenFor (tree_of tree.now) (asks (whole_of listed standing.now.whole)) result }
+{
     match standing.ask() {
         Ask::Take(number, query) => {
             let (path, second) = standing.paths();
-            Heard::Saw(sight(tree, number, query, path, second))
+            Heard::Saw(sight(tree, number, &query, path, second))
         }
         _ => Heard::Locked(Locked::Locks(0, 0)),
     }
 }
 
 // The operation acts where it takes a lock, in its first step; the others act in their last one.
-fn acts_first(ask: &Ask) -> bool {
+fn acts_first(ask: &Ask) -> bool
+    ensures { (text : List ℕ) → result ≡ acts_first (op_in text ask.now) }
+{
     matches!(
         ask,
         Ask::Take(_, _) | Ask::StatFile(_) | Ask::LockFile(_) | Ask::LockOpen(_, _)
@@ -209,16 +216,17 @@ impl Kept {
 
     // The move that is made in this step, if its operation acts here and makes one.
     fn mark(&self, hart: u8, heard: Option<Heard>) -> Option<Mark>
-        ensures { IfSome result (λ m. IsMarked self.now hart heard m) }
+        ensures { MarksBy (tree_of self.now.tree) (hart_in self.now hart) heard result }
     {
         let standing = self.standing(hart)?;
-        if acts_first(&standing.ask()) && standing.has_begun() {
+        let first = acts_first(&standing.ask());
+        if first && standing.has_begun() {
             return None;
         }
         match heard {
             Some(heard) => standing.mark(&heard),
             None => {
-                if !acts_first(&standing.ask()) {
+                if !first {
                     return None;
                 }
                 let heard = seen(&self.tree, standing);

@@ -1,9 +1,10 @@
 //! Paths with the element "..", and replies that there is no room.
-ghost use Rattle.std.specs.Prelude.{◌≡◌, ◌+◌, ◌-◌, ◌<◌, ◌≤◌, [], ◌∷◌, drop, length, take, MatchOption};
+ghost use Rattle.std.specs.Prelude.{◌≡◌, ◌+◌, ◌-◌, ◌<◌, ◌≤◌, ◌++◌, [], ◌∷◌, drop, length, slice_range, take, MatchOption};
 ghost use Rattle.plain_tree.specs.Calls.{call_climbs};
 ghost use Rattle.plain_tree.specs.Code.{with_element};
 ghost use Rattle.plain_tree.specs.Tree.{climbs, dotdot, elements, same_name};
 ghost use Rattle.explain_parts.specs.Told.{any_climbs, any_full, is_full_reply};
+ghost use Rattle.path_walk.specs.Elements.{name_in, IsElement, IsInOne};
 ghost use Rattle.explain_parts.specs.Ends.{IsEnd};
 
 use path_walk::Element;
@@ -72,15 +73,23 @@ pub(crate) fn next_element(path: &[u8]) -> Option<(&[u8], &[u8])>
     None
 }
 
-/// The name of an element, which stands in a path or in the second one behind it; nothing where it stands in neither.
-pub(crate) fn name_in<'a>(path: &'a [u8], second: &'a [u8], element: &Element) -> &'a [u8] {
+// The bytes from one place to another, as far as they are there.
+fn between(bytes: &[u8], from: usize, to: usize) -> &[u8]
+    ensures { result.now ≡ slice_range bytes.now from to }
+{
+    first(rest_of(bytes, from), to.saturating_sub(from))
+}
+
+/// The name of an element, which stands in a path or in the second one behind it.
+pub(crate) fn name_in<'a>(path: &'a [u8], second: &'a [u8], element: &Element) -> &'a [u8]
+    ensures { IsElement (path.now ++ second.now) element.now → IsInOne path.now element.now
+        → result.now ≡ name_in (path.now ++ second.now) element.now }
+{
     let len = path.len();
-    let name = if element.end <= len {
-        path.get(element.start..element.end)
-    } else {
-        second.get(element.start.saturating_sub(len)..element.end - len)
-    };
-    name.unwrap_or(&[])
+    if element.end <= len {
+        return between(path, element.start, element.end);
+    }
+    between(second, element.start.saturating_sub(len), element.end - len)
 }
 
 // The name is "..".

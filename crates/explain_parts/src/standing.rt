@@ -6,7 +6,7 @@ ghost use Rattle.plain_tree.specs.Tree.{elements, is_absolute};
 ghost use Rattle.plain_tree.specs.Widths.{root};
 ghost use Rattle.plain_tree.specs.declared.call.Call.TheVariants as calls;
 ghost use Rattle.path_walk.specs.Asks.{asks, mark_at, marked_as, op_in, piece_of};
-ghost use Rattle.whole_calls.specs.Wholes.{HasRoomFor, IsCall, WholeFits, action_in, call_in, first_in, second_in, text_in, whole_of};
+ghost use Rattle.whole_calls.specs.Wholes.{HasRoomFor, IsCall, WholeAsks, WholeFits, action_in, call_in, first_in, second_in, text_in, whole_of};
 ghost use Rattle.explain_parts.specs.Keeping.{GoesOn, IsNewCall, more_made, walking};
 ghost use Rattle.explain_parts.specs.Walks.{IsWalk, is_on_new, is_past_old, left_to, step_for, step_in, walk_of};
 
@@ -241,8 +241,9 @@ impl Standing {
 
     /// Its next operation, where it has listed these inodes.
     pub(crate) fn ask(&self) -> Ask
-        ensures { (listed : List ℕ) → WholeFits listed self.now.whole
+        ensures asks { (listed : List ℕ) → WholeFits listed self.now.whole
             → asks (whole_of listed self.now.whole) ≡ Some (op_in (text_in self.now.whole) result) }
+        ensures named { (listed : List ℕ) → WholeFits listed self.now.whole → WholeAsks self.now.whole result }
     {
         self.whole.ask()
     }
