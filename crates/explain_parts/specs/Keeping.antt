@@ -1,7 +1,8 @@
 -- What is kept beside a run: a tree, the calls under way with their walks in it, and the list of the steps so far.
-use Rattle.std.specs.Prelude.{◌≡◌, ℕ, ◌+◌, ◌-◌, ◌^◌, min, Bool, true, false, not, List, [], ◌∷◌, ◌++◌, Option, Some, None, IfSome, replicate, slice_index_or, slice_set}
+use Rattle.std.specs.Prelude.{◌≡◌, ◌<◌, ◌⊎◌, ℕ, ◌+◌, ◌-◌, ◌^◌, min, Bool, true, false, not, List, [], ◌∷◌, ◌++◌, length, Option, Some, None, replicate, slice_index_or, slice_set}
 use Rattle.std.specs.Option.{option_map}
 use Rattle.history_search.specs.declared.explore.Hint.{Hint}
+use Rattle.plain_tree.specs.declared.answer.Answer.{Answer}
 use Rattle.plain_tree.specs.declared.call.Call.{Call}
 use Rattle.plain_tree.specs.Steps.{is_nothing}
 use Rattle.plain_tree.specs.Tree.{tree_of}
@@ -10,29 +11,45 @@ use Rattle.plain_tree.specs.Widths.{hart_count}
 use Rattle.tree_moves.specs.Moves as moves
 use Rattle.tree_moves.specs.Runs.{lost_of}
 use Rattle.inode_machine.specs.Programs.{program}
+use Rattle.atomic_programs.specs.Prog.{Ret}
+use Rattle.path_walk.specs.Asks.{count_in, hears, reply_to}
 use Rattle.path_walk.specs.declared.asks.Heard.{Heard}
-use Rattle.whole_calls.specs.Wholes.{call_in, whole_of}
+use Rattle.whole_calls.specs.Wholes.{call_in, text_in, whole_of}
 use Rattle.whole_calls.specs.declared.whole.Whole.{Whole}
+use Rattle.whole_calls.specs.declared.whole.Whole.TheVariants as calling
 use Rattle.explain_parts.specs.declared.standing.Walk.{Walk}
 use Rattle.explain_parts.specs.Walks.{walk_of}
 
--- A call under way: its place in the trace, how many steps it has made, how far it has come, its walk, if it is on one, and whether a step
--- of its present operation has run.
+-- A call under way: its place in the trace, how many steps it has made, how far it has come, the inodes that it has listed, its walk, if
+-- it is on one, and whether a step of its present operation has run.
 pub record Under : Type 0 where
   pub id : ℕ
   pub made : ℕ
   pub whole : Whole
+  pub listed : List ℕ
   pub walk : Option Walk
   pub has_begun : Bool
 
 -- a call that begins, the one at this place of the trace
 abbrev pub IsNewCall : ℕ → Call → Under → Type 0
 IsNewCall id call u =
-    (u.id ≡ id) × (u.made ≡ 0) × (u.walk ≡ None) × (u.has_begun ≡ false) × (call_in u.whole ≡ call) × (whole_of [] u.whole ≡ program call)
+    (u.id ≡ id) × (u.made ≡ 0) × (u.walk ≡ None) × (u.has_begun ≡ false) × (call_in u.whole ≡ call) × (whole_of u.listed u.whole ≡ program call)
 
--- the same call, on the same walk, at its next operation
-abbrev pub GoesOn : Under → Under → Type 0
-GoesOn u v = (v.id ≡ u.id) × (v.made ≡ u.made) × (v.walk ≡ u.walk) × (v.has_begun ≡ false) × (call_in v.whole ≡ call_in u.whole)
+-- more was heard to be read than the call's buffer has
+abbrev pub ReadsTooMuch : Heard → Whole → Type 0
+ReadsTooMuch x (calling.Read fd buf c) = length buf.items < count_in x
+ReadsTooMuch x w = ⊥
+
+-- the same call, on the same walk, at the operation that comes after this answer
+pub record GoesOn (u : Under) (x : Heard) (v : Under) : Type 0 where
+  pub same : (v.id ≡ u.id) × (v.made ≡ u.made) × (v.walk ≡ u.walk) × (v.has_begun ≡ false) × (call_in v.whole ≡ call_in u.whole)
+  pub program : hears (text_in u.whole) (whole_of u.listed u.whole) x ≡ whole_of v.listed v.whole
+
+-- .. or it has ended, with a reply
+abbrev pub HearsSo : Under → Heard → Option Under → Type 0
+HearsSo u x (Some v) = GoesOn u x v
+HearsSo u x None = ReadsTooMuch x u.whole
+    ⊎ ((a : Answer) × (hears (text_in u.whole) (whole_of u.listed u.whole) x ≡ Ret (reply_to (call_in u.whole) a)))
 
 -- a number, as far as it fits; one more
 abbrev pub capped : ℕ → ℕ
@@ -98,7 +115,7 @@ written k h new = written_by k h new (hart_in k h)
 abbrev pub HeardBy : Option Under → Option Heard → Option Under → Type 0
 HeardBy None x o = o ≡ None
 HeardBy (Some u) None o = o ≡ Some (record u { has_begun = true })
-HeardBy (Some u) (Some x) o = IfSome o (GoesOn u)
+HeardBy (Some u) (Some x) o = HearsSo u x o
 
 pub record HasHeard (k : KeptTree) (h : ℕ) (heard : Option Heard) (k' : KeptTree) : Type 0 where
   pub under : Option Under

@@ -1,5 +1,5 @@
 //! A call under way, and its walk in the kept tree.
-ghost use Rattle.std.specs.Prelude.{◌≡◌, ◌∷◌, ℕ, false, true, if◌then◌else◌, List, Option, Some, IfOk, IfSome, IsTrue};
+ghost use Rattle.std.specs.Prelude.{◌≡◌, ◌∷◌, ℕ, false, true, if◌then◌else◌, List, Option, Some, IfOk, IsTrue};
 ghost use Rattle.plain_tree.specs.Calls.{piece};
 ghost use Rattle.plain_tree.specs.Steps.{path_of};
 ghost use Rattle.plain_tree.specs.Tree.{elements, is_absolute};
@@ -7,7 +7,7 @@ ghost use Rattle.plain_tree.specs.Widths.{root};
 ghost use Rattle.plain_tree.specs.declared.call.Call.TheVariants as calls;
 ghost use Rattle.path_walk.specs.Asks.{asks, mark_at, marked_as, op_in, piece_of};
 ghost use Rattle.whole_calls.specs.Wholes.{HasRoomFor, IsCall, WholeAsks, WholeFits, action_in, call_in, first_in, second_in, text_in, whole_of};
-ghost use Rattle.explain_parts.specs.Keeping.{GoesOn, IsNewCall, more_made, walking};
+ghost use Rattle.explain_parts.specs.Keeping.{HearsSo, IsNewCall, ReadsTooMuch, more_made, walking};
 ghost use Rattle.explain_parts.specs.Walks.{IsWalk, is_on_new, is_past_old, left_to, step_for, step_in, walk_of};
 
 use crate::paths::{first, next_element, rest_of};
@@ -49,14 +49,15 @@ impl Model for Standing {
 
     ghost Value = { Under };
 
-    ghost view = { λ s. record { id = s.id; made = s.made; whole = s.whole; walk = s.walk; has_begun = s.has_begun } };
+    ghost view = { λ s. record { id = s.id; made = s.made; whole = s.whole; listed = s.list; walk = s.walk; has_begun = s.has_begun } };
 
     ghost invariant = { λ s. WholeFits s.list s.whole };
 }
 
 // Whether no more was heard to be read than the call's buffer has.
 fn has_room(whole: &Whole, heard: &Heard) -> bool
-    ensures { IsTrue result → HasRoomFor heard.now whole.now }
+    ensures room { IsTrue result → HasRoomFor heard.now whole.now }
+    ensures none { result ≡ false → ReadsTooMuch heard.now whole.now }
 {
     match (whole, heard) {
         (Whole::Read { buf, .. }, Heard::Read(count)) => *count <= buf.len(),
@@ -264,7 +265,7 @@ impl Standing {
 
     /// It goes on with what it heard; none where it has ended.
     pub(crate) fn hear(self, heard: &Heard) -> Option<Standing>
-        ensures { IfSome result (λ s. GoesOn self s) }
+        ensures { HearsSo self heard.now result }
     {
         let Standing {
             id,
@@ -277,7 +278,10 @@ impl Standing {
         let mut whole = whole;
         let mut list = list;
         let mut says = Answer::Done;
-        if !has_room(&whole, heard) || whole.next(heard, &mut list, &mut says) {
+        if !has_room(&whole, heard) {
+            return None;
+        }
+        if whole.next(heard, &mut list, &mut says) {
             return None;
         }
         Some(Standing {
