@@ -1,9 +1,10 @@
 //! What harts call at work in one directory: rows with the answers that they may have.
-use crate::kernels::bytes;
+use crate::kernels::{bytes, copied, push};
 use crate::runs::Left;
 use hart_core::{Came, Event, Outcome};
 use plain_tree::{Answer, Bytes, Call, Cause, Reply};
-use std::alloc::{AllocError, Global};
+use std::alloc::Global;
+use std::process::Abort;
 
 // To write, where it may be made.
 const CREATE: u32 = 0x201;
@@ -95,51 +96,51 @@ pub const SWEEP: [Row; 4] = [
     (Ask::Unlink(Name::Shared(3)), MADE, GONE),
 ];
 
-fn path(alloc: Global, hart: u8, name: Name) -> Result<Bytes, AllocError> {
+fn path(rt: &impl Abort, alloc: Global, hart: u8, name: Name) -> Bytes {
     let (letter, number) = match name {
         Name::Mine => (b'n', hart & 7),
         Name::Other => (b'm', hart & 7),
         Name::Shared(number) => (b's', hart.wrapping_add(number) & 3),
     };
-    bytes(alloc, &[b'/', letter, b'0' | number])
+    bytes(rt, alloc, &[b'/', letter, b'0' | number])
 }
 
 /// A hart's call.
-pub fn call_of(alloc: Global, hart: u8, ask: Ask) -> Result<Call, AllocError> {
-    Ok(match ask {
+pub fn call_of(rt: &impl Abort, alloc: Global, hart: u8, ask: Ask) -> Call {
+    match ask {
         Ask::Open(name, flags) => Call::Open {
-            path: path(alloc, hart, name)?,
+            path: path(rt, alloc, hart, name),
             flags,
         },
         Ask::Write(fd) => Call::Write {
             fd,
-            bytes: bytes(alloc, &[hart; WRITTEN])?,
+            bytes: bytes(rt, alloc, &[hart; WRITTEN]),
         },
         Ask::Read(fd) => Call::Read {
             fd,
-            buf: bytes(alloc, &[UNREAD; 4])?,
+            buf: bytes(rt, alloc, &[UNREAD; 4]),
         },
         Ask::Mkdir(name) => Call::Mkdir {
-            path: path(alloc, hart, name)?,
+            path: path(rt, alloc, hart, name),
         },
         Ask::Link(name) => Call::Link {
-            old: path(alloc, hart, Name::Mine)?,
-            new: path(alloc, hart, name)?,
+            old: path(rt, alloc, hart, Name::Mine),
+            new: path(rt, alloc, hart, name),
         },
         Ask::Unlink(name) => Call::Unlink {
-            path: path(alloc, hart, name)?,
+            path: path(rt, alloc, hart, name),
         },
         Ask::Close(fd) => Call::Close { fd },
-    })
+    }
 }
 
 /// What a hart calls by these rows, in their order.
-pub fn calls_of(alloc: Global, hart: u8, rows: &[Row]) -> Result<Vec<Call>, AllocError> {
+pub fn calls_of(rt: &impl Abort, alloc: Global, hart: u8, rows: &[Row]) -> Vec<Call> {
     let mut calls = Vec::new(alloc);
     for (ask, _, _) in rows {
-        calls.push(call_of(alloc, hart, *ask)?)?;
+        push(rt, &mut calls, call_of(rt, alloc, hart, *ask));
     }
-    Ok(calls)
+    calls
 }
 
 // Whether a call is handed back as it may be: a read with what the hart has written.
@@ -158,25 +159,24 @@ pub struct Rounds {
 
 impl Rounds {
     /// The same rows for each hart.
-    pub fn new(alloc: Global, rows: &[Row]) -> Result<Rounds, AllocError> {
+    pub fn new(rt: &impl Abort, alloc: Global, rows: &[Row]) -> Rounds {
         let harts = [
-            Vec::from_slice(alloc, rows)?,
-            Vec::from_slice(alloc, rows)?,
-            Vec::from_slice(alloc, rows)?,
-            Vec::from_slice(alloc, rows)?,
-            Vec::from_slice(alloc, rows)?,
-            Vec::from_slice(alloc, rows)?,
-            Vec::from_slice(alloc, rows)?,
-            Vec::from_slice(alloc, rows)?,
+            copied(rt, alloc, rows),
+            copied(rt, alloc, rows),
+            copied(rt, alloc, rows),
+            copied(rt, alloc, rows),
+            copied(rt, alloc, rows),
+            copied(rt, alloc, rows),
+            copied(rt, alloc, rows),
+            copied(rt, alloc, rows),
         ];
-        Ok(Rounds { harts })
+        Rounds { harts }
     }
 
     /// Further rows for a hart.
-    pub fn add(&mut self, hart: u8, rows: &[Row]) -> Result<(), AllocError> {
-        match self.harts.get_mut(usize::from(hart)) {
-            Some(all) => all.extend_from_slice(rows),
-            None => Ok(()),
+    pub fn add(&mut self, rt: &impl Abort, hart: u8, rows: &[Row]) {
+        if let Some(all) = self.harts.get_mut(usize::from(hart)) {
+            all.extend_from_slice(rows).expect(rt, "error");
         }
     }
 
@@ -189,17 +189,17 @@ impl Rounds {
     }
 
     /// The calls of each hart.
-    pub fn calls(&self, alloc: Global) -> Result<[Vec<Call>; 8], AllocError> {
-        Ok([
-            calls_of(alloc, 0, self.rows(0))?,
-            calls_of(alloc, 1, self.rows(1))?,
-            calls_of(alloc, 2, self.rows(2))?,
-            calls_of(alloc, 3, self.rows(3))?,
-            calls_of(alloc, 4, self.rows(4))?,
-            calls_of(alloc, 5, self.rows(5))?,
-            calls_of(alloc, 6, self.rows(6))?,
-            calls_of(alloc, 7, self.rows(7))?,
-        ])
+    pub fn calls(&self, rt: &impl Abort, alloc: Global) -> [Vec<Call>; 8] {
+        [
+            calls_of(rt, alloc, 0, self.rows(0)),
+            calls_of(rt, alloc, 1, self.rows(1)),
+            calls_of(rt, alloc, 2, self.rows(2)),
+            calls_of(rt, alloc, 3, self.rows(3)),
+            calls_of(rt, alloc, 4, self.rows(4)),
+            calls_of(rt, alloc, 5, self.rows(5)),
+            calls_of(rt, alloc, 6, self.rows(6)),
+            calls_of(rt, alloc, 7, self.rows(7)),
+        ]
     }
 
     // Whether a hart's reply, before which it had so many others, is one that its row may have.

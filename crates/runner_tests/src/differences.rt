@@ -1,18 +1,19 @@
 //! What a closed kernel holds, and which replies it tells from those of its list.
 ghost use Rattle.std.specs.Prelude.{◌≡◌};
 
-use crate::kernels::{all_of, bytes, called, first_two, image_with_f, no_kernel};
+use crate::kernels::{
+    all_of, called, closed, copied, first_two, image_with_f, mkdir, no_kernel, open, push, read,
+};
 use crate::runs::left_by;
 use hart_core::trace;
 use hart_runner::{Kernel, NoGate, Seat};
 use locked_world::{Closed, is_same};
 use plain_tree::{Answer, Call, Cause, Reply, TracedCall};
-use std::alloc::{AllocError, Global};
+use std::alloc::Global;
 use std::marker::Brand;
 use std::process::Abort;
 use std::sync::Wait;
 use std::sync::ledger::{Blank, Ledger};
-use std::test::Fail;
 
 // The kernel's disk passes so many calls, which are more than it needs.
 const FUSE: u64 = 1_000_000;
@@ -70,20 +71,6 @@ const ROWS: [Row; 18] = [
     ),
 ];
 
-fn open(alloc: Global, path: &[u8]) -> Result<Call, AllocError> {
-    Ok(Call::Open {
-        path: bytes(alloc, path)?,
-        flags: 0,
-    })
-}
-
-fn read(alloc: Global, buf: &[u8; 16]) -> Result<Call, AllocError> {
-    Ok(Call::Read {
-        fd: 1,
-        buf: bytes(alloc, buf)?,
-    })
-}
-
 // The calls of hart 0 in their order, and that of hart 1.
 #[derive(Drop)]
 struct Calls {
@@ -94,25 +81,23 @@ struct Calls {
 }
 
 // The calls, of which one reads over these bytes.
-fn calls_over(alloc: Global, buf: &[u8; 16]) -> Result<Calls, AllocError> {
-    Ok(Calls {
-        file: open(alloc, b"/f")?,
-        root: open(alloc, b"/")?,
-        entry: read(alloc, buf)?,
-        directory: Call::Mkdir {
-            path: bytes(alloc, b"/a")?,
-        },
-    })
+fn calls_over(rt: &impl Abort, alloc: Global, buf: &[u8; 16]) -> Calls {
+    Calls {
+        file: open(rt, alloc, b"/f"),
+        root: open(rt, alloc, b"/"),
+        entry: read(rt, alloc, 1, buf),
+        directory: mkdir(rt, alloc, b"/a"),
+    }
 }
 
 // What the calls are answered.
-fn replies(alloc: Global) -> Result<Vec<Reply>, AllocError> {
+fn replies(rt: &impl Abort, alloc: Global) -> Vec<Reply> {
     let Calls {
         file,
         root,
         entry,
         directory,
-    } = calls_over(alloc, &DOT)?;
+    } = calls_over(rt, alloc, &DOT);
     let rows = [
         (Answer::Fd(0), file),
         (Answer::Fd(1), root),
@@ -121,48 +106,49 @@ fn replies(alloc: Global) -> Result<Vec<Reply>, AllocError> {
     ];
     let mut replies = Vec::new(alloc);
     for (answer, call) in rows {
-        replies.push(Reply { answer, call })?;
+        push(rt, &mut replies, Reply { answer, call });
     }
-    Ok(replies)
+    replies
 }
 
 // What one of these replies is said to have been.
-fn say(alloc: Global, replies: &[Reply], said: Said) -> Result<Option<Reply>, AllocError> {
-    let place = match said {
-        Said::Had(place) => place,
-        Said::Answered(place) => place,
-        Said::HandedBack(place) => place,
+fn say(rt: &impl Abort, alloc: Global, replies: &[Reply], said: Said) -> Option<Reply> {
+    let (place, is_answered, is_handed_back) = match said {
+        Said::Had(place) => (place, true, true),
+        Said::Answered(place) => (place, false, true),
+        Said::HandedBack(place) => (place, true, false),
     };
-    let Some(reply) = replies.get(place) else {
-        return Ok(None);
+    let reply = replies.get(place)?;
+    let answer = if is_answered {
+        reply.answer
+    } else {
+        Answer::Failed(Cause::NoEntry)
     };
-    let mut answer = reply.answer;
-    let mut call = reply.call.clone()?;
-    match said {
-        Said::Had(_) => {}
-        Said::Answered(_) => answer = Answer::Failed(Cause::NoEntry),
-        Said::HandedBack(_) => call = read(alloc, &UNREAD)?,
-    }
-    Ok(Some(Reply { answer, call }))
+    let call = if is_handed_back {
+        reply.call.clone().expect(rt, "error")
+    } else {
+        read(rt, alloc, 1, &UNREAD)
+    };
+    Some(Reply { answer, call })
 }
 
-fn say_all(alloc: Global, replies: &[Reply], row: &[Said]) -> Result<Vec<Reply>, AllocError> {
+fn say_all(rt: &impl Abort, alloc: Global, replies: &[Reply], row: &[Said]) -> Vec<Reply> {
     let mut all = Vec::new(alloc);
     for said in row {
-        if let Some(reply) = say(alloc, replies, *said)? {
-            all.push(reply)?;
+        if let Some(reply) = say(rt, alloc, replies, *said) {
+            push(rt, &mut all, reply);
         }
     }
-    Ok(all)
+    all
 }
 
 // Harts 0 and 1 make the calls.
-fn make_calls<L: Ledger, R: Wait>(
+fn make_calls<L: Ledger, R: Wait + Abort>(
     rt: &R,
     kernel: Kernel<L, NoGate>,
     seats: [Seat<L>; 8],
     calls: Calls,
-) -> Result<Closed<L>, Fail>
+) -> Closed<L>
     requires { L.parts ≡ 8 }
 {
     let (a, b, others) = first_two(seats);
@@ -176,19 +162,16 @@ fn make_calls<L: Ledger, R: Wait>(
     let (a, _) = called(rt, &kernel, a, root);
     let (a, _) = called(rt, &kernel, a, entry);
     let (b, _) = called(rt, &kernel, b, directory);
-    match kernel.close(all_of(a, b, others)) {
-        Ok(closed) => Ok(closed),
-        Err(_) => Err(Fail::new("no close")),
-    }
+    closed(rt, kernel, all_of(a, b, others))
 }
 
-fn close_on<L: Ledger, R: Wait>(
+fn close_on<L: Ledger, R: Wait + Abort>(
     rt: &R,
     alloc: Global,
     blank: Blank,
     image: Vec<u8>,
     calls: Calls,
-) -> Result<Closed<L>, Fail>
+) -> Closed<L>
     requires name { blank.name ≡ L.name }
     requires parts { blank.parts ≡ L.parts }
     requires eight { blank.parts ≡ 8 }
@@ -198,7 +181,7 @@ fn close_on<L: Ledger, R: Wait>(
             let (kernel, seats) = opened;
             make_calls(rt, kernel, seats, calls)
         }
-        Err(fault) => Err(no_kernel(fault)),
+        Err(fault) => no_kernel(rt, fault),
     }
 }
 
@@ -210,37 +193,23 @@ fn is_answered(call: &TracedCall, reply: &Reply) -> bool {
 }
 
 // The events and outcomes show the calls with these replies.
-fn shows<L: Ledger>(
-    rt: &impl Abort,
-    alloc: Global,
-    closed: Closed<L>,
-    replies: &[Reply],
-) -> Result<(), Fail> {
-    let left = left_by(alloc, closed)?;
-    let Ok(trace) = trace(alloc, left.events.as_slice(), left.outcomes.as_slice()) else {
-        return Err(Fail::from(AllocError));
-    };
+fn shows<L: Ledger>(rt: &impl Abort, alloc: Global, closed: Closed<L>, replies: &[Reply]) {
+    let left = left_by(rt, alloc, closed);
+    let trace = trace(alloc, left.events.as_slice(), left.outcomes.as_slice()).expect(rt, "error");
     let calls = trace.calls.as_slice();
-    assert_eq!(rt; calls.len(), replies.len());
+    assert!(rt; calls.len() == replies.len());
     for (call, reply) in calls.iter().zip(replies.iter()) {
-        assert!(rt; is_answered(call, reply), "of hart {}", call.hart);
+        assert!(rt; is_answered(call, reply));
     }
-    Ok(())
 }
 
 // Each row differs where it says.
-fn differs<L: Ledger>(
-    rt: &impl Abort,
-    alloc: Global,
-    closed: &Closed<L>,
-    replies: &[Reply],
-) -> Result<(), Fail> {
+fn differs<L: Ledger>(rt: &impl Abort, alloc: Global, closed: &Closed<L>, replies: &[Reply]) {
     for (number, (hart, row, wanted)) in ROWS.iter().enumerate() {
-        let all = say_all(alloc, replies, *row)?;
+        let all = say_all(rt, alloc, replies, *row);
         let place = closed.difference(*hart, all.as_slice());
-        assert_eq!(rt; place, *wanted, "row {number}");
+        assert!(rt; place == *wanted, "row {number}");
     }
-    Ok(())
 }
 
 fn look_into<L: Ledger, R: Wait + Abort>(
@@ -249,29 +218,29 @@ fn look_into<L: Ledger, R: Wait + Abort>(
     blank: Blank,
     image: &[u8],
     replies: &[Reply],
-) -> Result<(), Fail>
+)
     requires name { blank.name ≡ L.name }
     requires parts { blank.parts ≡ L.parts }
     requires eight { blank.parts ≡ 8 }
 {
-    let copy = Vec::from_slice(alloc, image)?;
-    let closed = close_on::<L, R>(rt, alloc, blank, copy, calls_over(alloc, &UNREAD)?)?;
+    let (copy, calls) = (copied(rt, alloc, image), calls_over(rt, alloc, &UNREAD));
+    let closed = close_on::<L, R>(rt, alloc, blank, copy, calls);
     assert!(rt; closed.image() == image && closed.fuse() == FUSE);
-    differs(rt, alloc, &closed, replies)?;
-    shows(rt, alloc, closed, replies)
+    differs(rt, alloc, &closed, replies);
+    shows(rt, alloc, closed, replies);
 }
 
 /// A closed kernel has the image and the fuse that it was opened with, and its events show the calls with their replies. It finds the first
 /// place at which other replies are not a hart's: where one is missing, is too many, stands at another's place, or has another answer or call.
 #[test]
-fn replies_differ(rt: HostRuntime) -> Result<(), Fail> {
+fn replies_differ(rt: HostRuntime) {
     let alloc = rt.alloc();
-    let (image, wanted) = (image_with_f(alloc)?, replies(alloc)?);
+    let (image, wanted) = (image_with_f(&rt, alloc), replies(&rt, alloc));
     look_into::<Brand, HostRuntime>(
         &rt,
         alloc,
         Blank::new(8),
         image.as_slice(),
         wanted.as_slice(),
-    )
+    );
 }

@@ -1,59 +1,101 @@
-//! What the tests have in common: images, seats, and calls of a kernel.
+//! What the tests have in common: memory, images, seats, and calls of a kernel. Where memory for a test is refused, it says so, and ends.
+ghost use Rattle.std.specs.Prelude.{◌≡◌};
+
 use hart_runner::{CallFault, Gate, Kernel, Seat};
 use image_tree::MountFault;
-use locked_world::{Halt, Receipt};
+use locked_world::{Closed, Halt, Receipt};
 use mkfs::{NewFile, make};
 use plain_tree::{Bytes, Call, Reply};
-use std::alloc::{AllocError, Global};
+use std::alloc::Global;
+use std::process::Abort;
 use std::sync::Wait;
 use std::sync::ledger::Ledger;
-use std::test::Fail;
 
 /// What a call came to: its reply, or why it was stopped, where it was started.
 pub type Came = Result<Reply, Option<Halt>>;
 
-pub fn bytes(alloc: Global, bytes: &[u8]) -> Result<Bytes, AllocError> {
-    Ok(Bytes::new(Vec::from_slice(alloc, bytes)?))
+/// One item more.
+pub fn push<T: Drop>(rt: &impl Abort, items: &mut Vec<T>, item: T) {
+    assert!(rt; items.push(item).is_ok(), "error: AllocError");
 }
 
-// A new image of so many blocks and inodes, whose root has these files.
-fn made(alloc: Global, size: u32, ninodes: u32, files: &[NewFile]) -> Result<Vec<u8>, AllocError> {
-    match make(alloc, size, ninodes, files) {
-        Ok(disk) => Ok(disk.into_bytes()),
-        Err(_) => Err(AllocError),
+/// Items of their own.
+pub fn copied<T: Copy>(rt: &impl Abort, alloc: Global, items: &[T]) -> Vec<T> {
+    Vec::from_slice(alloc, items).expect(rt, "error")
+}
+
+pub fn bytes(rt: &impl Abort, alloc: Global, bytes: &[u8]) -> Bytes {
+    Bytes::new(copied(rt, alloc, bytes))
+}
+
+/// An open to read.
+pub fn open(rt: &impl Abort, alloc: Global, path: &[u8]) -> Call {
+    Call::Open {
+        path: bytes(rt, alloc, path),
+        flags: 0,
     }
 }
 
+pub fn mkdir(rt: &impl Abort, alloc: Global, path: &[u8]) -> Call {
+    Call::Mkdir {
+        path: bytes(rt, alloc, path),
+    }
+}
+
+/// A read over these bytes, or as it is handed back with them.
+pub fn read(rt: &impl Abort, alloc: Global, fd: u32, buf: &[u8; 16]) -> Call {
+    Call::Read {
+        fd,
+        buf: bytes(rt, alloc, buf),
+    }
+}
+
+// A new image of so many blocks and inodes, whose root has these files.
+fn made(rt: &impl Abort, alloc: Global, size: u32, ninodes: u32, files: &[NewFile]) -> Vec<u8> {
+    let disk = make(alloc, size, ninodes, files).expect(rt, "error");
+    disk.into_bytes()
+}
+
 /// An image of 60 blocks and 16 inodes, and a root without names.
-pub fn image(alloc: Global) -> Result<Vec<u8>, AllocError> {
-    made(alloc, 60, 16, &[])
+pub fn image(rt: &impl Abort, alloc: Global) -> Vec<u8> {
+    made(rt, alloc, 60, 16, &[])
 }
 
 /// An image of 200 blocks and 64 inodes, and a root without names: room for all that eight harts make at once.
-pub fn roomy_image(alloc: Global) -> Result<Vec<u8>, AllocError> {
-    made(alloc, 200, 64, &[])
+pub fn roomy_image(rt: &impl Abort, alloc: Global) -> Vec<u8> {
+    made(rt, alloc, 200, 64, &[])
 }
 
 /// The image that `mkfs` makes where nothing else is asked: 2000 blocks and 200 inodes, and a root without names.
-pub fn fresh_image(alloc: Global) -> Result<Vec<u8>, AllocError> {
-    made(alloc, 2000, 200, &[])
+pub fn fresh_image(rt: &impl Abort, alloc: Global) -> Vec<u8> {
+    made(rt, alloc, 2000, 200, &[])
 }
 
 /// The fresh image with the file `/f`, which has no bytes.
-pub fn image_with_f(alloc: Global) -> Result<Vec<u8>, AllocError> {
+pub fn image_with_f(rt: &impl Abort, alloc: Global) -> Vec<u8> {
     let file = NewFile {
-        name: Vec::from_slice(alloc, b"f")?,
+        name: copied(rt, alloc, b"f"),
         content: Vec::new(alloc),
     };
-    made(alloc, 2000, 200, &[file])
+    made(rt, alloc, 2000, 200, &[file])
 }
 
-/// Why a test has no kernel.
-pub fn no_kernel(fault: MountFault) -> Fail {
-    match fault {
-        MountFault::NoMemory => Fail::from(AllocError),
-        MountFault::DeviceFault => Fail::from("no kernel: the device failed"),
-        MountFault::Damaged(_) => Fail::from("no kernel: the image is damaged"),
+/// Ends a test that has no kernel.
+pub fn no_kernel(rt: &impl Abort, fault: MountFault) -> ! {
+    panic!(rt; "error: {fault:?}")
+}
+
+/// A kernel that is closed, with all its seats.
+pub fn closed<L: Ledger, G: Gate + Drop>(
+    rt: &impl Abort,
+    kernel: Kernel<L, G>,
+    seats: [Seat<L>; 8],
+) -> Closed<L>
+    requires { L.parts ≡ 8 }
+{
+    match kernel.close(seats) {
+        Ok(closed) => closed,
+        Err(_) => panic!(rt; "no close"),
     }
 }
 

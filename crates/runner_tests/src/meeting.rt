@@ -1,17 +1,16 @@
 //! Two harts that meet, by a gate which holds one of them.
 ghost use Rattle.std.specs.Prelude.{◌≡◌};
 
-use crate::kernels::{Came, all_of, bytes, called, first_two, image, no_kernel};
+use crate::kernels::{Came, all_of, called, closed, first_two, image, mkdir, no_kernel, open};
 use hart_core::Event;
 use hart_runner::{Gate, Kernel, Seat};
-use image_tree::MountFault;
 use plain_tree::{Answer, Call, Cause};
-use std::alloc::{AllocError, Global};
+use std::alloc::Global;
 use std::marker::Brand;
+use std::process::Abort;
 use std::sync::Wait;
 use std::sync::atomic::{AtomicBool, Ordering};
 use std::sync::ledger::{Blank, Ledger};
-use std::test::Fail;
 use std::thread;
 use std::thread::Threads;
 use std::time::{Clock, Duration};
@@ -69,12 +68,6 @@ fn steps_before(events: &[Event]) -> usize {
     before
 }
 
-fn mkdir(alloc: Global, path: &[u8]) -> Result<Call, AllocError> {
-    Ok(Call::Mkdir {
-        path: bytes(alloc, path)?,
-    })
-}
-
 #[derive(Drop)]
 struct Calls {
     // what hart 0 makes before
@@ -86,16 +79,13 @@ struct Calls {
     other: Call,
 }
 
-fn make_calls(alloc: Global) -> Result<Calls, AllocError> {
-    Ok(Calls {
-        first: mkdir(alloc, b"/a")?,
-        second: mkdir(alloc, b"/b")?,
-        held: Call::Open {
-            path: bytes(alloc, b"/a/x")?,
-            flags: 0,
-        },
-        other: mkdir(alloc, b"/b/x")?,
-    })
+fn make_calls(rt: &impl Abort, alloc: Global) -> Calls {
+    Calls {
+        first: mkdir(rt, alloc, b"/a"),
+        second: mkdir(rt, alloc, b"/b"),
+        held: open(rt, alloc, b"/a/x"),
+        other: mkdir(rt, alloc, b"/b/x"),
+    }
 }
 
 fn call_held<L: Ledger, G: Gate + Drop, R: Wait>(
@@ -122,18 +112,25 @@ fn call_meeting<L: Ledger, G: Gate + Drop, R: Wait + Clock>(
     made
 }
 
-// What two calls that met are answered, and how many of the first one's steps stand before the start of the second.
-type Met = (Answer, Answer, usize);
+// What two calls that met are answered, where they are, and how many of the first one's steps stand before the start of the second.
+type Met = (Option<Answer>, Option<Answer>, usize);
 
-// The meeting of two harts. None where a call isn't answered, the close is strange, or its events find no memory.
-fn met<L: Ledger + Send + Sync, G: Gate + Drop + Sync, R: Threads + Wait + Clock + Sync>(
+fn answer_of(came: &Came) -> Option<Answer> {
+    match came {
+        Ok(reply) => Some(reply.answer),
+        Err(_) => None,
+    }
+}
+
+// The meeting of two harts.
+fn met<L: Ledger + Send + Sync, G: Gate + Drop + Sync, R: Threads + Wait + Clock + Abort + Sync>(
     rt: &R,
     alloc: Global,
     kernel: Kernel<L, G>,
     seats: [Seat<L>; 8],
     flags: &Flags,
     calls: Calls,
-) -> Option<Met>
+) -> Met
     requires { L.parts ≡ 8 }
 {
     let (a, b, others) = first_two(seats);
@@ -153,30 +150,20 @@ fn met<L: Ledger + Send + Sync, G: Gate + Drop + Sync, R: Threads + Wait + Clock
     );
     let (a, held) = one;
     let (b, other) = two;
-    let Ok(closed) = kernel.close(all_of(a, b, others)) else {
-        return None;
-    };
-    let Ok(events) = closed.events(alloc) else {
-        return None;
-    };
+    let closed = closed(rt, kernel, all_of(a, b, others));
+    let events = closed.events(alloc).expect(rt, "error");
     let before = steps_before(events.as_slice());
-    let Ok(held) = held else {
-        return None;
-    };
-    let Ok(other) = other else {
-        return None;
-    };
-    Some((held.answer, other.answer, before))
+    (answer_of(&held), answer_of(&other), before)
 }
 
-fn meet<'a, L: Ledger + Send + Sync, R: Threads + Wait + Clock + Sync>(
+fn meet<'a, L: Ledger + Send + Sync, R: Threads + Wait + Clock + Abort + Sync>(
     rt: &'a R,
     alloc: Global,
     blank: Blank,
     image: Vec<u8>,
     flags: &'a Flags,
     calls: Calls,
-) -> Result<Option<Met>, MountFault>
+) -> Met
     requires name { blank.name ≡ L.name }
     requires parts { blank.parts ≡ L.parts }
     requires eight { blank.parts ≡ 8 }
@@ -185,25 +172,24 @@ fn meet<'a, L: Ledger + Send + Sync, R: Threads + Wait + Clock + Sync>(
     match Kernel::<L, Meeting<'a, R>>::open(alloc, blank, image, u64::MAX, gate) {
         Ok(opened) => {
             let (kernel, seats) = opened;
-            Ok(met(rt, alloc, kernel, seats, flags, calls))
+            met(rt, alloc, kernel, seats, flags, calls)
         }
-        Err(fault) => Err(fault),
+        Err(fault) => no_kernel(rt, fault),
     }
 }
 
 /// Hart 0 has made `/a` and `/b`. It is held before try 9 of its open of `/a/x`, when it has locked `/a`, until hart 1's mkdir of
 /// `/b/x`, begun then, has returned: in the list just nine steps of that open stand before the start of the mkdir.
 #[test]
-fn two_harts_meet(rt: HostRuntime) -> Result<(), Fail> {
+fn two_harts_meet(rt: HostRuntime) {
     let alloc = rt.alloc();
-    let (image, calls) = (image(alloc)?, make_calls(alloc)?);
+    let (image, calls) = (image(&rt, alloc), make_calls(&rt, alloc));
     let flags = Flags {
         armed: AtomicBool::new(false),
         held: AtomicBool::new(false),
         returned: AtomicBool::new(false),
     };
     let met = meet::<Brand, HostRuntime>(&rt, alloc, Blank::new(8), image, &flags, calls);
-    let met = met.map_err(no_kernel)?;
-    assert!(rt; met == Some((Answer::Failed(Cause::NoEntry), Answer::Done, 9)));
-    Ok(())
+    let held = Answer::Failed(Cause::NoEntry);
+    assert!(rt; met == (Some(held), Some(Answer::Done), 9));
 }

@@ -1,12 +1,11 @@
 //! A plan of turns: calls of eight harts, made on a world in an order that is drawn from a seed.
 use crate::asks::{DIRECTORIES, FILES, Rounds, call_of};
-use crate::kernels::no_kernel;
+use crate::kernels::{copied, no_kernel, push};
 use crate::runs::Left;
 use block_device::MemoryDisk;
 use hart_core::{Came, Event, Outcome, World};
-use image_tree::MountFault;
-use std::alloc::{AllocError, Global};
-use std::test::Fail;
+use std::alloc::Global;
+use std::process::Abort;
 
 const HARTS: usize = 8;
 
@@ -49,12 +48,12 @@ pub struct Plan {
 
 impl Plan {
     /// The harts whose turns they are, in their order.
-    pub fn turns(&self, alloc: Global) -> Result<Vec<u8>, AllocError> {
+    pub fn turns(&self, rt: &impl Abort, alloc: Global) -> Vec<u8> {
         let mut turns = Vec::new(alloc);
         for event in &self.left.events {
-            turns.push(hart_of(event))?;
+            push(rt, &mut turns, hart_of(event));
         }
-        Ok(turns)
+        turns
     }
 }
 
@@ -104,21 +103,21 @@ impl Made {
     }
 
     // The next event of a hart, if it has one left.
-    fn next(&self, alloc: Global, rounds: &Rounds, hart: u8) -> Result<Option<Event>, AllocError> {
+    fn next(&self, rt: &impl Abort, alloc: Global, rounds: &Rounds, hart: u8) -> Option<Event> {
         let stand = self.stands[usize::from(hart) % HARTS];
         if stand.is_busy {
-            return Ok(Some(Event::Step { hart }));
+            return Some(Event::Step { hart });
         }
         match rounds.rows(hart).get(stand.started) {
             Some((ask, _, _)) => {
-                let call = call_of(alloc, hart, *ask)?;
-                Ok(Some(Event::Start { hart, call }))
+                let call = call_of(rt, alloc, hart, *ask);
+                Some(Event::Start { hart, call })
             }
-            None => Ok(None),
+            None => None,
         }
     }
 
-    fn note(&mut self, event: Event, came: Came) -> Result<(), AllocError> {
+    fn note(&mut self, rt: &impl Abort, event: Event, came: Came) {
         let at = usize::from(hart_of(&event)) % HARTS;
         let mut stand = self.stands[at];
         match &came {
@@ -130,85 +129,84 @@ impl Made {
             _ => {}
         }
         self.stands[at] = stand;
-        self.events.push(event)?;
-        self.outcomes.push(came)?;
-        Ok(())
+        push(rt, &mut self.events, event);
+        push(rt, &mut self.outcomes, came);
     }
 }
 
 // Makes a hart's next event. A try that waits is no turn.
 fn turn(
+    rt: &impl Abort,
     alloc: Global,
     world: &mut World<MemoryDisk>,
     rounds: &Rounds,
     made: &mut Made,
     hart: u8,
-) -> Result<(), AllocError> {
-    let Some(event) = made.next(alloc, rounds, hart)? else {
-        return Ok(());
+) {
+    let Some(event) = made.next(rt, alloc, rounds, hart) else {
+        return;
     };
-    let copy = event.clone()?;
-    match world.event(event) {
-        Came::Stepped(Outcome::Waits) => Ok(()),
-        came => made.note(copy, came),
+    let copy = event.clone().expect(rt, "error");
+    let came = world.event(event);
+    if !matches!(came, Came::Stepped(Outcome::Waits)) {
+        made.note(rt, copy, came);
     }
 }
 
 // Makes all calls, each event that of a hart which is drawn.
 fn play(
+    rt: &impl Abort,
     alloc: Global,
     world: &mut World<MemoryDisk>,
     rounds: &Rounds,
     draw: &mut Draw,
-) -> Result<Made, AllocError> {
+) -> Made {
     let mut made = Made::new(alloc);
     for _ in 0..MOST_DRAWS {
         if made.is_through(rounds) {
             break;
         }
         let hart = (draw.next() % 8) as u8;
-        turn(alloc, world, rounds, &mut made, hart)?;
+        turn(rt, alloc, world, rounds, &mut made, hart);
     }
-    Ok(made)
+    made
 }
 
 // The tables of each hart, drawn.
-fn draw_rounds(alloc: Global, draw: &mut Draw) -> Result<Rounds, AllocError> {
-    let mut rounds = Rounds::new(alloc, &[])?;
+fn draw_rounds(rt: &impl Abort, alloc: Global, draw: &mut Draw) -> Rounds {
+    let mut rounds = Rounds::new(rt, alloc, &[]);
     for table in 0..TABLES {
         let hart = (table % 8) as u8;
         if draw.next() % 3 == 0 {
-            rounds.add(hart, &DIRECTORIES)?;
+            rounds.add(rt, hart, &DIRECTORIES);
         } else {
-            rounds.add(hart, &FILES)?;
+            rounds.add(rt, hart, &FILES);
         }
     }
-    Ok(rounds)
+    rounds
 }
 
-fn mounted(alloc: Global, image: &[u8]) -> Result<World<MemoryDisk>, MountFault> {
-    match World::mount(alloc, MemoryDisk::new(Vec::from_slice(alloc, image)?)) {
-        Ok(world) => Ok(world),
-        Err((_, fault)) => Err(fault),
+fn mounted(rt: &impl Abort, alloc: Global, image: &[u8]) -> World<MemoryDisk> {
+    match World::mount(alloc, MemoryDisk::new(copied(rt, alloc, image))) {
+        Ok(world) => world,
+        Err((_, fault)) => no_kernel(rt, fault),
     }
 }
 
 /// A plan on this image, as a seed has it.
-pub fn draw_plan(alloc: Global, image: &[u8], seed: u64) -> Result<Plan, Fail> {
+pub fn draw_plan(rt: &impl Abort, alloc: Global, image: &[u8], seed: u64) -> Plan {
     let mut draw = Draw::new(seed);
-    let rounds = draw_rounds(alloc, &mut draw)?;
-    let mut world = mounted(alloc, image).map_err(no_kernel)?;
-    let made = play(alloc, &mut world, &rounds, &mut draw);
-    let bytes = world.unmount().into_bytes();
+    let rounds = draw_rounds(rt, alloc, &mut draw);
+    let mut world = mounted(rt, alloc, image);
     let Made {
         events,
         outcomes,
         stands: _,
-    } = made?;
+    } = play(rt, alloc, &mut world, &rounds, &mut draw);
     let left = Left {
         events,
         outcomes,
-        bytes,
+        bytes: world.unmount().into_bytes(),
     };
-    Ok(Plan { rounds, left })
+    Plan { rounds, left }
 }

@@ -1,7 +1,8 @@
 //! What runs leave, and whether it is the same.
 use hart_core::{Came, Event, Outcome};
 use locked_world::Closed;
-use std::alloc::{AllocError, Global};
+use std::alloc::Global;
+use std::process::Abort;
 use std::sync::ledger::Ledger;
 
 /// The events of a run, what they came to, and the bytes of the disk then.
@@ -13,15 +14,15 @@ pub struct Left {
 }
 
 /// What a kernel that was closed leaves.
-pub fn left_by<L: Ledger>(alloc: Global, closed: Closed<L>) -> Result<Left, AllocError> {
-    let events = closed.events(alloc)?;
-    let outcomes = closed.outcomes(alloc)?;
+pub fn left_by<L: Ledger>(rt: &impl Abort, alloc: Global, closed: Closed<L>) -> Left {
+    let events = closed.events(alloc).expect(rt, "error");
+    let outcomes = closed.outcomes(alloc).expect(rt, "error");
     let bytes = closed.into_disk().into_bytes();
-    Ok(Left {
+    Left {
         events,
         outcomes,
         bytes,
-    })
+    }
 }
 
 fn is_same_event(one: &Event, other: &Event) -> bool {

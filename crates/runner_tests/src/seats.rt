@@ -1,18 +1,20 @@
 //! What the calls of two seats come to: at a shared offset, and where the device fails.
 ghost use Rattle.std.specs.Prelude.{◌≡◌};
 
-use crate::kernels::{all_of, bytes, called, first_two, fresh_image, image, no_kernel};
+use crate::kernels::{
+    all_of, called, closed, copied, first_two, fresh_image, image, mkdir, no_kernel, open, read,
+};
 use block_device::{Fused, MemoryDisk};
 use hart_core::World;
 use hart_runner::{Kernel, NoGate, Seat, two_calls};
 use image_tree::MountFault;
 use locked_world::Halt;
 use plain_tree::Call;
-use std::alloc::{AllocError, Global};
+use std::alloc::Global;
 use std::marker::Brand;
+use std::process::Abort;
 use std::sync::Wait;
 use std::sync::ledger::{Blank, Ledger};
-use std::test::Fail;
 use std::thread::Threads;
 
 // The first two entries of the root.
@@ -22,21 +24,6 @@ const DOT_DOT: [u8; 16] = *b"\x01\0..\0\0\0\0\0\0\0\0\0\0\0\0";
 
 // No mount of the fresh image makes as many calls of the disk.
 const MOST_CALLS: u64 = 100_000;
-
-fn open_root(alloc: Global) -> Result<Call, AllocError> {
-    Ok(Call::Open {
-        path: bytes(alloc, b"/")?,
-        flags: 0,
-    })
-}
-
-// A read of descriptor 0 over these bytes, or as it is handed back with them.
-fn read(alloc: Global, buf: &[u8; 16]) -> Result<Call, AllocError> {
-    Ok(Call::Read {
-        fd: 0,
-        buf: bytes(alloc, buf)?,
-    })
-}
 
 // Hart 0 makes the first call, hart 1 inherits its files, and then both read at once. The reads as they are handed back.
 fn reads_of<L: Ledger + Send + Sync, R: Threads + Wait + Sync>(
@@ -57,14 +44,14 @@ fn reads_of<L: Ledger + Send + Sync, R: Threads + Wait + Sync>(
     Some((one.call, other.call))
 }
 
-fn two_reads<L: Ledger + Send + Sync, R: Threads + Wait + Sync>(
+fn two_reads<L: Ledger + Send + Sync, R: Threads + Wait + Abort + Sync>(
     rt: &R,
     alloc: Global,
     blank: Blank,
     image: Vec<u8>,
     open: Call,
     reads: (Call, Call),
-) -> Result<Option<(Call, Call)>, MountFault>
+) -> Option<(Call, Call)>
     requires name { blank.name ≡ L.name }
     requires parts { blank.parts ≡ L.parts }
     requires eight { blank.parts ≡ 8 }
@@ -72,53 +59,52 @@ fn two_reads<L: Ledger + Send + Sync, R: Threads + Wait + Sync>(
     match Kernel::<L, NoGate>::open(alloc, blank, image, u64::MAX, NoGate) {
         Ok(opened) => {
             let (kernel, seats) = opened;
-            Ok(reads_of(rt, kernel, seats, open, reads))
+            reads_of(rt, kernel, seats, open, reads)
         }
-        Err(fault) => Err(fault),
+        Err(fault) => no_kernel(rt, fault),
     }
 }
 
 /// Two harts read from one open file at once: each gets an entry of its own.
 #[test]
-fn seats_share_an_offset(rt: HostRuntime) -> Result<(), Fail> {
+fn seats_share_an_offset(rt: HostRuntime) {
     let alloc = rt.alloc();
-    let (image, open) = (image(alloc)?, open_root(alloc)?);
-    let reads = (read(alloc, &[9; 16])?, read(alloc, &[9; 16])?);
-    let (dot, dot_dot) = (read(alloc, &DOT)?, read(alloc, &DOT_DOT)?);
+    let (image, open) = (image(&rt, alloc), open(&rt, alloc, b"/"));
+    let reads = (read(&rt, alloc, 0, &[9; 16]), read(&rt, alloc, 0, &[9; 16]));
+    let (dot, dot_dot) = (read(&rt, alloc, 0, &DOT), read(&rt, alloc, 0, &DOT_DOT));
     let came = two_reads::<Brand, HostRuntime>(&rt, alloc, Blank::new(8), image, open, reads);
-    let (one, two) = came.map_err(no_kernel)?.ok_or("no two replies")?;
+    let (one, two) = came.expect(&rt, "no two replies");
     assert!(rt; (one == dot && two == dot_dot) || (one == dot_dot && two == dot));
-    Ok(())
 }
 
 // Whether a world is mounted on a disk of this image that passes so many calls.
-fn is_mounted(alloc: Global, image: &[u8], fuse: u64) -> Result<bool, Fail> {
-    let disk = MemoryDisk::new(Vec::from_slice(alloc, image)?);
+fn is_mounted(rt: &impl Abort, alloc: Global, image: &[u8], fuse: u64) -> bool {
+    let disk = MemoryDisk::new(copied(rt, alloc, image));
     match World::mount(alloc, Fused::new(disk, fuse)) {
         Ok(world) => {
             let _disk = world.unmount();
-            Ok(true)
+            true
         }
-        Err((_, MountFault::DeviceFault)) => Ok(false),
-        Err((_, fault)) => Err(no_kernel(fault)),
+        Err((_, MountFault::DeviceFault)) => false,
+        Err((_, fault)) => no_kernel(rt, fault),
     }
 }
 
 // The least number of calls that a disk of this image passes for a world to be mounted on it.
-fn least_fuse(alloc: Global, image: &[u8]) -> Result<u64, Fail> {
+fn least_fuse(rt: &impl Abort, alloc: Global, image: &[u8]) -> u64 {
     let (mut too_few, mut enough) = (0u64, MOST_CALLS);
     for _ in 0..u64::BITS {
         if enough.saturating_sub(too_few) <= 1 {
             break;
         }
         let middle = too_few.saturating_add(enough) / 2;
-        if is_mounted(alloc, image, middle)? {
+        if is_mounted(rt, alloc, image, middle) {
             enough = middle;
         } else {
             too_few = middle;
         }
     }
-    Ok(enough)
+    enough
 }
 
 // What stops two calls, and what the closed kernel holds.
@@ -130,80 +116,65 @@ struct Stopped {
 }
 
 // What stops a call of hart 0, and then one of hart 1.
-fn stops_of<L: Ledger, R: Wait>(
+fn stops_of<L: Ledger, R: Wait + Abort>(
     rt: &R,
     alloc: Global,
     kernel: Kernel<L, NoGate>,
     seats: [Seat<L>; 8],
     calls: (Call, Call),
-) -> Result<Stopped, Fail>
+) -> Stopped
     requires { L.parts ≡ 8 }
 {
     let (a, b, others) = first_two(seats);
     let (one, other) = calls;
     let (a, first) = called(rt, &kernel, a, one);
     let (b, second) = called(rt, &kernel, b, other);
-    let Ok(closed) = kernel.close(all_of(a, b, others)) else {
-        return Err(Fail::new("no close"));
-    };
-    Ok(Stopped {
+    let closed = closed(rt, kernel, all_of(a, b, others));
+    Stopped {
         halts: (first.err().flatten(), second.err().flatten()),
-        image: Vec::from_slice(alloc, closed.image())?,
+        image: copied(rt, alloc, closed.image()),
         fuse: closed.fuse(),
-    })
+    }
 }
 
 // That, on a disk of this image that passes so many calls. None where the device fails before.
-fn stops<L: Ledger, R: Wait>(
+fn stops<L: Ledger, R: Wait + Abort>(
     rt: &R,
     alloc: Global,
     blank: Blank,
     image: &[u8],
     fuse: u64,
-) -> Result<Option<Stopped>, Fail>
+) -> Option<Stopped>
     requires name { blank.name ≡ L.name }
     requires parts { blank.parts ≡ L.parts }
     requires eight { blank.parts ≡ 8 }
 {
-    let mkdir = Call::Mkdir {
-        path: bytes(alloc, b"/a")?,
-    };
-    let calls = (mkdir, open_root(alloc)?);
-    let copy = Vec::from_slice(alloc, image)?;
+    let calls = (mkdir(rt, alloc, b"/a"), open(rt, alloc, b"/"));
+    let copy = copied(rt, alloc, image);
     match Kernel::<L, NoGate>::open(alloc, blank, copy, fuse, NoGate) {
         Ok(opened) => {
             let (kernel, seats) = opened;
-            Ok(Some(stops_of(rt, alloc, kernel, seats, calls)?))
+            Some(stops_of(rt, alloc, kernel, seats, calls))
         }
-        Err(MountFault::DeviceFault) => Ok(None),
-        Err(fault) => Err(no_kernel(fault)),
+        Err(MountFault::DeviceFault) => None,
+        Err(fault) => no_kernel(rt, fault),
     }
 }
 
-fn stops_with<R: Wait>(
-    rt: &R,
-    alloc: Global,
-    image: &[u8],
-    fuse: u64,
-) -> Result<Option<Stopped>, Fail> {
+fn stops_with<R: Wait + Abort>(rt: &R, alloc: Global, image: &[u8], fuse: u64) -> Option<Stopped> {
     stops::<Brand, R>(rt, alloc, Blank::new(8), image, fuse)
 }
 
 /// A kernel opens with the least fuse at which a world is mounted, and with no smaller one. Then the first call that needs a block is stopped by
 /// the device's failure, and another hart's call by the halt; given up, both seats are as the list has them. The closed kernel has image and fuse.
 #[test]
-fn a_fuse_stops_calls(rt: HostRuntime) -> Result<(), Fail> {
+fn a_fuse_stops_calls(rt: HostRuntime) {
     let alloc = rt.alloc();
-    let image = fresh_image(alloc)?;
+    let image = fresh_image(&rt, alloc);
     let image = image.as_slice();
-    let least = least_fuse(alloc, image)?;
-    let opened = stops_with(&rt, alloc, image, least.saturating_sub(1))?;
-    assert!(rt; opened.is_none());
-    let Some(stopped) = stops_with(&rt, alloc, image, least)? else {
-        return Err(Fail::new("it isn't opened"));
-    };
+    let least = least_fuse(&rt, alloc, image);
+    assert!(rt; stops_with(&rt, alloc, image, least.saturating_sub(1)).is_none());
+    let stopped = stops_with(&rt, alloc, image, least).expect(&rt, "it isn't opened");
     assert!(rt; stopped.halts == (Some(Halt::DeviceFault), Some(Halt::Halted)));
-    assert!(rt; stopped.image.as_slice() == image);
-    assert_eq!(rt; stopped.fuse, least);
-    Ok(())
+    assert!(rt; stopped.image.as_slice() == image && stopped.fuse == least);
 }

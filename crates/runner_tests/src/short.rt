@@ -2,7 +2,7 @@
 //! "call" and "done". Then it answers 33, and the run goes on as one that met no refusal.
 ghost use Rattle.std.specs.Prelude.{◌≡◌};
 
-use crate::kernels::{all_of, bytes, called, came_of, first_two, image, no_kernel};
+use crate::kernels::{all_of, called, came_of, closed, copied, first_two, image, mkdir, no_kernel};
 use crate::runs::{Left, are_same, left_by};
 use console::ConsoleFault;
 use console_parts::{Mode, Schedule};
@@ -11,11 +11,11 @@ use hart_runner::{CallFault, Gate, Kernel, NoGate, Seat};
 use image_tree::MountFault;
 use locked_world::Halt;
 use plain_tree::Call;
-use std::alloc::{AllocError, Global};
+use std::alloc::Global;
 use std::marker::Brand;
+use std::process::Abort;
 use std::sync::Wait;
 use std::sync::ledger::{Blank, Ledger};
-use std::test::Fail;
 use std::thread::Threads;
 
 // The answer of a call that was refused memory, and that of one that wasn't.
@@ -26,26 +26,13 @@ const ANSWERED: u8 = 0;
 // What is answered, and what the run leaves.
 type Ended = (u8, Left);
 
-fn closed<L: Ledger, G: Gate + Drop>(
-    alloc: Global,
-    kernel: Kernel<L, G>,
-    seats: [Seat<L>; 8],
-) -> Result<Left, Fail>
-    requires { L.parts ≡ 8 }
-{
-    match kernel.close(seats) {
-        Ok(closed) => Ok(left_by(alloc, closed)?),
-        Err(_) => Err(Fail::new("no close")),
-    }
-}
-
 // What a kernel leaves that is opened between the lines, and closed without a call.
-fn opened<L: Ledger, R: Print>(
+fn opened<L: Ledger, R: Print + Abort>(
     rt: &R,
     alloc: Global,
     blank: Blank,
     image: Vec<u8>,
-) -> Result<Result<Left, MountFault>, Fail>
+) -> Result<Left, MountFault>
     requires name { blank.name ≡ L.name }
     requires parts { blank.parts ≡ L.parts }
     requires eight { blank.parts ≡ 8 }
@@ -56,43 +43,32 @@ fn opened<L: Ledger, R: Print>(
     match came {
         Ok(opened) => {
             let (kernel, seats) = opened;
-            Ok(Ok(closed(alloc, kernel, seats)?))
+            Ok(left_by(rt, alloc, closed(rt, kernel, seats)))
         }
-        Err(fault) => Ok(Err(fault)),
+        Err(fault) => Err(fault),
     }
 }
 
-fn open_once<R: Print>(
-    rt: &R,
-    alloc: Global,
-    image: Vec<u8>,
-) -> Result<Result<Left, MountFault>, Fail> {
-    opened::<Brand, R>(rt, alloc, Blank::new(8), image)
+fn open_once<R: Print + Abort>(rt: &R, alloc: Global, image: &[u8]) -> Result<Left, MountFault> {
+    opened::<Brand, R>(rt, alloc, Blank::new(8), copied(rt, alloc, image))
 }
 
 /// A kernel that isn't opened for want of memory is opened the next time.
 #[test]
-fn of_open(rt: HostRuntime) -> Result<(), Fail> {
+fn of_open(rt: HostRuntime) {
     let alloc = rt.alloc();
-    let image = image(alloc)?;
-    let (answer, left) = match open_once(&rt, alloc, image.clone()?)? {
+    let image = image(&rt, alloc);
+    let (answer, left) = match open_once(&rt, alloc, image.as_slice()) {
         Ok(left) => (ANSWERED, left),
         Err(fault) => {
-            let again = open_once(&rt, alloc, image.clone()?)?;
-            (fault.number(), again.map_err(no_kernel)?)
+            let again = open_once(&rt, alloc, image.as_slice());
+            (fault.number(), again.expect(&rt, "error"))
         }
     };
-    println!(rt; "answer {answer}")?;
+    let _ = println!(rt; "answer {answer}");
     assert!(rt; answer == ANSWERED || answer == NO_MEMORY);
     assert!(rt; left.events.is_empty() && left.outcomes.is_empty());
     assert!(rt; left.bytes.as_slice() == image.as_slice());
-    Ok(())
-}
-
-fn mkdir(alloc: Global) -> Result<Call, AllocError> {
-    Ok(Call::Mkdir {
-        path: bytes(alloc, b"/d")?,
-    })
 }
 
 // A call, made between the lines. Where it finds no memory, what is handed back is made once more, or goes on.
@@ -115,28 +91,29 @@ fn call_short<L: Ledger, R: Wait + Print>(
 }
 
 // A run of that call, and a further one of the same hart.
-fn run_call<L: Ledger, R: Wait + Print>(
+fn run_call<L: Ledger, R: Wait + Print + Abort>(
     rt: &R,
     alloc: Global,
     kernel: Kernel<L, NoGate>,
     seats: [Seat<L>; 8],
     calls: (Call, Call),
-) -> Result<Ended, Fail>
+) -> Ended
     requires { L.parts ≡ 8 }
 {
     let (seat, b, others) = first_two(seats);
     let (answer, seat) = call_short(rt, &kernel, seat, calls.0);
     let (seat, _) = called(rt, &kernel, seat, calls.1);
-    Ok((answer, closed(alloc, kernel, all_of(seat, b, others))?))
+    let closed = closed(rt, kernel, all_of(seat, b, others));
+    (answer, left_by(rt, alloc, closed))
 }
 
-fn call_on<L: Ledger, R: Wait + Print>(
+fn call_on<L: Ledger, R: Wait + Print + Abort>(
     rt: &R,
     alloc: Global,
     blank: Blank,
     image: Vec<u8>,
     calls: (Call, Call),
-) -> Result<Ended, Fail>
+) -> Ended
     requires name { blank.name ≡ L.name }
     requires parts { blank.parts ≡ L.parts }
     requires eight { blank.parts ≡ 8 }
@@ -146,24 +123,23 @@ fn call_on<L: Ledger, R: Wait + Print>(
             let (kernel, seats) = opened;
             run_call(rt, alloc, kernel, seats, calls)
         }
-        Err(fault) => Err(no_kernel(fault)),
+        Err(fault) => no_kernel(rt, fault),
     }
 }
 
-fn call_once<R: Wait + Print>(rt: &R, alloc: Global) -> Result<Ended, Fail> {
-    let calls = (mkdir(alloc)?, mkdir(alloc)?);
-    call_on::<Brand, R>(rt, alloc, Blank::new(8), image(alloc)?, calls)
+fn call_once<R: Wait + Print + Abort>(rt: &R, alloc: Global) -> Ended {
+    let calls = (mkdir(rt, alloc, b"/d"), mkdir(rt, alloc, b"/d"));
+    call_on::<Brand, R>(rt, alloc, Blank::new(8), image(rt, alloc), calls)
 }
 
 /// A call that finds no memory is handed back and not started, or goes on to the reply that it would have had.
 #[test]
-fn of_call(rt: HostRuntime) -> Result<(), Fail> {
+fn of_call(rt: HostRuntime) {
     let alloc = rt.alloc();
-    let (answer, left) = call_once(&rt, alloc)?;
-    println!(rt; "answer {answer}")?;
-    let (_, wanted) = call_once(&rt, alloc)?;
+    let (answer, left) = call_once(&rt, alloc);
+    let _ = println!(rt; "answer {answer}");
+    let (_, wanted) = call_once(&rt, alloc);
     assert!(rt; are_same(&left, &wanted));
-    Ok(())
 }
 
 // Prints the first line when a call was started.
@@ -201,27 +177,28 @@ fn resume_short<L: Ledger, R: Wait + Print>(
     (answer, seat)
 }
 
-fn run_resume<L: Ledger, R: Wait + Print>(
+fn run_resume<L: Ledger, R: Wait + Print + Abort>(
     rt: &R,
     alloc: Global,
     kernel: Kernel<L, Marks<'_, R>>,
     seats: [Seat<L>; 8],
     call: Call,
-) -> Result<Ended, Fail>
+) -> Ended
     requires { L.parts ≡ 8 }
 {
     let (seat, b, others) = first_two(seats);
     let (answer, seat) = resume_short(rt, &kernel, seat, call);
-    Ok((answer, closed(alloc, kernel, all_of(seat, b, others))?))
+    let closed = closed(rt, kernel, all_of(seat, b, others));
+    (answer, left_by(rt, alloc, closed))
 }
 
-fn resume_on<'a, L: Ledger, R: Wait + Print>(
+fn resume_on<'a, L: Ledger, R: Wait + Print + Abort>(
     rt: &'a R,
     alloc: Global,
     blank: Blank,
     image: Vec<u8>,
     call: Call,
-) -> Result<Ended, Fail>
+) -> Ended
     requires name { blank.name ≡ L.name }
     requires parts { blank.parts ≡ L.parts }
     requires eight { blank.parts ≡ 8 }
@@ -232,24 +209,24 @@ fn resume_on<'a, L: Ledger, R: Wait + Print>(
             let (kernel, seats) = opened;
             run_resume(rt, alloc, kernel, seats, call)
         }
-        Err(fault) => Err(no_kernel(fault)),
+        Err(fault) => no_kernel(rt, fault),
     }
 }
 
-fn resume_once<R: Wait + Print>(rt: &R, alloc: Global) -> Result<Ended, Fail> {
-    resume_on::<Brand, R>(rt, alloc, Blank::new(8), image(alloc)?, mkdir(alloc)?)
+fn resume_once<R: Wait + Print + Abort>(rt: &R, alloc: Global) -> Ended {
+    let (image, call) = (image(rt, alloc), mkdir(rt, alloc, b"/d"));
+    resume_on::<Brand, R>(rt, alloc, Blank::new(8), image, call)
 }
 
 /// A call that is stopped for want of memory, and stopped again as it goes on, has changed nothing: it comes to the reply that it would have
 /// had. Of its requests two in a row are refused.
 #[test]
-fn of_resume(rt: HostRuntime) -> Result<(), Fail> {
+fn of_resume(rt: HostRuntime) {
     let alloc = rt.alloc();
-    let (answer, left) = resume_once(&rt, alloc)?;
-    println!(rt; "answer {answer}")?;
-    let (_, wanted) = resume_once(&rt, alloc)?;
+    let (answer, left) = resume_once(&rt, alloc);
+    let _ = println!(rt; "answer {answer}");
+    let (_, wanted) = resume_once(&rt, alloc);
     assert!(rt; are_same(&left, &wanted));
-    Ok(())
 }
 
 const SCRIPT: &[u8] =
@@ -290,23 +267,22 @@ fn answer_of<R: Threads + Wait + Sync>(
 
 /// What is printed of a script whose threads find no memory is a beginning of what is printed else, and all of it the next time.
 #[test]
-fn of_run_threads(rt: HostRuntime) -> Result<(), Fail> {
+fn of_run_threads(rt: HostRuntime) {
     let alloc = rt.alloc();
-    let image = image(alloc)?;
+    let image = image(&rt, alloc);
     let mut wanted = Vec::new(alloc);
-    let copy = image.clone()?;
+    let copy = copied(&rt, alloc, image.as_slice());
     assert!(rt; answer_of(&rt, alloc, copy, &mut wanted) == ANSWERED);
     assert!(rt; wanted.starts_with(LINES));
-    let mut out = Vec::with_capacity(alloc, ROOM)?;
-    let copy = image.clone()?;
+    let mut out = Vec::with_capacity(alloc, ROOM).expect(&rt, "error");
+    let copy = copied(&rt, alloc, image.as_slice());
     let _ = println!(rt; "call");
     let answer = answer_of(&rt, alloc, copy, &mut out);
     let _ = println!(rt; "done");
-    println!(rt; "answer {answer}")?;
+    let _ = println!(rt; "answer {answer}");
     assert!(rt; answer == ANSWERED && out.len() == wanted.len() || answer == NO_MEMORY);
     assert!(rt; wanted.starts_with(out.as_slice()));
     out.clear();
     assert!(rt; answer_of(&rt, alloc, image, &mut out) == ANSWERED);
     assert!(rt; out.as_slice() == wanted.as_slice());
-    Ok(())
 }

@@ -2,7 +2,7 @@
 ghost use Rattle.std.specs.Prelude.{◌≡◌};
 
 use crate::asks::{FILES, Rounds, SWEEP, calls_of};
-use crate::kernels::{Came, all_of, came_of, first_two, image, no_kernel};
+use crate::kernels::{Came, all_of, came_of, closed, copied, first_two, image, no_kernel};
 use crate::runs::{Left, left_by};
 use block_device::MemoryDisk;
 use hart_runner::{CallFault, Gate, Kernel, NoGate, Seat};
@@ -11,9 +11,9 @@ use locked_world::Halt;
 use plain_tree::Call;
 use std::alloc::Global;
 use std::marker::Brand;
+use std::process::Abort;
 use std::sync::Wait;
 use std::sync::ledger::{Blank, Ledger};
-use std::test::Fail;
 use std::thread;
 use std::thread::Threads;
 
@@ -182,31 +182,28 @@ fn sweep<L: Ledger, R: Wait>(
 }
 
 // What a round leaves.
-fn round_of<L: Ledger + Send + Sync, R: Threads + Wait + Sync>(
+fn round_of<L: Ledger + Send + Sync, R: Threads + Wait + Abort + Sync>(
     rt: &R,
     alloc: Global,
     kernel: Kernel<L, NoGate>,
     seats: [Seat<L>; 8],
     calls: Calls,
-) -> Result<Left, Fail>
+) -> Left
     requires { L.parts ≡ 8 }
 {
     let Calls { work, sweep: last } = calls;
     let (seats, _answered) = eight_work(rt, &kernel, &NoGate, tasks_of(seats, work));
     let seats = sweep(rt, &kernel, seats, last);
-    let Ok(closed) = kernel.close(seats) else {
-        return Err(Fail::new("no close"));
-    };
-    Ok(left_by(alloc, closed)?)
+    left_by(rt, alloc, closed(rt, kernel, seats))
 }
 
-fn round<L: Ledger + Send + Sync, R: Threads + Wait + Sync>(
+fn round<L: Ledger + Send + Sync, R: Threads + Wait + Abort + Sync>(
     rt: &R,
     alloc: Global,
     blank: Blank,
     image: Vec<u8>,
     calls: Calls,
-) -> Result<Left, Fail>
+) -> Left
     requires name { blank.name ≡ L.name }
     requires parts { blank.parts ≡ L.parts }
     requires eight { blank.parts ≡ 8 }
@@ -216,28 +213,28 @@ fn round<L: Ledger + Send + Sync, R: Threads + Wait + Sync>(
             let (kernel, seats) = opened;
             round_of(rt, alloc, kernel, seats, calls)
         }
-        Err(fault) => Err(no_kernel(fault)),
+        Err(fault) => no_kernel(rt, fault),
     }
 }
 
 /// Eight harts make, write, link, read and unlink files in one directory at once, over names of their own and four shared ones: each
 /// call is answered as it may be, the close finds each seat's replies in the list, and nothing is left on the disk but the root.
 #[test]
-fn eight_harts(rt: HostRuntime) -> Result<(), Fail> {
+fn eight_harts(rt: HostRuntime) {
     let alloc = rt.alloc();
-    let image = image(alloc)?;
-    let files = Rounds::new(alloc, &FILES)?;
-    let mut all = Rounds::new(alloc, &FILES)?;
-    all.add(0, &SWEEP)?;
+    let image = image(&rt, alloc);
+    let files = Rounds::new(&rt, alloc, &FILES);
+    let mut all = Rounds::new(&rt, alloc, &FILES);
+    all.add(&rt, 0, &SWEEP);
     for _ in 0..ROUNDS {
         let calls = Calls {
-            work: files.calls(alloc)?,
-            sweep: calls_of(alloc, 0, &SWEEP)?,
+            work: files.calls(&rt, alloc),
+            sweep: calls_of(&rt, alloc, 0, &SWEEP),
         };
-        let left = round::<Brand, HostRuntime>(&rt, alloc, Blank::new(8), image.clone()?, calls)?;
-        assert_eq!(rt; all.count_good(&left), CALLS);
-        let shape = examine(alloc, &mut MemoryDisk::new(left.bytes)).map_err(no_kernel)?;
+        let copy = copied(&rt, alloc, image.as_slice());
+        let left = round::<Brand, HostRuntime>(&rt, alloc, Blank::new(8), copy, calls);
+        assert!(rt; all.count_good(&left) == CALLS);
+        let shape = examine(alloc, &mut MemoryDisk::new(left.bytes)).expect(&rt, "error");
         assert!(rt; (shape.live, shape.orphans, shape.blocks) == (1, 0, 1));
     }
-    Ok(())
 }
