@@ -18,10 +18,10 @@ use Rattle.console.specs.Queues.{left_to}
 use Rattle.console.specs.Sessions.{SessionOf, EventOfCall, Happens, doing_at}
 use Rattle.console.specs.Verbs.{verb_of}
 use Rattle.console_parts.specs.declared.mode.Mode.{Mode}
-use Rattle.console.specs.Histories.{IsUntold, TellsHistory, WhereSet}
+use Rattle.console.specs.Histories.{History, IsUntold, TellsHistory, WhereSet}
 use Rattle.console.specs.Images.{JudgesImage}
 use Rattle.console.specs.Lines.{CourseOf, TellsLine}
-use Rattle.console.specs.Notes.{NotesOf, events_in}
+use Rattle.console.specs.Notes.{NotesOf, run_in}
 use Rattle.console.specs.Runs.{EndsSo, RunsReader, RunsScript}
 
 -- ---- behaviours
@@ -173,25 +173,25 @@ untold (faults.Read e) un = absurd un
 untold (faults.Line n why) un = absurd un
 untold (faults.Stopped stop) un = absurd un
 
-ended : (mode : Mode) (image : List ℕ) (notes : NotesOf) (ends : Result (Unit {0}) ConsoleFault) (fault : ConsoleFault) (between out : Option (List ℕ)) → IsNoStop ends → EndsSo mode image notes ends between (Err fault) out → IsNoStop {A = Unit {0}} (Err fault)
-ended mode image notes (Ok u) fault between out unstopped (inl printed) = wanted mode.explain printed.2
+ended : (mode : Mode) (history : History) (notes : NotesOf) (ends : Result (Unit {0}) ConsoleFault) (fault : ConsoleFault) (between out : Option (List ℕ)) → IsNoStop ends → EndsSo mode history notes ends between (Err fault) out → IsNoStop {A = Unit {0}} (Err fault)
+ended mode history notes (Ok u) fault between out unstopped (inl printed) = wanted mode.explain printed.2
   where
-    wanted : (b : Bool) → WhereSet b (TellsHistory image (events_in notes.kept) (Err fault) printed.0 out) ((◌≡◌ {A = Result (Unit {0}) ConsoleFault} (Err fault) (Ok tt)) × (out ≡ printed.0)) → IsNoStop {A = Unit {0}} (Err fault)
+    wanted : (b : Bool) → WhereSet b (TellsHistory history (run_in notes.kept) (Err fault) printed.0 out) ((◌≡◌ {A = Result (Unit {0}) ConsoleFault} (Err fault) (Ok tt)) × (out ≡ printed.0)) → IsNoStop {A = Unit {0}} (Err fault)
     wanted false same = let e = same.0 in absurd (cc e)
     wanted true (inl told) = let e = told.ends in absurd (cc e)
     wanted true (inr un) = untold fault un
-ended mode image notes (Ok u) faults.Memory between out unstopped (inr un) = absurd un
-ended mode image notes (Ok u) (faults.Write e) between out unstopped (inr un) = tt
-ended mode image notes (Ok u) (faults.Image f) between out unstopped (inr un) = absurd un
-ended mode image notes (Ok u) (faults.Read e) between out unstopped (inr un) = absurd un
-ended mode image notes (Ok u) (faults.Line n why) between out unstopped (inr un) = absurd un
-ended mode image notes (Ok u) (faults.Stopped stop) between out unstopped (inr un) = absurd un
-ended mode image notes (Err faults.Memory) fault between out unstopped same = subst (λ x. IsNoStop x) (sym same) tt
-ended mode image notes (Err (faults.Write e)) fault between out unstopped same = subst (λ x. IsNoStop x) (sym same) tt
-ended mode image notes (Err (faults.Image f)) fault between out unstopped same = absurd unstopped
-ended mode image notes (Err (faults.Read e)) fault between out unstopped same = absurd unstopped
-ended mode image notes (Err (faults.Line n why)) fault between out unstopped same = absurd unstopped
-ended mode image notes (Err (faults.Stopped stop)) fault between out unstopped same = absurd unstopped
+ended mode history notes (Ok u) faults.Memory between out unstopped (inr un) = absurd un
+ended mode history notes (Ok u) (faults.Write e) between out unstopped (inr un) = tt
+ended mode history notes (Ok u) (faults.Image f) between out unstopped (inr un) = absurd un
+ended mode history notes (Ok u) (faults.Read e) between out unstopped (inr un) = absurd un
+ended mode history notes (Ok u) (faults.Line n why) between out unstopped (inr un) = absurd un
+ended mode history notes (Ok u) (faults.Stopped stop) between out unstopped (inr un) = absurd un
+ended mode history notes (Err faults.Memory) fault between out unstopped same = subst (λ x. IsNoStop x) (sym same) tt
+ended mode history notes (Err (faults.Write e)) fault between out unstopped same = subst (λ x. IsNoStop x) (sym same) tt
+ended mode history notes (Err (faults.Image f)) fault between out unstopped same = absurd unstopped
+ended mode history notes (Err (faults.Read e)) fault between out unstopped same = absurd unstopped
+ended mode history notes (Err (faults.Line n why)) fault between out unstopped same = absurd unstopped
+ended mode history notes (Err (faults.Stopped stop)) fault between out unstopped same = absurd unstopped
 
 of_run : (disk : List (List ℕ)) (fault : ConsoleFault) → IsWellFormed disk → IsNoStop {A = Unit {0}} (Err fault) → JudgesImage disk fault
 of_run disk faults.Memory mounted unstopped = tt
@@ -210,12 +210,12 @@ of_line disk n (faults.Read e) mounted tells = absurd tells
 of_line disk n (faults.Stopped stop) mounted tells = absurd tells
 
 module _ {D : Type 0} (contents : D → List (List ℕ)) (failures : D → ℕ) (calm : KeepsStill contents failures) (disk : List (List ℕ)) (mounted : IsWellFormed disk) where
-  script_judged : (mode : Mode) (image : List ℕ) (s t : SessionOf D) (course : Result CourseOf ℕ) (fault : ConsoleFault) (out out' : Option (List ℕ)) → s.world.harts.stopped ≡ false → RunsScript contents failures mode image s course (Err fault) t out out' → JudgesImage disk fault
-  script_judged mode image s t (Err n) fault out out' still runs = of_line disk n fault mounted runs.0
-  script_judged mode image s t (Ok course) fault out out' still (inl runs) =
+  script_judged : (mode : Mode) (history : History) (s t : SessionOf D) (course : Result CourseOf ℕ) (fault : ConsoleFault) (out out' : Option (List ℕ)) → s.world.harts.stopped ≡ false → RunsScript contents failures mode history s course (Err fault) t out out' → JudgesImage disk fault
+  script_judged mode history s t (Err n) fault out out' still runs = of_line disk n fault mounted runs.0
+  script_judged mode history s t (Ok course) fault out out' still (inl runs) =
       of_run disk fault mounted
-      (ended mode image runs.notes runs.ends fault runs.between out' (lines_still contents failures calm course.lines _ runs.runs.events runs.runs.text runs.ends _ still runs.runs.does).1 runs.end)
-  script_judged mode image s t (Ok course) fault out out' still (inr nothing) = subst (λ f. JudgesImage disk f) (sym (memory fault nothing.memory)) tt
+      (ended mode history runs.notes runs.ends fault runs.between out' (lines_still contents failures calm course.lines _ runs.runs.events runs.runs.text runs.ends _ still runs.runs.does).1 runs.end)
+  script_judged mode history s t (Ok course) fault out out' still (inr nothing) = subst (λ f. JudgesImage disk f) (sym (memory fault nothing.memory)) tt
     where
       fault_in : Result (Unit {0}) ConsoleFault → ConsoleFault
       fault_in (Ok u) = faults.Memory
@@ -224,11 +224,11 @@ module _ {D : Type 0} (contents : D → List (List ℕ)) (failures : D → ℕ) 
       memory : (f : ConsoleFault) → ◌≡◌ {A = Result (Unit {0}) ConsoleFault} (Err f) (Err faults.Memory) → f ≡ faults.Memory
       memory f e = ap fault_in e
 
-  pub run_judged : (mode : Mode) (image : List ℕ) (s t : SessionOf D) (script : Option (List ℕ)) (fault : ConsoleFault) (out out' : Option (List ℕ)) → s.world.harts.stopped ≡ false → RunsReader contents failures mode image s script (Err fault) t out out' → JudgesImage disk fault
-  run_judged mode image s t script fault out out' still (inr read) = script_judged mode image s t _ fault out out' still read.2
-  run_judged mode image s t script (faults.Read e) out out' still (inl unread) = mounted
-  run_judged mode image s t script faults.Memory out out' still (inl unread) = tt
-  run_judged mode image s t script (faults.Write e) out out' still (inl unread) = mounted
-  run_judged mode image s t script (faults.Line n why) out out' still (inl unread) = mounted
-  run_judged mode image s t script (faults.Image f) out out' still (inl unread) = absurd unread.fault
-  run_judged mode image s t script (faults.Stopped stop) out out' still (inl unread) = absurd unread.fault
+  pub run_judged : (mode : Mode) (history : History) (s t : SessionOf D) (script : Option (List ℕ)) (fault : ConsoleFault) (out out' : Option (List ℕ)) → s.world.harts.stopped ≡ false → RunsReader contents failures mode history s script (Err fault) t out out' → JudgesImage disk fault
+  run_judged mode history s t script fault out out' still (inr read) = script_judged mode history s t _ fault out out' still read.2
+  run_judged mode history s t script (faults.Read e) out out' still (inl unread) = mounted
+  run_judged mode history s t script faults.Memory out out' still (inl unread) = tt
+  run_judged mode history s t script (faults.Write e) out out' still (inl unread) = mounted
+  run_judged mode history s t script (faults.Line n why) out out' still (inl unread) = mounted
+  run_judged mode history s t script (faults.Image f) out out' still (inl unread) = absurd unread.fault
+  run_judged mode history s t script (faults.Stopped stop) out out' still (inl unread) = absurd unread.fault

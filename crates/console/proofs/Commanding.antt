@@ -21,7 +21,7 @@ use Rattle.console.specs.declared.doing.Doing.{Doing}
 use Rattle.console.specs.Behaviours.{gives, followed_by, takes_memory, prints, IfTold, IsWritten, Told, Runs}
 use Rattle.console.specs.Commands.{RunOf, IsPassed, acts, acts_as, all_harts, goes_on, happens, in_steps, is_enough, joined, line, lines, settles, starts, state, tells_flow, tells_waits, to_end, turn, turns, up_to, wait_text}
 use Rattle.console.specs.Lines.{called}
-use Rattle.console.specs.Notes.{NotesOf, all_noted, copy_for, what_of, with_kept, with_note, with_what}
+use Rattle.console.specs.Notes.{KeptRun, NotesOf, all_noted, copy_for, what_of, with_kept, with_note, with_what}
 use Rattle.console.specs.Queues.{Left, TakesNext, left_to}
 use Rattle.console.specs.Sessions.{SessionOf, Happens, doing_at, hart_in}
 use Rattle.console.specs.Told.{told_of}
@@ -31,22 +31,22 @@ use Rattle.console.proofs.Behaving.{ends_in_fault, gives_at_once, goes_on as the
 module _ {D : Type 0} (contents : D → List (List ℕ)) (failures : D → ℕ) where
   -- ---- an event
 
-  kept_same : (kept : Option (List Event)) (e : Event) → with_kept kept (copy_for kept e) ≡ with_kept kept (Some e)
-  kept_same None e = refl
-  kept_same (Some es) e = refl
+  kept_same : (kept : Option KeptRun) (e : Event) (came : Came) → with_kept kept (copy_for kept e) came ≡ with_kept kept (Some e) came
+  kept_same None e came = refl
+  kept_same (Some run) e came = refl
 
   -- a copy of the event is the event, where events are kept
-  copied : (n : NotesOf) (hart : ℕ) (what : Option What) (e : Event) → with_what n hart what (copy_for n.kept e) ≡ with_what n hart what (Some e)
-  copied n hart None e = refl
-  copied n hart (Some what) e = ap (λ k. record (with_note n hart what (Some e)) { kept = k }) (kept_same n.kept e)
+  copied : (n : NotesOf) (hart : ℕ) (what : Option What) (e : Event) (came : Came) → with_what n hart what (copy_for n.kept e) came ≡ with_what n hart what (Some e) came
+  copied n hart None e came = refl
+  copied n hart (Some what) e came = ap (λ k. record (with_note n hart what (Some e) came) { kept = k }) (kept_same n.kept e came)
 
-  told_and_noted : (e : Event) (verb : Verb) (came : Came) (copy : Option Event) (out end : Option (List ℕ)) (n l : NotesOf) → copy ≡ copy_for n.kept e → Appends out end (told_of (hart_in e) verb came) × (l ≡ with_what n (hart_in e) (what_of verb came) copy)
+  told_and_noted : (e : Event) (verb : Verb) (came : Came) (copy : Option Event) (out end : Option (List ℕ)) (n l : NotesOf) → copy ≡ copy_for n.kept e → Appends out end (told_of (hart_in e) verb came) × (l ≡ with_what n (hart_in e) (what_of verb came) copy came)
       → Told out n (record { event = e; verb = verb; came = came } ∷ []) (told_of (hart_in e) verb came) end l
   unfolding all_noted
-  told_and_noted e verb came copy out end n l again both = record { printed = both.0; noted = both.1 ∙ ap (λ c. with_what n (hart_in e) (what_of verb came) c) again ∙ copied n (hart_in e) (what_of verb came) e }
+  told_and_noted e verb came copy out end n l again both = record { printed = both.0; noted = both.1 ∙ ap (λ c. with_what n (hart_in e) (what_of verb came) c came) again ∙ copied n (hart_in e) (what_of verb came) e came }
 
   pub happened : (e : Event) (verb : Verb) (came : Came) (hart : ℕ) (copy : Option Event) (s t : SessionOf D) (left : Left) (out end : Option (List ℕ)) (n l : NotesOf) (r : Result Flow ConsoleFault) → hart ≡ hart_in e → copy ≡ copy_for n.kept e
-      → Happens contents failures s (record { event = e; verb = verb; came = came }) t → IsPassed came r → IfTold r (Appends out end (told_of hart verb came)) → IfTold r (l ≡ with_what n hart (what_of verb came) copy)
+      → Happens contents failures s (record { event = e; verb = verb; came = came }) t → IsPassed came r → IfTold r (Appends out end (told_of hart verb came)) → IfTold r (l ≡ with_what n hart (what_of verb came) copy came)
       → Runs (happens contents failures e verb) (state s left) out n r (state t left) end l
   unfolding happens
   happened e verb came hart copy s t left out end n l r is again happens passed prints notes = record {
@@ -54,7 +54,7 @@ module _ {D : Type 0} (contents : D → List (List ℕ)) (failures : D → ℕ) 
     text = told_of (hart_in e) verb came;
     does = record { came = came; happens = happens; left = refl; passed = passed; events_are = refl; text_is = refl };
     told = if_told_map r (told_and_noted e verb came copy out end n l again)
-        (subst (λ h. IfTold r (Appends out end (told_of h verb came) × (l ≡ with_what n h (what_of verb came) copy))) is (if_told_both _ _ r prints notes));
+        (subst (λ h. IfTold r (Appends out end (told_of h verb came) × (l ≡ with_what n h (what_of verb came) copy came))) is (if_told_both _ _ r prints notes));
   }
 
   pub started : (hart : ℕ) (said : said.Call) (call : Call) (verb : Verb) (s t : RunOf D) (out end : Option (List ℕ)) (n l : NotesOf) (r : Result Flow ConsoleFault) → call ≡ called said → verb ≡ verb_of call

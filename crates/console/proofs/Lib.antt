@@ -11,3 +11,7 @@ pub mod Telling
 pub mod Typing
 pub mod Answering
 pub mod Prompting
+pub mod Chaining
+pub mod Noting
+pub mod Keeping
+pub mod Mounting

@@ -7,6 +7,7 @@ use Rattle.console_parts.proofs.Appending.{appends_nothing, appends_both}
 use Rattle.console.specs.declared.doing.Doing.{Doing}
 use Rattle.console.specs.declared.fault.ConsoleFault.{ConsoleFault}
 use Rattle.console.specs.Commands.{state}
+use Rattle.console.specs.Histories.{History}
 use Rattle.console.specs.Notes.{NotesOf, no_notes}
 use Rattle.console.specs.Prompts.{PromptsAll, PromptsReader, calls_text, doing_text}
 use Rattle.console.specs.Queues.{Left, none_left}
@@ -29,16 +30,15 @@ calls_end known harts doing i le = subst (λ hs. Appends known known (calls_text
 -- ---- all lines, and what stands behind them
 
 module _ {D : Type 0} (contents : D → List (List ℕ)) (failures : D → ℕ) (help : List ℕ) where
-  pub lines_answered : (mode : Mode) (image : List ℕ) (s t : SessionOf D) (typed : Option (List ℕ)) (queues left : Left) (ends result : Result (Unit {0}) ConsoleFault) (out between out' : Option (List ℕ)) (first notes : NotesOf) (most : ℕ) → queues ≡ none_left
-      → first ≡ no_notes most mode.explain → most ≡ most_noted mode → PromptsAll contents failures help 1 typed (state s queues) out first ends (state t left) between notes → EndsSo mode image notes ends between result out'
-      → PromptsReader contents failures help mode image s typed result t out out'
-  lines_answered mode image s t typed queues left ends result out between out' first notes most none is many answers end =
-      let from_none = subst (λ q. PromptsAll contents failures help 1 typed (state s q) out first ends (state t left) between notes) none answers in
+  pub lines_answered : (mode : Mode) (history : History) (s t : SessionOf D) (typed : Option (List ℕ)) (queues left : Left) (ends result : Result (Unit {0}) ConsoleFault) (out between out' : Option (List ℕ)) (first notes : NotesOf) → queues ≡ none_left → first ≡ no_notes (most_noted mode) mode.explain
+      → PromptsAll contents failures help 1 typed (state s queues) out first ends (state t left) between notes → EndsSo mode history notes ends between result out' → PromptsReader contents failures help mode history s typed result t out out'
+  lines_answered mode history s t typed queues left ends result out between out' first notes none is answers end =
       inl (record {
         left = left;
         ends = ends;
         between = between;
         notes = notes;
-        answers = subst (λ n. PromptsAll contents failures help 1 typed (state s none_left) out n ends (state t left) between notes) (is ∙ ap (λ k. no_notes k mode.explain) many) from_none;
+        answers = subst (λ n. PromptsAll contents failures help 1 typed (state s none_left) out n ends (state t left) between notes) is
+            (subst (λ q. PromptsAll contents failures help 1 typed (state s q) out first ends (state t left) between notes) none answers);
         end = end;
       })

@@ -2,20 +2,17 @@
 use Rattle.std.proofs.Common.{◌≡◌, ℕ, ◌<◌, min, arith, List, [], length, take, Option, Some, None, option_map, Result, Ok, Err, refl, ap, sym, ◌∙◌, subst, inl, inr}
 use Rattle.std.proofs.lemmas.List.{take_all, length-take}
 use Rattle.std.specs.Prelude.{IfSome}
-use Rattle.image_tree.specs.Damage.{JudgesFault, fault_count_of}
-use Rattle.image_tree.specs.declared.fault.MountFault.{MountFault}
-use Rattle.image_tree.specs.declared.fault.MountFault.TheVariants as mounts
+use Rattle.hart_core.specs.declared.outcome.Stop.{Stop}
 use Rattle.console.specs.declared.fault.ConsoleFault.{ConsoleFault}
 use Rattle.console.specs.declared.fault.ConsoleFault.TheVariants as faults
 use Rattle.console_parts.specs.declared.mode.Mode.{Mode}
-use Rattle.console.specs.Faults.{of_mount}
-use Rattle.console.specs.Images.{JudgesImage}
 use Rattle.console.specs.Behaviours.{Runs}
 use Rattle.console.specs.Commands.{lines, state}
+use Rattle.console.specs.Histories.{History}
 use Rattle.console.specs.Lines.{CourseOf, FailsTo, IsMemory, script_course}
 use Rattle.console.specs.Notes.{NotesOf, no_notes}
 use Rattle.console.specs.Queues.{Left}
-use Rattle.console.specs.Runs.{EndsOn, EndsSo, FailsUnread, RunsCourse, RunsReader, RunsScript, most_noted}
+use Rattle.console.specs.Runs.{EndsOn, EndsSo, FailsUnread, PrintsAll, RunsCourse, RunsReader, RunsScript, most_noted, or_stopped}
 use Rattle.console.specs.Sessions.{SessionOf}
 
 any_text : (script : Option (List ℕ)) → (text : List ℕ) × IfSome script (λ bytes. text ≡ bytes)
@@ -29,54 +26,55 @@ whole_text (Some bytes) limit items is few =
     let count : length items ≡ min limit (length bytes) = ap length is ∙ length-take limit bytes in
     is ∙ take_all limit bytes (omega (arith, count, few))
 
-pub mount_judged : (disk : List (List ℕ)) (fault : MountFault) → JudgesFault disk fault → fault_count_of fault 0 ≡ 0 → JudgesImage disk (of_mount fault)
-mount_judged disk (mounts.Damaged d) judged none = judged
-mount_judged disk mounts.DeviceFault judged none = let bad : 1 ≡ 0 = none in absurd (omega (arith, bad))
-mount_judged disk mounts.NoMemory judged none = tt
+-- a call was stopped, and all else is told
+pub stopped_so : (mode : Mode) (history : History) (notes : NotesOf) (ended : Result (Unit {0}) ConsoleFault) (stop : Stop) (told result : Result (Unit {0}) ConsoleFault) (out out' : Option (List ℕ)) → ended ≡ Err (faults.Stopped stop)
+    → PrintsAll mode history notes out told out' → result ≡ or_stopped stop told → EndsSo mode history notes ended out result out'
+stopped_so mode history notes ended stop told result out out' was printed is = subst (λ r. EndsSo mode history notes r out result out') (sym was) (told, printed, is)
 
 module _ {D : Type 0} (contents : D → List (List ℕ)) (failures : D → ℕ) where
-  pub no_memory : (mode : Mode) (image : List ℕ) (s : SessionOf D) (course : Result CourseOf ℕ) (out : Option (List ℕ)) → RunsScript contents failures mode image s course (Err faults.Memory) s out out
-  no_memory mode image s (Ok course) out = inr (record { memory = refl; same = refl; silent = refl })
-  no_memory mode image s (Err n) out = (tt, refl, refl)
+  pub no_memory : (mode : Mode) (history : History) (s : SessionOf D) (course : Result CourseOf ℕ) (out : Option (List ℕ)) → RunsScript contents failures mode history s course (Err faults.Memory) s out out
+  no_memory mode history s (Ok course) out = inr (record { memory = refl; same = refl; silent = refl })
+  no_memory mode history s (Err n) out = (tt, refl, refl)
 
-  pub unread : (mode : Mode) (image : List ℕ) (s : SessionOf D) (script : Option (List ℕ)) (fault : ConsoleFault) (out : Option (List ℕ)) → FailsUnread fault → RunsReader contents failures mode image s script (Err fault) s out out
-  unread mode image s script (faults.Read e) out may = inl (record { fault = tt; same = refl; silent = refl })
-  unread mode image s script faults.Memory out may = let text = any_text script in inr (text.0, text.1, no_memory mode image s _ out)
-  unread mode image s script (faults.Write e) out may = absurd may
-  unread mode image s script (faults.Line n why) out may = absurd may
-  unread mode image s script (faults.Image f) out may = absurd may
-  unread mode image s script (faults.Stopped stop) out may = absurd may
+  pub unread : (mode : Mode) (history : History) (s : SessionOf D) (script : Option (List ℕ)) (fault : ConsoleFault) (out : Option (List ℕ)) → FailsUnread fault → RunsReader contents failures mode history s script (Err fault) s out out
+  unread mode history s script (faults.Read e) out may = inl (record { fault = tt; same = refl; silent = refl })
+  unread mode history s script faults.Memory out may = let text = any_text script in inr (text.0, text.1, no_memory mode history s _ out)
+  unread mode history s script (faults.Write e) out may = absurd may
+  unread mode history s script (faults.Line n why) out may = absurd may
+  unread mode history s script (faults.Image f) out may = absurd may
+  unread mode history s script (faults.Stopped stop) out may = absurd may
 
   -- ---- a course
 
-  pub course_run : (mode : Mode) (image : List ℕ) (course : CourseOf) (s t : SessionOf D) (left : Left) (ends result : Result (Unit {0}) ConsoleFault) (out between out' : Option (List ℕ)) (first notes : NotesOf) (most : ℕ) → first ≡ no_notes most mode.explain → most ≡ most_noted mode
-      → Runs (lines contents failures course.lines) (state s course.left) out first ends (state t left) between notes → EndsSo mode image notes ends between result out' → RunsCourse contents failures mode image s course result t out out'
-  course_run mode image course s t left ends result out between out' first notes most is many runs end =
+  pub course_run : (mode : Mode) (history : History) (course : CourseOf) (s t : SessionOf D) (queues left : Left) (ends result : Result (Unit {0}) ConsoleFault) (out between out' : Option (List ℕ)) (first notes : NotesOf) → queues ≡ course.left → first ≡ no_notes (most_noted mode) mode.explain
+      → Runs (lines contents failures course.lines) (state s queues) out first ends (state t left) between notes → EndsSo mode history notes ends between result out' → RunsCourse contents failures mode history s course result t out out'
+  course_run mode history course s t queues left ends result out between out' first notes same is runs end =
       inl (record {
         left = left;
         ends = ends;
         between = between;
         notes = notes;
-        runs = subst (λ n. Runs (lines contents failures course.lines) (state s course.left) out n ends (state t left) between notes) (is ∙ ap (λ k. no_notes k mode.explain) many) runs;
+        runs = subst (λ n. Runs (lines contents failures course.lines) (state s course.left) out n ends (state t left) between notes) is
+            (subst (λ q. Runs (lines contents failures course.lines) (state s q) out first ends (state t left) between notes) same runs);
         end = end;
       })
 
-  pub with_course : (mode : Mode) (image : List ℕ) (script : Result CourseOf ℕ) (course : CourseOf) (s t : SessionOf D) (result : Result (Unit {0}) ConsoleFault) (out out' : Option (List ℕ)) → script ≡ Ok course → RunsCourse contents failures mode image s course result t out out'
-      → RunsScript contents failures mode image s script result t out out'
-  with_course mode image script course s t result out out' is runs = subst (λ x. RunsScript contents failures mode image s x result t out out') (sym is) runs
+  pub with_course : (mode : Mode) (history : History) (script : Result CourseOf ℕ) (course : CourseOf) (s t : SessionOf D) (result : Result (Unit {0}) ConsoleFault) (out out' : Option (List ℕ)) → script ≡ Ok course → RunsCourse contents failures mode history s course result t out out'
+      → RunsScript contents failures mode history s script result t out out'
+  with_course mode history script course s t result out out' is runs = subst (λ x. RunsScript contents failures mode history s x result t out out') (sym is) runs
 
-  memory_only : (mode : Mode) (image : List ℕ) (course : CourseOf) (s : SessionOf D) (fault : ConsoleFault) (out : Option (List ℕ)) → IsMemory fault → RunsCourse contents failures mode image s course (Err fault) s out out
-  memory_only mode image course s faults.Memory out is = inr (record { memory = refl; same = refl; silent = refl })
-  memory_only mode image course s (faults.Line n why) out is = absurd is
-  memory_only mode image course s (faults.Image f) out is = absurd is
-  memory_only mode image course s (faults.Read e) out is = absurd is
-  memory_only mode image course s (faults.Write e) out is = absurd is
-  memory_only mode image course s (faults.Stopped stop) out is = absurd is
+  memory_only : (mode : Mode) (history : History) (course : CourseOf) (s : SessionOf D) (fault : ConsoleFault) (out : Option (List ℕ)) → IsMemory fault → RunsCourse contents failures mode history s course (Err fault) s out out
+  memory_only mode history course s faults.Memory out is = inr (record { memory = refl; same = refl; silent = refl })
+  memory_only mode history course s (faults.Line n why) out is = absurd is
+  memory_only mode history course s (faults.Image f) out is = absurd is
+  memory_only mode history course s (faults.Read e) out is = absurd is
+  memory_only mode history course s (faults.Write e) out is = absurd is
+  memory_only mode history course s (faults.Stopped stop) out is = absurd is
 
-  pub failed_course : (mode : Mode) (image : List ℕ) (script : Result CourseOf ℕ) (s : SessionOf D) (fault : ConsoleFault) (result : Result (Unit {0}) ConsoleFault) (out : Option (List ℕ)) → result ≡ Err fault → FailsTo fault script → RunsScript contents failures mode image s script result s out out
-  failed_course mode image (Ok course) s fault result out is fails = subst (λ r. RunsCourse contents failures mode image s course r s out out) (sym is) (memory_only mode image course s fault out fails)
-  failed_course mode image (Err n) s fault result out is fails = (subst (λ r. EndsOn n r) (sym is) fails, refl, refl)
+  pub failed_course : (mode : Mode) (history : History) (script : Result CourseOf ℕ) (s : SessionOf D) (fault : ConsoleFault) (result : Result (Unit {0}) ConsoleFault) (out : Option (List ℕ)) → result ≡ Err fault → FailsTo fault script → RunsScript contents failures mode history s script result s out out
+  failed_course mode history (Ok course) s fault result out is fails = subst (λ r. RunsCourse contents failures mode history s course r s out out) (sym is) (memory_only mode history course s fault out fails)
+  failed_course mode history (Err n) s fault result out is fails = (subst (λ r. EndsOn n r) (sym is) fails, refl, refl)
 
-  pub was_read : (mode : Mode) (image : List ℕ) (s t : SessionOf D) (script : Option (List ℕ)) (text slice : List ℕ) (result : Result (Unit {0}) ConsoleFault) (out out' : Option (List ℕ)) → IfSome script (λ bytes. text ≡ bytes) → slice ≡ text
-      → RunsScript contents failures mode image s (script_course mode.schedule slice) result t out out' → RunsReader contents failures mode image s script result t out out'
-  was_read mode image s t script text slice result out out' is same runs = inr (text, is, subst (λ x. RunsScript contents failures mode image s (script_course mode.schedule x) result t out out') same runs)
+  pub was_read : (mode : Mode) (history : History) (s t : SessionOf D) (script : Option (List ℕ)) (text slice : List ℕ) (result : Result (Unit {0}) ConsoleFault) (out out' : Option (List ℕ)) → IfSome script (λ bytes. text ≡ bytes) → slice ≡ text
+      → RunsScript contents failures mode history s (script_course mode.schedule slice) result t out out' → RunsReader contents failures mode history s script result t out out'
+  was_read mode history s t script text slice result out out' is same runs = inr (text, is, subst (λ x. RunsScript contents failures mode history s (script_course mode.schedule x) result t out out') same runs)

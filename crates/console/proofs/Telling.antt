@@ -1,16 +1,21 @@
 -- A history is told, or why there is none.
-use Rattle.std.proofs.Common.{◌≡◌, ℕ, List, Option, Result, Ok, Err, refl, inl, inr}
+use Rattle.std.proofs.Common.{◌≡◌, ℕ, List, Option, Result, Ok, Err, refl, subst, inl, inr}
 use Rattle.std.specs.Prelude.{OnOk}
 use Rattle.std.specs.Io.KnownBytes.{Appends}
+use Rattle.hart_core.specs.declared.events.Came.{Came}
 use Rattle.hart_core.specs.declared.events.Event.{Event}
+use Rattle.hart_core.specs.Runs.{trace_in}
 use Rattle.plain_tree.specs.declared.trace.Placed.{Placed}
-use Rattle.explain.specs.Explained.{ExplainsRun, IsRefusedSo}
+use Rattle.plain_tree.specs.Explains.{Explains}
+use Rattle.plain_tree.specs.TreeData.{TreeData}
+use Rattle.explain.specs.Explained.{ExplainsRun, IsRefusedFor, IsRefusedSo}
 use Rattle.explain.specs.declared.refused.ExplainRefused.{ExplainRefused}
 use Rattle.explain.specs.declared.refused.ExplainRefused.TheVariants as refused
 use Rattle.console.specs.declared.fault.ConsoleFault.{ConsoleFault}
 use Rattle.console.specs.declared.fault.ConsoleFault.TheVariants as faults
 use Rattle.console.specs.Behaviours.{IsWritten}
-use Rattle.console.specs.Histories.{HasLine, TellsHistory, TellsWhy, entries_text, why_line}
+use Rattle.console.specs.Histories.{HasLine, History, TellsHistory, TellsWhy, entries_text, history_from, history_on, why_line}
+use Rattle.console.specs.Notes.{KeptRun}
 
 has_line : (why : ExplainRefused) → (why ≡ refused.NoMemory → ⊥) → HasLine why
 has_line refused.NoMemory other = absurd (other refl)
@@ -27,25 +32,61 @@ line_told why (Err (faults.Read e)) out out' other written line = absurd written
 line_told why (Err (faults.Line n reason)) out out' other written line = absurd written
 line_told why (Err (faults.Stopped stop)) out out' other written line = absurd written
 
-pub why_told : (image : List ℕ) (events : List Event) (why : ExplainRefused) (result : Result (Unit {0}) ConsoleFault) (out out' : Option (List ℕ)) → IsRefusedSo image events why → TellsWhy why result out out' → TellsHistory image events result out out'
-why_told image events why result out out' so (inl told) = inl (record {
+pub why_told : (history : History) (run : KeptRun) (why : ExplainRefused) (result : Result (Unit {0}) ConsoleFault) (out out' : Option (List ℕ)) → (HasLine why → history run (why_line why)) → TellsWhy why result out out' → TellsHistory history run result out out'
+why_told history run why result out out' so (inl told) = inl (record {
   text = why_line why;
-  is_history = inr (record { why = why; has_line = told.0; refused = so; text_is = refl });
+  is_history = so told.0;
   ends = told.1;
   printed = told.2;
 })
-why_told image events why result out out' so (inr untold) = inr untold
+why_told history run why result out out' so (inr untold) = inr untold
 
-pub list_told : (image : List ℕ) (events : List Event) (list : List Placed) (result : Result (Unit {0}) ConsoleFault) (out out' : Option (List ℕ)) → ExplainsRun image events list → IsWritten result → OnOk result (Appends out out' (entries_text list)) → TellsHistory image events result out out'
-list_told image events list (Ok u) out out' explains written lines = inl (record {
+pub list_told : (history : History) (run : KeptRun) (list : List Placed) (result : Result (Unit {0}) ConsoleFault) (out out' : Option (List ℕ)) → history run (entries_text list) → IsWritten result → OnOk result (Appends out out' (entries_text list)) → TellsHistory history run result out out'
+list_told history run list (Ok u) out out' explains written lines = inl (record {
   text = entries_text list;
-  is_history = inl (record { list = list; explains = explains; text_is = refl });
+  is_history = explains;
   ends = refl;
   printed = lines;
 })
-list_told image events list (Err (faults.Write e)) out out' explains written lines = inr tt
-list_told image events list (Err faults.Memory) out out' explains written lines = absurd written
-list_told image events list (Err (faults.Image f)) out out' explains written lines = absurd written
-list_told image events list (Err (faults.Read e)) out out' explains written lines = absurd written
-list_told image events list (Err (faults.Line n reason)) out out' explains written lines = absurd written
-list_told image events list (Err (faults.Stopped stop)) out out' explains written lines = absurd written
+list_told history run list (Err (faults.Write e)) out out' explains written lines = inr tt
+list_told history run list (Err faults.Memory) out out' explains written lines = absurd written
+list_told history run list (Err (faults.Image f)) out out' explains written lines = absurd written
+list_told history run list (Err (faults.Read e)) out out' explains written lines = absurd written
+list_told history run list (Err (faults.Line n reason)) out out' explains written lines = absurd written
+list_told history run list (Err (faults.Stopped stop)) out out' explains written lines = absurd written
+
+-- ---- from a tree on, of events and outcomes that are the run's
+
+module _ (base : TreeData) (run : KeptRun) (events : List Event) (outcomes : List Came) (these : events ≡ run.events) (those : outcomes ≡ run.outcomes) where
+  pub found : (list shown : List Placed) → list ≡ shown → Explains base (trace_in events outcomes) list → history_from base run (entries_text shown)
+  found list shown same explains = inl (record {
+    list = shown;
+    explains = subst (λ (p : List Event × List Came × List Placed). Explains base (trace_in p.0 p.1) p.2) (λ i. (these i, those i, same i)) explains;
+    text_is = refl;
+  })
+
+  pub unfound : (why : ExplainRefused) → IsRefusedFor base (trace_in events outcomes) why → HasLine why → history_from base run (why_line why)
+  unfound why so line = inr (record {
+    why = why;
+    has_line = line;
+    refused = subst (λ (p : List Event × List Came). IsRefusedFor base (trace_in p.0 p.1) why) (λ i. (these i, those i)) so;
+    text_is = refl;
+  })
+
+-- ---- on an image, of events that are the run's
+
+module _ (image : List ℕ) (run : KeptRun) (events : List Event) (these : events ≡ run.events) where
+  pub found_on : (list shown : List Placed) → list ≡ shown → ExplainsRun image events list → history_on image run (entries_text shown)
+  found_on list shown same explains = inl (record {
+    list = shown;
+    explains = subst (λ (p : List Event × List Placed). ExplainsRun image p.0 p.1) (λ i. (these i, same i)) explains;
+    text_is = refl;
+  })
+
+  pub unfound_on : (why : ExplainRefused) → IsRefusedSo image events why → HasLine why → history_on image run (why_line why)
+  unfound_on why so line = inr (record {
+    why = why;
+    has_line = line;
+    refused = subst (λ (es : List Event). IsRefusedSo image es why) these so;
+    text_is = refl;
+  })

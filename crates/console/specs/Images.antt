@@ -20,6 +20,17 @@ bytes_for (Some bytes) = bytes.items
 abbrev pub disk_for : Option (Vec ℕ Global) → List (List ℕ)
 disk_for image = blocks_of (bytes_for image)
 
+-- why a disk in memory isn't mounted: its first damage, or want of memory
+abbrev pub RefusesDisk : List (List ℕ) → ConsoleFault → Type 0
+RefusesDisk disk (Image (mounts.Damaged d)) = IsFirstDamage disk d
+RefusesDisk disk (Image mounts.DeviceFault) = ⊥
+RefusesDisk disk (Image mounts.NoMemory) = ⊥
+RefusesDisk disk (Read e) = ⊥
+RefusesDisk disk (Write e) = ⊥
+RefusesDisk disk (Line n why) = ⊥
+RefusesDisk disk (Stopped s) = ⊥
+RefusesDisk disk Memory = Unit {0}
+
 -- Why a run on a disk in memory has no end. A refused image is refused for its first damage; all else is told of an image that
 -- is mounted, and this disk never fails.
 abbrev pub JudgesImage : List (List ℕ) → ConsoleFault → Type 0

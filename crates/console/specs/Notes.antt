@@ -1,4 +1,5 @@
--- What is noted of events, for the lines of --last and the columns of --timeline; and the events themselves, for --explain.
+-- What is noted of events, for the lines of --last and the columns of --timeline; and the events themselves with what they came to, for
+-- --explain.
 use Rattle.std.specs.Prelude.{ℕ, ◌+◌, Bool, true, false, List, [], ◌∷◌, ◌++◌, Option, Some, None}
 use Rattle.hart_core.specs.declared.events.Came.{Came}
 use Rattle.hart_core.specs.declared.events.Came.TheVariants as came
@@ -25,15 +26,23 @@ what_of verb came.Started = Some (Start verb)
 what_of verb (came.Refused why) = Some (Refused why)
 what_of verb (came.Stepped outcome) = what_of_step outcome
 
--- the last notes, and how many there were in all; and all events, where they are kept
+-- events in their order, and what each came to
+pub record KeptRun : Type 0 where
+  pub events : List Event
+  pub outcomes : List Came
+
+-- the last notes, and how many there were in all; and the whole run, where it is kept
 pub record NotesOf : Type 0 where
   pub tail : TailView Note
   pub count : ℕ
-  pub kept : Option (List Event)
+  pub kept : Option KeptRun
 
--- where they are wanted
-abbrev pub none_kept : Bool → Option (List Event)
-none_kept true = Some []
+abbrev pub no_events : KeptRun
+no_events = record { events = []; outcomes = [] }
+
+-- where it is wanted
+abbrev pub none_kept : Bool → Option KeptRun
+none_kept true = Some no_events
 none_kept false = None
 
 -- with room for the last n
@@ -41,34 +50,35 @@ abbrev pub no_notes : ℕ → Bool → NotesOf
 no_notes n keeps = record { tail = tail n []; count = 0; kept = none_kept keeps }
 
 -- the copy that is to be kept, where events are kept
-abbrev pub copy_for : Option (List Event) → Event → Option Event
+abbrev pub copy_for : Option KeptRun → Event → Option Event
 copy_for None event = None
-copy_for (Some events) event = Some event
+copy_for (Some run) event = Some event
 
-abbrev pub with_kept : Option (List Event) → Option Event → Option (List Event)
-with_kept None copy = None
-with_kept (Some events) None = Some events
-with_kept (Some events) (Some event) = Some (events ++ event ∷ [])
+-- the event, of which there is a copy, and what it came to
+abbrev pub with_kept : Option KeptRun → Option Event → Came → Option KeptRun
+with_kept None copy came = None
+with_kept (Some run) None came = Some run
+with_kept (Some run) (Some event) came = Some (record { events = run.events ++ event ∷ []; outcomes = run.outcomes ++ came ∷ [] })
 
--- the events that are kept, in their order
-abbrev pub events_in : Option (List Event) → List Event
-events_in None = []
-events_in (Some events) = events
+-- what is kept
+abbrev pub run_in : Option KeptRun → KeptRun
+run_in None = no_events
+run_in (Some run) = run
 
 -- events are numbered from 0, which are their places among those kept
-abbrev pub with_note : NotesOf → ℕ → What → Option Event → NotesOf
-with_note n hart what copy = record {
+abbrev pub with_note : NotesOf → ℕ → What → Option Event → Came → NotesOf
+with_note n hart what copy came = record {
   tail = with_event n.tail (record { number = n.count; hart = hart; what = what });
   count = n.count + 1;
-  kept = with_kept n.kept copy;
+  kept = with_kept n.kept copy came;
 }
 
-abbrev pub with_what : NotesOf → ℕ → Option What → Option Event → NotesOf
-with_what n hart None copy = n
-with_what n hart (Some what) copy = with_note n hart what copy
+abbrev pub with_what : NotesOf → ℕ → Option What → Option Event → Came → NotesOf
+with_what n hart None copy came = n
+with_what n hart (Some what) copy came = with_note n hart what copy came
 
 abbrev pub noted : NotesOf → EventOfCall → NotesOf
-noted n x = with_what n (hart_in x.event) (what_of x.verb x.came) (Some x.event)
+noted n x = with_what n (hart_in x.event) (what_of x.verb x.came) (Some x.event) x.came
 
 unfoldable pub all_noted : NotesOf → List EventOfCall → NotesOf
 all_noted n [] = n

@@ -15,7 +15,7 @@ use Rattle.console.specs.declared.fault.ConsoleFault.{ConsoleFault}
 use Rattle.console.specs.declared.fault.ConsoleFault.TheVariants as faults
 use Rattle.console.specs.Behaviours.{Behaviour, DoesNothing, Runs, followed_by, gives, in_case, prints, takes_memory}
 use Rattle.console.specs.Commands.{RunOf, all_harts, line, state}
-use Rattle.console.specs.Histories.{WhereSet}
+use Rattle.console.specs.Histories.{History, history_of}
 use Rattle.console.specs.Images.{bytes_for}
 use Rattle.console.specs.Notes.{NotesOf, no_notes}
 use Rattle.console.specs.Queues.{Left, none_left}
@@ -169,23 +169,23 @@ module _ {D : Type 0} (contents : D → List (List ℕ)) (failures : D → ℕ) 
     pub are_typed : IfSome typed (λ bytes. lines ≡ typed_lines bytes)
     pub runs : Runs (prompts_all n lines) s out notes result t out' notes'
 
-  -- the lines are answered, and then the last events are told, and the history on this image
-  pub record PromptsLines (mode : Mode) (image : List ℕ) (s : SessionOf D) (typed : Option (List ℕ))
+  -- the lines are answered, and then the last events are told, and the history
+  pub record PromptsLines (mode : Mode) (history : History) (s : SessionOf D) (typed : Option (List ℕ))
       (result : Result (Unit {0}) ConsoleFault) (t : SessionOf D) (out out' : Option (List ℕ)) : Type 0 where
     pub left : Left
     pub ends : Result (Unit {0}) ConsoleFault
     pub between : Option (List ℕ)
     pub notes : NotesOf
     pub answers : PromptsAll 1 typed (state s none_left) out (no_notes (most_noted mode) mode.explain) ends (state t left) between notes
-    pub end : EndsSo mode image notes ends between result out'
+    pub end : EndsSo mode history notes ends between result out'
 
-  abbrev pub PromptsReader : Mode → List ℕ → SessionOf D → Option (List ℕ) → Result (Unit {0}) ConsoleFault → SessionOf D → Option (List ℕ)
+  abbrev pub PromptsReader : Mode → History → SessionOf D → Option (List ℕ) → Result (Unit {0}) ConsoleFault → SessionOf D → Option (List ℕ)
       → Option (List ℕ) → Type 0
-  PromptsReader mode image s typed result t out out' =
-      PromptsLines mode image s typed result t out out' ⊎ RunsNone contents failures s result t out out'
+  PromptsReader mode history s typed result t out out' =
+      PromptsLines mode history s typed result t out out' ⊎ RunsNone contents failures s result t out out'
 
   -- From a file system that is mounted on this disk, in which no hart has a call, the lines make another; the disk as it is there is
-  -- handed out.
+  -- handed out. The history that is printed is that of this run, on the disk's bytes.
   pub record PromptsOn (mode : Mode) (bytes : List ℕ) (disk : D) (typed : Option (List ℕ)) (result : Result D ConsoleFault)
       (out out' : Option (List ℕ)) : Type 0 where
     pub first : SessionOf D
@@ -193,9 +193,7 @@ module _ {D : Type 0} (contents : D → List (List ℕ)) (failures : D → ℕ) 
     pub ended : Result (Unit {0}) ConsoleFault
     pub rests : Rests contents failures disk first.world.harts
     pub idle : first.doing ≡ replicate 8 None
-    pub image : List ℕ
-    pub image_is : WhereSet mode.explain (image ≡ bytes) (Unit {0})
-    pub runs : PromptsReader mode image first typed ended last out out'
+    pub runs : PromptsReader mode (history_of bytes) first typed ended last out out'
     pub hands : HandsOut last.world.harts.core.log.cache.device ended result
 
 -- on a disk in memory, or the image isn't taken

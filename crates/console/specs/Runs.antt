@@ -1,15 +1,16 @@
 -- A run of a script on a mounted file system.
 use Rattle.std.specs.Prelude.{◌≡◌, ◌⊎◌, ℕ, if◌then◌else◌, List, ◌++◌, Option, IfSome, Result, Ok, Err}
 use Rattle.std.specs.Io.KnownBytes.{Appends}
+use Rattle.hart_core.specs.declared.outcome.Stop.{Stop}
 use Rattle.console.specs.declared.fault.ConsoleFault.{ConsoleFault}
 use Rattle.console.specs.declared.fault.ConsoleFault.TheVariants as faults
 use Rattle.console_parts.specs.declared.mode.Mode.{Mode}
 use Rattle.console.specs.Behaviours.{Runs}
 use Rattle.console.specs.Commands.{lines, state}
 use Rattle.console.specs.Events.{last_of, timeline_of}
-use Rattle.console.specs.Histories.{TellsHistory, WhereSet}
+use Rattle.console.specs.Histories.{History, TellsHistory, WhereSet}
 use Rattle.console.specs.Lines.{CourseOf, TellsLine, script_course}
-use Rattle.console.specs.Notes.{NotesOf, events_in, no_notes}
+use Rattle.console.specs.Notes.{NotesOf, no_notes, run_in}
 use Rattle.console.specs.Queues.{Left}
 use Rattle.console.specs.Sessions.{SessionOf}
 
@@ -32,32 +33,33 @@ IsUnwritten (Err (faults.Read e)) = ⊥
 IsUnwritten (Err (faults.Line n why)) = ⊥
 IsUnwritten (Err (faults.Stopped stop)) = ⊥
 
--- the same end, with this printed before; or that wasn't written
-abbrev pub Prints : Result (Unit {0}) ConsoleFault → List ℕ → Option (List ℕ) → Result (Unit {0}) ConsoleFault → Option (List ℕ) → Type 0
-Prints ends text out result out' = ((result ≡ ends) × Appends out out' text) ⊎ IsUnwritten result
-
--- behind all else the history of the events on this image, where it is wanted
-abbrev pub TellsWanted : Mode → List ℕ → NotesOf → Option (List ℕ) → Result (Unit {0}) ConsoleFault → Option (List ℕ) → Type 0
-TellsWanted mode image notes out result out' =
-    WhereSet mode.explain (TellsHistory image (events_in notes.kept) result out out') ((result ≡ Ok tt) × (out' ≡ out))
+-- behind all else the history of the run, where it is wanted
+abbrev pub TellsWanted : Mode → History → NotesOf → Option (List ℕ) → Result (Unit {0}) ConsoleFault → Option (List ℕ) → Type 0
+TellsWanted mode history notes out result out' =
+    WhereSet mode.explain (TellsHistory history (run_in notes.kept) result out out') ((result ≡ Ok tt) × (out' ≡ out))
 
 -- the last events, the timeline and the history; or one of them isn't written
-abbrev pub PrintsAll : Mode → List ℕ → NotesOf → Option (List ℕ) → Result (Unit {0}) ConsoleFault → Option (List ℕ) → Type 0
-PrintsAll mode image notes out result out' =
-    ((between : Option (List ℕ)) × Appends out between (end_text mode notes) × TellsWanted mode image notes between result out')
+abbrev pub PrintsAll : Mode → History → NotesOf → Option (List ℕ) → Result (Unit {0}) ConsoleFault → Option (List ℕ) → Type 0
+PrintsAll mode history notes out result out' =
+    ((between : Option (List ℕ)) × Appends out between (end_text mode notes) × TellsWanted mode history notes between result out')
     ⊎ IsUnwritten result
 
--- The last events are told at the script's end, and where a call was stopped; the history only at its end.
-abbrev pub EndsSo : Mode → List ℕ → NotesOf → Result (Unit {0}) ConsoleFault → Option (List ℕ) → Result (Unit {0}) ConsoleFault
+-- that a call was stopped, where nothing worse is to be told
+abbrev pub or_stopped : Stop → Result (Unit {0}) ConsoleFault → Result (Unit {0}) ConsoleFault
+or_stopped stop (Ok u) = Err (faults.Stopped stop)
+or_stopped stop (Err fault) = Err fault
+
+-- All this is told at the script's end, and where a call was stopped.
+abbrev pub EndsSo : Mode → History → NotesOf → Result (Unit {0}) ConsoleFault → Option (List ℕ) → Result (Unit {0}) ConsoleFault
     → Option (List ℕ) → Type 0
-EndsSo mode image notes (Ok u) out result out' = PrintsAll mode image notes out result out'
-EndsSo mode image notes (Err (faults.Stopped stop)) out result out' =
-    Prints (Err (faults.Stopped stop)) (end_text mode notes) out result out'
-EndsSo mode image notes (Err faults.Memory) out result out' = result ≡ Err faults.Memory
-EndsSo mode image notes (Err (faults.Write e)) out result out' = result ≡ Err (faults.Write e)
-EndsSo mode image notes (Err (faults.Image f)) out result out' = result ≡ Err (faults.Image f)
-EndsSo mode image notes (Err (faults.Read e)) out result out' = result ≡ Err (faults.Read e)
-EndsSo mode image notes (Err (faults.Line n why)) out result out' = result ≡ Err (faults.Line n why)
+EndsSo mode history notes (Ok u) out result out' = PrintsAll mode history notes out result out'
+EndsSo mode history notes (Err (faults.Stopped stop)) out result out' =
+    (told : Result (Unit {0}) ConsoleFault) × PrintsAll mode history notes out told out' × (result ≡ or_stopped stop told)
+EndsSo mode history notes (Err faults.Memory) out result out' = result ≡ Err faults.Memory
+EndsSo mode history notes (Err (faults.Write e)) out result out' = result ≡ Err (faults.Write e)
+EndsSo mode history notes (Err (faults.Image f)) out result out' = result ≡ Err (faults.Image f)
+EndsSo mode history notes (Err (faults.Read e)) out result out' = result ≡ Err (faults.Read e)
+EndsSo mode history notes (Err (faults.Line n why)) out result out' = result ≡ Err (faults.Line n why)
 
 -- with a bad line no line is run
 abbrev pub EndsOn : ℕ → Result (Unit {0}) ConsoleFault → Type 0
@@ -83,8 +85,8 @@ IsReadFault (Err (faults.Line n why)) = ⊥
 IsReadFault (Err (faults.Stopped stop)) = ⊥
 
 module _ {D : Type 0} (contents : D → List (List ℕ)) (failures : D → ℕ) where
-  -- the lines are run, and then the last events are told, and the history on this image
-  pub record RunsLines (mode : Mode) (image : List ℕ) (s : SessionOf D) (course : CourseOf) (result : Result (Unit {0}) ConsoleFault)
+  -- the lines are run, and then the last events are told, and the history
+  pub record RunsLines (mode : Mode) (history : History) (s : SessionOf D) (course : CourseOf) (result : Result (Unit {0}) ConsoleFault)
       (t : SessionOf D) (out out' : Option (List ℕ)) : Type 0 where
     pub left : Left
     pub ends : Result (Unit {0}) ConsoleFault
@@ -92,7 +94,7 @@ module _ {D : Type 0} (contents : D → List (List ℕ)) (failures : D → ℕ) 
     pub notes : NotesOf
     pub runs : Runs (lines contents failures course.lines) (state s course.left) out (no_notes (most_noted mode) mode.explain) ends
         (state t left) between notes
-    pub end : EndsSo mode image notes ends between result out'
+    pub end : EndsSo mode history notes ends between result out'
 
   -- nothing was done and nothing printed, for want of memory
   pub record RunsNone (s : SessionOf D) (result : Result (Unit {0}) ConsoleFault) (t : SessionOf D)
@@ -101,15 +103,15 @@ module _ {D : Type 0} (contents : D → List (List ℕ)) (failures : D → ℕ) 
     pub same : t ≡ s
     pub silent : out' ≡ out
 
-  abbrev pub RunsCourse : Mode → List ℕ → SessionOf D → CourseOf → Result (Unit {0}) ConsoleFault → SessionOf D → Option (List ℕ)
+  abbrev pub RunsCourse : Mode → History → SessionOf D → CourseOf → Result (Unit {0}) ConsoleFault → SessionOf D → Option (List ℕ)
       → Option (List ℕ) → Type 0
-  RunsCourse mode image s course result t out out' = RunsLines mode image s course result t out out' ⊎ RunsNone s result t out out'
+  RunsCourse mode history s course result t out out' = RunsLines mode history s course result t out out' ⊎ RunsNone s result t out out'
 
   -- what a script runs, or its bad line
-  abbrev pub RunsScript : Mode → List ℕ → SessionOf D → Result CourseOf ℕ → Result (Unit {0}) ConsoleFault → SessionOf D → Option (List ℕ)
+  abbrev pub RunsScript : Mode → History → SessionOf D → Result CourseOf ℕ → Result (Unit {0}) ConsoleFault → SessionOf D → Option (List ℕ)
       → Option (List ℕ) → Type 0
-  RunsScript mode image s (Err n) result t out out' = EndsOn n result × (t ≡ s) × (out' ≡ out)
-  RunsScript mode image s (Ok course) result t out out' = RunsCourse mode image s course result t out out'
+  RunsScript mode history s (Err n) result t out out' = EndsOn n result × (t ≡ s) × (out' ≡ out)
+  RunsScript mode history s (Ok course) result t out out' = RunsCourse mode history s course result t out out'
 
   -- the script isn't read
   pub record Unread (s : SessionOf D) (result : Result (Unit {0}) ConsoleFault) (t : SessionOf D)
@@ -119,9 +121,9 @@ module _ {D : Type 0} (contents : D → List (List ℕ)) (failures : D → ℕ) 
     pub silent : out' ≡ out
 
   -- a script that is read to its end from a reader, of which may be known what it gives; or that isn't
-  abbrev pub RunsReader : Mode → List ℕ → SessionOf D → Option (List ℕ) → Result (Unit {0}) ConsoleFault → SessionOf D → Option (List ℕ)
+  abbrev pub RunsReader : Mode → History → SessionOf D → Option (List ℕ) → Result (Unit {0}) ConsoleFault → SessionOf D → Option (List ℕ)
       → Option (List ℕ) → Type 0
-  RunsReader mode image s script result t out out' =
+  RunsReader mode history s script result t out out' =
       Unread s result t out out'
       ⊎ ((text : List ℕ) × IfSome script (λ bytes. text ≡ bytes)
-      × RunsScript mode image s (script_course mode.schedule text) result t out out')
+      × RunsScript mode history s (script_course mode.schedule text) result t out out')

@@ -1,15 +1,18 @@
 -- What comes of an image and a script: it is mounted and the script is run on it, or it is only examined.
-use Rattle.std.specs.Prelude.{◌≡◌, ◌⊎◌, ℕ, List, Option, None, Result, Ok, Err, Vec, replicate}
+use Rattle.std.specs.Prelude.{◌≡◌, ◌⊎◌, ℕ, Bool, List, Option, None, Result, Ok, Err, Vec, replicate}
 use Rattle.std.specs.Io.KnownBytes.{Appends}
 use Rattle.std.specs.declared.alloc.Global.{Global}
 use Rattle.block_device.specs.Blocks.{blocks_of}
 use Rattle.image_tree.specs.Shape.{shape_of}
+use Rattle.plain_tree.specs.TreeData.{TreeData}
+use Rattle.image_tree.specs.Trees.{tree_in}
 use Rattle.hart_core.specs.Mounting.{Rests}
+use Rattle.explain.specs.Explained.{StartsOn}
 use Rattle.console_parts.specs.Text.{shape_line}
 use Rattle.console_parts.specs.declared.mode.Mode.{Mode}
 use Rattle.console.specs.declared.fault.ConsoleFault.{ConsoleFault}
 use Rattle.console.specs.declared.fault.ConsoleFault.TheVariants as faults
-use Rattle.console.specs.Histories.{WhereSet}
+use Rattle.console.specs.Histories.{WhereSet, history_of}
 use Rattle.console.specs.Images.{bytes_for}
 use Rattle.console.specs.Runs.{RunsReader}
 use Rattle.console.specs.Sessions.{SessionOf}
@@ -29,6 +32,13 @@ pub record TakesNoImage {A : Type 0} (result : Result A ConsoleFault) (out out' 
   pub untaken : IsUntaken result
   pub silent : out' ≡ out
 
+-- The file system is as a mount of a disk in memory with these bytes leaves it, and no hart has a call. The tree is the image's, where it
+-- is wanted.
+pub record IsMountedOn (wanted : Bool) (bytes : List ℕ) (base : TreeData) (s : SessionOf (List ℕ)) : Type 0 where
+  pub starts : StartsOn bytes s.world
+  pub idle : s.doing ≡ replicate 8 None
+  pub base_is : WhereSet wanted (base ≡ tree_in (blocks_of bytes)) (Unit {0})
+
 -- a disk is handed out where the script came to its end, else the fault
 abbrev pub HandsOut : {D : Type 0} → D → Result (Unit {0}) ConsoleFault → Result D ConsoleFault → Type 0
 HandsOut disk (Ok u) result = result ≡ Ok disk
@@ -36,8 +46,7 @@ HandsOut disk (Err fault) result = result ≡ Err fault
 
 module _ {D : Type 0} (contents : D → List (List ℕ)) (failures : D → ℕ) where
   -- From a file system that is mounted on this disk, in which no hart has a call, the script makes another; the disk as it is there is
-  -- handed out. The
-  -- history that is printed is one on the disk's bytes.
+  -- handed out. The history that is printed is that of this run, on the disk's bytes.
   pub record RunsOn (mode : Mode) (bytes : List ℕ) (disk : D) (script : Option (List ℕ)) (result : Result D ConsoleFault)
       (out out' : Option (List ℕ)) : Type 0 where
     pub first : SessionOf D
@@ -45,9 +54,7 @@ module _ {D : Type 0} (contents : D → List (List ℕ)) (failures : D → ℕ) 
     pub ended : Result (Unit {0}) ConsoleFault
     pub rests : Rests contents failures disk first.world.harts
     pub idle : first.doing ≡ replicate 8 None
-    pub image : List ℕ
-    pub image_is : WhereSet mode.explain (image ≡ bytes) (Unit {0})
-    pub runs : RunsReader contents failures mode image first script ended last out out'
+    pub runs : RunsReader contents failures mode (history_of bytes) first script ended last out out'
     pub hands : HandsOut last.world.harts.core.log.cache.device ended result
 
 -- its line is printed, and its blocks stay; or that isn't written

@@ -11,7 +11,7 @@ ghost use Rattle.console.specs.Sessions.{doing_at};
 use crate::fault::ConsoleFault;
 use crate::flow::Flow;
 use crate::lines::call_of;
-use crate::notes::Notes;
+use crate::notes::{Notes, what_of};
 use crate::plan::{Plan, Until};
 use crate::queues::Queues;
 use crate::session::{Session, hart_in};
@@ -19,7 +19,8 @@ use crate::tell::tell;
 use crate::verb::Verb;
 use block_device::Device;
 use console_parts::write_waits;
-use hart_core::Event;
+use explain::Keeper;
+use hart_core::{Came, Event};
 use script::{CallLine, Command, ScriptLine};
 use std::alloc::Global;
 use std::io::Write;
@@ -27,11 +28,26 @@ use std::io::Write;
 /// The harts, in the order of a turn.
 pub const ALL_HARTS: [u8; 8] = [0, 1, 2, 3, 4, 5, 6, 7];
 
-/// What stands beside a file system while a script is run: the calls that harts are still to start, and what is noted.
+/// What stands beside a file system while a script is run: the calls that harts are still to start, what is noted, and who keeps a tree
+/// beside the run, where that is kept.
 #[derive(Drop)]
 pub struct Desk {
     pub queues: Queues,
     pub notes: Notes,
+    pub keeper: Keeper,
+}
+
+// Tells the keeper of an event that is kept: of which there is a copy, and which is noted.
+fn hear<D: Device>(
+    session: &Session<D>,
+    keeper: &mut Keeper,
+    verb: Verb,
+    copy: &Option<Event>,
+    came: &Came,
+) {
+    if let (Some(event), Some(_what)) = (copy, what_of(verb, came)) {
+        session.tell(keeper, event, came);
+    }
 }
 
 // Makes an event, tells and notes it. The copy is the event again, where events are kept.
@@ -49,7 +65,8 @@ fn happen<D: Device, W: Write>(
 {
     let hart = hart_in(&event);
     let came = session.event(verb, event);
-    tell(hart, verb, &came, copy, &mut desk.notes, out)
+    hear(session, &mut desk.keeper, verb, &copy, &came);
+    tell(hart, verb, came, copy, &mut desk.notes, out)
 }
 
 // Starts the call that a line says.

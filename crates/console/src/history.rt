@@ -1,28 +1,48 @@
-//! The history of a script's events, as it is printed.
+//! The history of a run, as it is printed.
 ghost use Rattle.std.specs.Prelude.{◌++◌, OnOk, codes, decimal};
 ghost use Rattle.std.specs.Io.KnownBytes.{Appends};
-ghost use Rattle.console.specs.Histories.{TellsHistory, TellsWhy, entries_text, why_line};
+ghost use Rattle.console.specs.Histories.{TellsHistory, TellsWhy, entries_text, history_from, history_on, why_line};
 ghost use Rattle.console.specs.Behaviours.{IsWritten};
+ghost use Rattle.console.specs.Notes.{run_in};
 
 use crate::fault::ConsoleFault;
+use crate::notes::Notes;
 use console_parts::write_entry;
-use explain::{ExplainRefused, explain};
-use hart_core::Event;
-use plain_tree::Placed;
+use explain::{ExplainRefused, Keeper, explain, explain_noted};
+use plain_tree::{Placed, Tree};
 use std::alloc::Global;
 use std::io;
 use std::io::Write;
 
-/// Prints a list of tree steps that explains what these events show of calls on this image, a line a step; or why there is none.
+/// Prints a list of tree steps that explains, from this tree on, what the run that is kept showed of calls, a line a step; or why there is
+/// none. The keeper was told of the run's events as they were made.
 pub fn write_history<W: Write>(
     alloc: Global,
     out: &mut W,
-    image: &[u8],
-    events: &[Event],
+    base: &Tree,
+    notes: &Notes,
+    keeper: Keeper,
 ) -> Result<(), ConsoleFault>
-    ensures { TellsHistory image.now events.now result (W.contents out.old) (W.contents out.new) }
+    ensures { TellsHistory (history_from base.now) (run_in notes.now.kept) result (W.contents out.old) (W.contents out.new) }
 {
-    match explain(alloc, image, events) {
+    let (events, outcomes) = (notes.kept_events(), notes.kept_outcomes());
+    match explain_noted(alloc, base, events, outcomes, keeper) {
+        Ok(list) => tell_list(out, list.as_slice()),
+        Err(why) => tell_why(out, why),
+    }
+}
+
+/// Prints a list of tree steps that explains what the events that are kept show of calls on this image, or why there is none. The events
+/// are run once more, on a copy of the image in memory.
+pub fn write_history_on<W: Write>(
+    alloc: Global,
+    out: &mut W,
+    image: &[u8],
+    notes: &Notes,
+) -> Result<(), ConsoleFault>
+    ensures { TellsHistory (history_on image.now) (run_in notes.now.kept) result (W.contents out.old) (W.contents out.new) }
+{
+    match explain(alloc, image, notes.kept_events()) {
         Ok(list) => tell_list(out, list.as_slice()),
         Err(why) => tell_why(out, why),
     }

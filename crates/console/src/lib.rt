@@ -12,6 +12,7 @@ mod fault;
 mod flow;
 mod history;
 mod lines;
+mod mount;
 mod notes;
 mod numbers;
 mod plan;
@@ -29,7 +30,7 @@ pub use crate::notes::{Notes, What, what_of, what_of_step};
 pub use crate::prompt::{HELP, prompt_on, run_prompt};
 pub use crate::queues::Queues;
 pub use crate::run::{
-    LONGEST_SCRIPT, finish, image_disk, most_noted, read_script, run_on, run_script,
+    LONGEST_SCRIPT, finish_on, image_disk, most_noted, read_script, run_on, run_script,
 };
 pub use crate::session::{Session, hart_in};
 pub use crate::tell::write_refused;

@@ -1,7 +1,7 @@
 //! What is noted of events.
-ghost use Rattle.std.specs.Prelude.{◌≡◌, IfOk, OnOk, option_map};
+ghost use Rattle.std.specs.Prelude.{◌≡◌, IfOk, OnOk};
 ghost use Rattle.hart_core.specs.declared.events.Event.TheVariants.{Step};
-ghost use Rattle.console.specs.Notes.{copy_for, events_in, no_notes, what_of, what_of_step, with_kept, with_note};
+ghost use Rattle.console.specs.Notes.{copy_for, no_notes, run_in, what_of, what_of_step, with_kept, with_note};
 
 use crate::verb::Verb;
 use circular_buffer::Iter;
@@ -55,12 +55,27 @@ pub fn what_of_step(outcome: &Outcome) -> Option<What>
     }
 }
 
-/// What is noted of the last events, and how many there were; and all events, where they are wanted.
+/// Events in their order, and what each came to.
+#[derive(Drop)]
+pub struct Kept {
+    events: Vec<Event>,
+    outcomes: Vec<Came>,
+}
+
+impl Model for Kept {
+    ghost use Rattle.console.specs.Notes.{KeptRun};
+
+    ghost Value = { KeptRun };
+
+    ghost view = { λ k. record { events = k.events.items; outcomes = k.outcomes.items } };
+}
+
+/// What is noted of the last events, and how many there were; and the whole run, where it is wanted.
 #[derive(Drop)]
 pub struct Notes {
     tail: Tail<Note>,
     count: u64,
-    kept: Option<Vec<Event>>,
+    kept: Option<Kept>,
 }
 
 impl Model for Notes {
@@ -68,27 +83,33 @@ impl Model for Notes {
 
     ghost Value = { NotesOf };
 
-    ghost use Rattle.std.specs.Prelude.{option_map};
-
-    ghost view = { λ n. record { tail = n.tail; count = n.count; kept = option_map (λ v. v.items) n.kept } };
+    ghost view = { λ n. record { tail = n.tail; count = n.count; kept = n.kept } };
 }
 
-// Puts a copy behind the events that are kept.
-fn keep(kept: &mut Option<Vec<Event>>, copy: Option<Event>) -> Result<(), AllocError>
-    ensures { OnOk result (option_map (λ v. v.items) kept.new ≡ with_kept (option_map (λ v. v.items) kept.old) copy) }
+// Puts an event, of which there is a copy, and what it came to behind those that are kept.
+fn keep(kept: &mut Option<Kept>, copy: Option<Event>, came: Came) -> Result<(), AllocError>
+    ensures { OnOk result (kept.new ≡ with_kept kept.old copy came) }
 {
-    if let (Some(events), Some(event)) = (kept, copy) {
-        events.push(event)?;
+    if let (Some(run), Some(event)) = (kept, copy) {
+        run.events.push(event)?;
+        run.outcomes.push(came)?;
     }
     Ok(())
 }
 
 impl Notes {
-    /// Of no event, with room for the last `most`. Where `keeps` is set all events are kept too.
+    /// Of no event, with room for the last `most`. Where `keeps` is set the whole run is kept too.
     pub fn new(alloc: Global, most: u32, keeps: bool) -> Result<Notes, AllocError>
         ensures { IfOk result (λ n. n ≡ no_notes most keeps) }
     {
-        let kept = if keeps { Some(Vec::new(alloc)) } else { None };
+        let kept = if keeps {
+            Some(Kept {
+                events: Vec::new(alloc),
+                outcomes: Vec::new(alloc),
+            })
+        } else {
+            None
+        };
         Ok(Notes {
             tail: Tail::new(alloc, most)?,
             count: 0,
@@ -116,26 +137,43 @@ impl Notes {
         }
     }
 
-    /// Notes an event of a hart, and keeps this copy where events are kept. There is no room for more than a u64 can count.
-    pub fn note(&mut self, hart: u8, what: What, copy: Option<Event>) -> Result<(), AllocError>
-        ensures { OnOk result (self.new ≡ with_note self.old hart what copy) }
+    /// Notes an event of a hart, and keeps this copy, with what the event came to, where events are kept. There is no room for more than a
+    /// u64 can count.
+    pub fn note(
+        &mut self,
+        hart: u8,
+        what: What,
+        copy: Option<Event>,
+        came: Came,
+    ) -> Result<(), AllocError>
+        ensures { OnOk result (self.new ≡ with_note self.old hart what copy came) }
     {
         let number = self.count;
         let Some(count) = number.checked_add(1) else {
             return Err(AllocError);
         };
         self.tail.note(Note { number, hart, what })?;
-        keep(&mut self.kept, copy)?;
+        keep(&mut self.kept, copy, came)?;
         self.count = count;
         Ok(())
     }
 
     /// The events that are kept, in their order.
-    pub fn kept(&self) -> &[Event]
-        ensures { result.now ≡ events_in self.now.kept }
+    pub fn kept_events(&self) -> &[Event]
+        ensures { result.now ≡ (run_in self.now.kept).events }
     {
         match &self.kept {
-            Some(events) => events.as_slice(),
+            Some(run) => run.events.as_slice(),
+            None => &[],
+        }
+    }
+
+    /// What each of the events that are kept came to.
+    pub fn kept_outcomes(&self) -> &[Came]
+        ensures { result.now ≡ (run_in self.now.kept).outcomes }
+    {
+        match &self.kept {
+            Some(run) => run.outcomes.as_slice(),
             None => &[],
         }
     }

@@ -5,19 +5,21 @@ ghost use Rattle.image_tree.specs.Damage.{IsWellFormed};
 ghost use Rattle.script.specs.Asking.{asked_by};
 ghost use Rattle.console.specs.Behaviours.{IsWritten, Runs};
 ghost use Rattle.console.specs.Commands.{all_harts, state};
+ghost use Rattle.console.specs.Histories.{history_from};
 ghost use Rattle.console.specs.Images.{disk_for};
 ghost use Rattle.console.specs.Prompts.{PromptsAll, PromptsImage, PromptsLine, PromptsReader, ReadsLine, TellsBad, answers, bad_text, does, mark, state_text};
 ghost use Rattle.console.specs.Runs.{FailsUnread};
 
 use crate::commands::{ALL_HARTS, Desk, run_line};
 use crate::fault::ConsoleFault;
-use crate::notes::Notes;
+use crate::mount::{Mounted, mount_disk};
 use crate::queues::Queues;
-use crate::run::{Loaded, finish, image_disk, most_noted, read_fault, with_copy};
+use crate::run::{desk_of, finish, image_disk, read_fault};
 use crate::session::Session;
 use crate::state::write_state;
 use block_device::{Device, MemoryDisk};
 use console_parts::Mode;
+use plain_tree::Tree;
 use script::{Asked, Reason, ScriptFault, asked_in};
 use std::alloc::Global;
 use std::io::{BufRead, Write};
@@ -216,20 +218,16 @@ pub fn prompt_on<D: Device, R: BufRead, W: Write>(
     alloc: Global,
     session: &mut Session<D>,
     mode: Mode,
-    image: &[u8],
+    base: &Tree,
     typed: &mut R,
     out: &mut W,
 ) -> Result<(), ConsoleFault>
-    ensures { PromptsReader D.contents D.failures HELP.now mode image.now session.old (R.remaining typed.old) result session.new
-        (W.contents out.old) (W.contents out.new) }
+    ensures { PromptsReader D.contents D.failures HELP.now mode (history_from base.now) session.old (R.remaining typed.old) result
+        session.new (W.contents out.old) (W.contents out.new) }
 {
-    let notes = Notes::new(alloc, most_noted(mode), mode.explain)?;
-    let mut desk = Desk {
-        queues: Queues::new(alloc),
-        notes,
-    };
+    let mut desk = desk_of(alloc, mode, base, Queues::new(alloc))?;
     let ended = prompt_all(alloc, session, &mut desk, typed, out, HELP);
-    finish(alloc, out, mode, image, &desk.notes, ended)
+    finish(alloc, out, mode, base, desk, ended)
 }
 
 /// Mounts the image, or a fresh one, answers the lines that are typed, and hands out the disk. The lines are never queued, and the
@@ -245,12 +243,9 @@ pub fn run_prompt<R: BufRead, W: Write>(
     ensures mounted { IfOk result (λ disk. IsWellFormed (disk_for image)) }
 {
     let disk = image_disk(alloc, image)?;
-    let Loaded { image, disk } = with_copy(alloc, mode.explain, disk)?;
-    let mut session = match Session::mount(alloc, disk) {
-        Ok(session) => session,
-        Err((_, fault)) => return Err(ConsoleFault::from(fault)),
-    };
-    let ended = prompt_on(alloc, &mut session, mode, &image, typed, out);
+    let Mounted { base, session } = mount_disk(alloc, mode.explain, disk)?;
+    let mut session = session;
+    let ended = prompt_on(alloc, &mut session, mode, &base, typed, out);
     let disk = session.unmount();
     ended?;
     Ok(disk)

@@ -4,23 +4,28 @@ ghost use Rattle.std.specs.Io.KnownBytes.{Appends};
 ghost use Rattle.block_device.specs.Blocks.{blocks_of};
 ghost use Rattle.image_tree.specs.Damage.{IsWellFormed};
 ghost use Rattle.console.specs.declared.fault.ConsoleFault.TheVariants.{Memory};
-ghost use Rattle.console.specs.Histories.{WhereSet};
+ghost use Rattle.console.specs.Histories.{history_from, history_on};
 ghost use Rattle.console.specs.Images.{bytes_for, disk_for, fresh_bytes, JudgesImage};
 ghost use Rattle.console.specs.Lines.{course, script_course};
-ghost use Rattle.console.specs.Runs.{EndsSo, FailsUnread, RunsCourse, RunsReader, RunsScript, TellsWanted, end_text, most_noted};
+ghost use Rattle.console.specs.Notes.{no_notes};
+ghost use Rattle.console.specs.Runs.{EndsSo, FailsUnread, PrintsAll, RunsCourse, RunsReader, RunsScript, TellsWanted, end_text, most_noted};
 ghost use Rattle.console.specs.Scripts.{RunsImage, Tells};
 
 use crate::commands::{Desk, run_lines};
 use crate::events::{write_last, write_timeline};
 use crate::fault::{ConsoleFault, Unread};
-use crate::history::write_history;
+use crate::history::{write_history, write_history_on};
 use crate::lines::{Course, course_of};
+use crate::mount::{Mounted, mount_disk};
 use crate::notes::Notes;
+use crate::queues::Queues;
 use crate::session::Session;
 use block_device::{Device, MemoryDisk};
 use console_parts::{Mode, write_shape};
+use explain::Keeper;
 use image_tree::examine;
 use mkfs::{MakeRefused, make};
+use plain_tree::Tree;
 use script::parse;
 use std::alloc::Global;
 use std::io;
@@ -56,33 +61,6 @@ pub fn image_disk(alloc: Global, image: Option<Vec<u8>>) -> Result<MemoryDisk, C
     }
 }
 
-/// A disk, and a copy of its bytes.
-#[derive(Drop)]
-pub struct Loaded {
-    pub image: Vec<u8>,
-    pub disk: MemoryDisk,
-}
-
-/// A copy of a disk's bytes, where it is wanted.
-pub fn with_copy(alloc: Global, wanted: bool, disk: MemoryDisk) -> Result<Loaded, ConsoleFault>
-    ensures disk { IfOk result (λ c. c.disk ≡ disk) }
-    ensures image { IfOk result (λ c. WhereSet wanted (c.image.items ≡ disk) (Unit {0})) }
-    ensures memory { IfErr result (λ fault. fault ≡ Memory) }
-{
-    if !wanted {
-        return Ok(Loaded {
-            image: Vec::new(alloc),
-            disk,
-        });
-    }
-    let bytes = disk.into_bytes();
-    let image = Vec::from_slice(alloc, bytes.as_slice())?;
-    Ok(Loaded {
-        image,
-        disk: MemoryDisk::new(bytes),
-    })
-}
-
 /// Mounts the image, or a fresh one, runs the script on it, and hands out the disk; or only examines it, and prints what is
 /// found. Answers are written as they come. Faults are found in the order image, script.
 pub fn run_script<R: Read + Drop, W: Write>(
@@ -101,12 +79,9 @@ pub fn run_script<R: Read + Drop, W: Write>(
     if mode.check {
         return check(alloc, disk, out);
     }
-    let Loaded { image, disk } = with_copy(alloc, mode.explain, disk)?;
-    let mut session = match Session::mount(alloc, disk) {
-        Ok(session) => session,
-        Err((_, fault)) => return Err(ConsoleFault::from(fault)),
-    };
-    let ended = run_on(alloc, &mut session, mode, &image, script, out);
+    let Mounted { base, session } = mount_disk(alloc, mode.explain, disk)?;
+    let mut session = session;
+    let ended = run_on(alloc, &mut session, mode, &base, script, out);
     let disk = session.unmount();
     ended?;
     Ok(disk)
@@ -125,21 +100,21 @@ fn check<W: Write>(alloc: Global, disk: MemoryDisk, out: &mut W) -> Result<Memor
 }
 
 /// Runs a script on a file system that is mounted: what its lines say (`RunsReader`), in their order, each once, up to the first in
-/// which a call is stopped. Answers are written as they come, and none where a line is bad. Where a history is wanted it is one on
-/// `image`, the bytes that were mounted; else nothing is looked for there.
+/// which a call is stopped. Answers are written as they come, and none where a line is bad. Where a history is wanted it is one of what the
+/// script's events come to, from `base` on, the tree that the file system has; else that isn't looked at.
 pub fn run_on<D: Device, R: Read + Drop, W: Write>(
     alloc: Global,
     session: &mut Session<D>,
     mode: Mode,
-    image: &[u8],
+    base: &Tree,
     script: R,
     out: &mut W,
 ) -> Result<(), ConsoleFault>
-    ensures { RunsReader D.contents D.failures mode image.now session.old (R.remaining script) result session.new (W.contents out.old)
-        (W.contents out.new) }
+    ensures { RunsReader D.contents D.failures mode (history_from base.now) session.old (R.remaining script) result session.new
+        (W.contents out.old) (W.contents out.new) }
 {
     let text = read_script(alloc, script, LONGEST_SCRIPT)?;
-    run_text(alloc, session, mode, image, text.as_slice(), out)
+    run_text(alloc, session, mode, base, text.as_slice(), out)
 }
 
 /// The text of a script that isn't longer than the longest.
@@ -180,16 +155,16 @@ fn run_text<D: Device, W: Write>(
     alloc: Global,
     session: &mut Session<D>,
     mode: Mode,
-    image: &[u8],
+    base: &Tree,
     text: &[u8],
     out: &mut W,
 ) -> Result<(), ConsoleFault>
-    ensures { RunsScript D.contents D.failures mode image.now session.old (script_course mode.schedule text.now) result session.new
-        (W.contents out.old) (W.contents out.new) }
+    ensures { RunsScript D.contents D.failures mode (history_from base.now) session.old (script_course mode.schedule text.now) result
+        session.new (W.contents out.old) (W.contents out.new) }
 {
     let lines = parse(alloc, text)?;
     let planned = course_of(alloc, mode.schedule, lines)?;
-    run_course(alloc, session, mode, image, planned, out)
+    run_course(alloc, session, mode, base, planned, out)
 }
 
 // Runs a course, and prints its last events and its history.
@@ -197,41 +172,121 @@ fn run_course<D: Device, W: Write>(
     alloc: Global,
     session: &mut Session<D>,
     mode: Mode,
-    image: &[u8],
+    base: &Tree,
     run: Course,
     out: &mut W,
 ) -> Result<(), ConsoleFault>
-    ensures { RunsCourse D.contents D.failures mode image.now session.old (course run) result session.new (W.contents out.old)
-        (W.contents out.new) }
+    ensures { RunsCourse D.contents D.failures mode (history_from base.now) session.old (course run) result session.new
+        (W.contents out.old) (W.contents out.new) }
 {
     let Course { queues, lines } = run;
-    let notes = Notes::new(alloc, most_noted(mode), mode.explain)?;
-    let mut desk = Desk { queues, notes };
+    let mut desk = desk_of(alloc, mode, base, queues)?;
     let ended = run_lines(alloc, session, &mut desk, out, lines);
-    finish(alloc, out, mode, image, &desk.notes, ended)
+    finish(alloc, out, mode, base, desk, ended)
 }
 
-/// Prints what stands after all answers, where the lines came to their end or a call was stopped.
+/// A desk with these calls to be started, on which nothing is noted. The keeper begins with this tree.
+pub fn desk_of(alloc: Global, mode: Mode, base: &Tree, queues: Queues) -> Result<Desk, ConsoleFault>
+    ensures desk { IfOk result (λ desk. (desk.queues ≡ queues) × (desk.notes ≡ no_notes (most_noted mode) mode.explain)) }
+    ensures memory { IfErr result (λ fault. fault ≡ Memory) }
+{
+    let notes = Notes::new(alloc, most_noted(mode), mode.explain)?;
+    let Ok(keeper) = Keeper::new(alloc, base) else {
+        return Err(ConsoleFault::Memory);
+    };
+    Ok(Desk {
+        queues,
+        notes,
+        keeper,
+    })
+}
+
+/// Prints what stands behind all answers, where the lines came to their end or a call was stopped.
 pub fn finish<W: Write>(
+    alloc: Global,
+    out: &mut W,
+    mode: Mode,
+    base: &Tree,
+    desk: Desk,
+    ended: Result<(), ConsoleFault>,
+) -> Result<(), ConsoleFault>
+    ensures { EndsSo mode (history_from base.now) desk.notes ended (W.contents out.old) result (W.contents out.new) }
+{
+    match ended {
+        Ok(()) => write_rest(alloc, out, mode, base, desk),
+        Err(ConsoleFault::Stopped(stop)) => {
+            write_rest(alloc, out, mode, base, desk)?;
+            Err(ConsoleFault::Stopped(stop))
+        }
+        Err(fault) => Err(fault),
+    }
+}
+
+fn write_rest<W: Write>(
+    alloc: Global,
+    out: &mut W,
+    mode: Mode,
+    base: &Tree,
+    desk: Desk,
+) -> Result<(), ConsoleFault>
+    ensures { PrintsAll mode (history_from base.now) desk.notes (W.contents out.old) result (W.contents out.new) }
+{
+    let Desk {
+        queues: _queues,
+        notes,
+        keeper,
+    } = desk;
+    write_end(out, mode, &notes).map_err(ConsoleFault::Write)?;
+    write_wanted(alloc, out, mode, base, &notes, keeper)
+}
+
+// The history of the run, where it is wanted.
+fn write_wanted<W: Write>(
+    alloc: Global,
+    out: &mut W,
+    mode: Mode,
+    base: &Tree,
+    notes: &Notes,
+    keeper: Keeper,
+) -> Result<(), ConsoleFault>
+    ensures { TellsWanted mode (history_from base.now) notes.now (W.contents out.old) result (W.contents out.new) }
+{
+    if mode.explain {
+        write_history(alloc, out, base, notes, keeper)
+    } else {
+        Ok(())
+    }
+}
+
+/// Prints what stands behind all answers of events on this image that came to their end, of which no keeper was told. Where a history is
+/// wanted they are run once more.
+pub fn finish_on<W: Write>(
     alloc: Global,
     out: &mut W,
     mode: Mode,
     image: &[u8],
     notes: &Notes,
-    ended: Result<(), ConsoleFault>,
 ) -> Result<(), ConsoleFault>
-    ensures { EndsSo mode image.now notes.now ended (W.contents out.old) result (W.contents out.new) }
+    ensures { PrintsAll mode (history_on image.now) notes.now (W.contents out.old) result (W.contents out.new) }
 {
-    match ended {
-        Ok(()) => {
-            write_end(out, mode, notes).map_err(ConsoleFault::Write)?;
-            write_wanted(alloc, out, mode, image, notes)
-        }
-        Err(ConsoleFault::Stopped(stop)) => {
-            write_end(out, mode, notes).map_err(ConsoleFault::Write)?;
-            Err(ConsoleFault::Stopped(stop))
-        }
-        Err(fault) => Err(fault),
+    write_end(out, mode, notes).map_err(ConsoleFault::Write)?;
+    write_wanted_on(alloc, out, mode, image, notes)
+}
+
+// The history of the events on this image, where it is wanted.
+fn write_wanted_on<W: Write>(
+    alloc: Global,
+    out: &mut W,
+    mode: Mode,
+    image: &[u8],
+    notes: &Notes,
+) -> Result<(), ConsoleFault>
+    ensures { TellsWanted mode (history_on image.now) notes.now (W.contents out.old) result (W.contents out.new) }
+{
+    if mode.explain {
+        write_history_on(alloc, out, image, notes)
+    } else {
+        Ok(())
     }
 }
 
@@ -240,23 +295,6 @@ pub fn most_noted(mode: Mode) -> u32
     ensures { result ≡ most_noted mode }
 {
     if mode.timeline { u32::MAX } else { mode.last }
-}
-
-// The history of the events, where it is wanted.
-fn write_wanted<W: Write>(
-    alloc: Global,
-    out: &mut W,
-    mode: Mode,
-    image: &[u8],
-    notes: &Notes,
-) -> Result<(), ConsoleFault>
-    ensures { TellsWanted mode image.now notes.now (W.contents out.old) result (W.contents out.new) }
-{
-    if mode.explain {
-        write_history(alloc, out, image, notes.kept())
-    } else {
-        Ok(())
-    }
 }
 
 // What stands after all answers. Before a history is sought, which may take long, all that was written is handed on.

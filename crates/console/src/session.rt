@@ -8,6 +8,7 @@ ghost use Rattle.console.specs.Sessions.{Happens, doing_at, hart_in};
 use crate::doing::{Doing, done_after};
 use crate::verb::Verb;
 use block_device::Device;
+use explain::Keeper;
 use group_log::Phase;
 use hart_core::{Came, Event, World};
 use image_tree::MountFault;
@@ -102,6 +103,11 @@ impl<D: Device> Session<D> {
         let next = done_after(verb, &came, doing);
         put_doing(&mut self.doing, hart, next);
         came
+    }
+
+    /// Tells a keeper of the event that was made last, and what it came to. No clause says what the keeper is told.
+    pub(crate) fn tell(&self, keeper: &mut Keeper, event: &Event, came: &Came) {
+        keeper.note(event, came, self.world.heard(hart_in(event)));
     }
 
     /// Ends it at any moment, in mid-call too, without a call of the device, and gives the device.

@@ -17,24 +17,25 @@ use hart_core::{Came, Event, Outcome, StartRefused, Stop};
 use std::io;
 use std::io::Write;
 
-/// Notes an event of this hart, of a call with this word, with its copy, and prints its line where it has one. A stop is a fault.
+/// Prints the line of an event of this hart, of a call with this word, where it has one, and notes it, with its copy. A stop is a fault.
 pub fn tell<W: Write>(
     hart: u8,
     verb: Verb,
-    came: &Came,
+    came: Came,
     copy: Option<Event>,
     notes: &mut Notes,
     out: &mut W,
 ) -> Result<Flow, ConsoleFault>
-    ensures passed { IsPassed came.now result }
-    ensures prints { IfTold result (Appends (W.contents out.old) (W.contents out.new) (told_of hart verb came.now)) }
-    ensures notes { IfTold result (notes.new ≡ with_what notes.old hart (what_of verb came.now) copy) }
+    ensures passed { IsPassed came result }
+    ensures prints { IfTold result (Appends (W.contents out.old) (W.contents out.new) (told_of hart verb came)) }
+    ensures notes { IfTold result (notes.new ≡ with_what notes.old hart (what_of verb came) copy came) }
 {
-    if let Some(what) = what_of(verb, came) {
-        notes.note(hart, what, copy)?;
+    write_came(out, hart, verb, &came).map_err(ConsoleFault::Write)?;
+    let flow = flow_of(&came);
+    if let Some(what) = what_of(verb, &came) {
+        notes.note(hart, what, copy, came)?;
     }
-    write_came(out, hart, verb, came).map_err(ConsoleFault::Write)?;
-    flow_of(came)
+    flow
 }
 
 // The line of an event, where it has one.

@@ -12,9 +12,9 @@ use Rattle.plain_tree.specs.declared.call.Call.{Call}
 use Rattle.console_parts.specs.declared.mode.Mode.{Mode}
 use Rattle.console.specs.declared.fault.ConsoleFault.{ConsoleFault}
 use Rattle.console.specs.declared.fault.ConsoleFault.TheVariants as faults
-use Rattle.console.specs.Histories.{IsUntold, TellsHistory, WhereSet}
-use Rattle.console.specs.Notes.{NotesOf, events_in, no_notes}
-use Rattle.console.specs.Runs.{EndsSo, most_noted}
+use Rattle.console.specs.Histories.{IsUntold, TellsHistory, WhereSet, history_on}
+use Rattle.console.specs.Notes.{NotesOf, no_notes, run_in}
+use Rattle.console.specs.Runs.{PrintsAll, most_noted}
 use Rattle.console_threads.specs.declared.fault.ThreadsFault.{ThreadsFault}
 use Rattle.console_threads.specs.declared.fault.ThreadsFault.TheVariants.{Console, Device, Strange}
 use Rattle.console_threads.specs.Asked.{IsAsked, IsUnasked}
@@ -64,10 +64,10 @@ untold (faults.Line n why) is = absurd is
 untold (faults.Stopped stop) is = absurd is
 
 -- what stands behind the lines could not be printed
-unended : (mode : Mode) (image : List ℕ) (notes : NotesOf) (fault : ConsoleFault) (between end : Option (List ℕ)) → EndsSo mode image notes (Ok tt) between (Err fault) end → IsUnprinted fault
+unended : (mode : Mode) (image : List ℕ) (notes : NotesOf) (fault : ConsoleFault) (between end : Option (List ℕ)) → PrintsAll mode (history_on image) notes between (Err fault) end → IsUnprinted fault
 unended mode image notes fault between end (inl printed) = wanted mode.explain printed.2
   where
-    wanted : (b : Bool) → WhereSet b (TellsHistory image (events_in notes.kept) (Err fault) printed.0 end) ((◌≡◌ {A = Result (Unit {0}) ConsoleFault} (Err fault) (Ok tt)) × (end ≡ printed.0)) → IsUnprinted fault
+    wanted : (b : Bool) → WhereSet b (TellsHistory (history_on image) (run_in notes.kept) (Err fault) printed.0 end) ((◌≡◌ {A = Result (Unit {0}) ConsoleFault} (Err fault) (Ok tt)) × (end ≡ printed.0)) → IsUnprinted fault
     wanted false same = let e = same.0 in absurd (cc e)
     wanted true (inl told) = let e = told.ends in absurd (cc e)
     wanted true (inr un) = untold fault un
@@ -78,19 +78,19 @@ unended mode image notes (faults.Read e) between end (inr un) = absurd un
 unended mode image notes (faults.Line n why) between end (inr un) = absurd un
 unended mode image notes (faults.Stopped stop) between end (inr un) = absurd un
 
-pub end_fails : (mode : Mode) (image : List ℕ) (notes : NotesOf) (result : Result (Unit {0}) ConsoleFault) (between end : Option (List ℕ)) → EndsSo mode image notes (Ok tt) between result end → IfErr result IsUnprinted
+pub end_fails : (mode : Mode) (image : List ℕ) (notes : NotesOf) (result : Result (Unit {0}) ConsoleFault) (between end : Option (List ℕ)) → PrintsAll mode (history_on image) notes between result end → IfErr result IsUnprinted
 end_fails mode image notes (Ok u) between end ends = tt
 end_fails mode image notes (Err fault) between end ends = unended mode image notes fault between end ends
 
 -- all is printed
 pub end_prints : (mode : Mode) (image : List ℕ) (run : StoredRun) (events : List Event) (outcomes : List Came) (notes : NotesOf) (result : Result (Unit {0}) ConsoleFault) (out between end : Option (List ℕ)) → events ≡ run.events → outcomes ≡ run.outcomes
-    → Appends out between (harts_text events outcomes eight_harts) → notes ≡ noted_in (no_notes (most_noted mode) mode.explain) events outcomes → EndsSo mode image notes (Ok tt) between result end → OnOk result (IsPrinted mode image run out end)
+    → Appends out between (harts_text events outcomes eight_harts) → notes ≡ noted_in (no_notes (most_noted mode) mode.explain) events outcomes → PrintsAll mode (history_on image) notes between result end → OnOk result (IsPrinted mode image run out end)
 end_prints mode image run events outcomes notes (Err fault) out between end these those lines noted ends = tt
 end_prints mode image run events outcomes notes (Ok u) out between end these those lines noted ends =
     record {
       between = between;
       lines = subst (λ (p : List Event × List Came). Appends out between (harts_text p.0 p.1 eight_harts)) (λ i. (these i, those i)) lines;
-      ends = subst (λ n. EndsSo mode image n (Ok tt) between (Ok tt) end) (noted ∙ (λ i. noted_in (no_notes (most_noted mode) mode.explain) (these i) (those i))) ends;
+      ends = subst (λ n. PrintsAll mode (history_on image) n between (Ok tt) end) (noted ∙ (λ i. noted_in (no_notes (most_noted mode) mode.explain) (these i) (those i))) ends;
     }
 
 untold_run : (script : Option (List ℕ)) (fault : ThreadsFault) (out out' : Option (List ℕ)) → IsUntoldRun fault out out' → IsNoRun script fault out out'

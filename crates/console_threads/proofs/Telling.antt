@@ -6,7 +6,7 @@ use Rattle.hart_core.specs.declared.events.Came.{Came}
 use Rattle.hart_core.specs.declared.events.Event.{Event}
 use Rattle.console_parts.proofs.Appending.{appends_both, appends_nothing}
 use Rattle.console.specs.declared.notes.What.{What}
-use Rattle.console.specs.Notes.{NotesOf, copy_for, with_note, with_what}
+use Rattle.console.specs.Notes.{KeptRun, NotesOf, copy_for, with_note, with_what}
 use Rattle.console.specs.Sessions.{hart_in}
 use Rattle.console_threads.specs.Told.{hart_text, harts_text, line_for, noted_in, what_in}
 
@@ -46,15 +46,15 @@ hart_end es cs known hs i le = subst (λ ks. Appends known known (harts_text es 
 -- ---- notes
 
 -- the copy is kept where events are
-pub with_copy : (n : NotesOf) (hart : ℕ) (what : What) (event : Event) → with_note n hart what (copy_for n.kept event) ≡ with_note n hart what (Some event)
-with_copy n hart what event = by n.kept
+pub with_copy : (n : NotesOf) (hart : ℕ) (what : What) (event : Event) (came : Came) → with_note n hart what (copy_for n.kept event) came ≡ with_note n hart what (Some event) came
+with_copy n hart what event came = by n.kept
   where
-    by : (kept : Option (List Event)) → with_note (record n { kept = kept }) hart what (copy_for kept event) ≡ with_note (record n { kept = kept }) hart what (Some event)
+    by : (kept : Option KeptRun) → with_note (record n { kept = kept }) hart what (copy_for kept event) came ≡ with_note (record n { kept = kept }) hart what (Some event) came
     by None = refl
-    by (Some events) = refl
+    by (Some run) = refl
 
 pub note_more : (n : NotesOf) (es : List Event) (cs : List Came) (i : ℕ) (e : Event) (c : Came) → i < length es → i < length cs → e ≡ get_or es i e → c ≡ get_or cs i c
-    → noted_in (with_what n (hart_in e) (what_in e c) (Some e)) (drop (i + 1) es) (drop (i + 1) cs) ≡ noted_in n (drop i es) (drop i cs)
+    → noted_in (with_what n (hart_in e) (what_in e c) (Some e) c) (drop (i + 1) es) (drop (i + 1) cs) ≡ noted_in n (drop i es) (drop i cs)
 unfolding noted_in
 note_more n es cs i e c lt lt' is is' = sym (λ j. noted_in n (split es i e lt is j) (split cs i c lt' is' j))
 

@@ -68,4 +68,4 @@ unfoldable pub noted_in : NotesOf → List Event → List Came → NotesOf
 noted_in notes [] outcomes = notes
 noted_in notes (event ∷ events) [] = notes
 noted_in notes (event ∷ events) (came ∷ outcomes) =
-    noted_in (with_what notes (hart_in event) (what_in event came) (Some event)) events outcomes
+    noted_in (with_what notes (hart_in event) (what_in event came) (Some event) came) events outcomes

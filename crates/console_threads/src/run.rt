@@ -13,7 +13,7 @@ use crate::starts::are_started;
 use crate::tell::{notes_of, write_harts};
 use crate::work::run_calls;
 use block_device::MemoryDisk;
-use console::{ConsoleFault, finish, image_disk};
+use console::{ConsoleFault, finish_on, image_disk};
 use console_parts::Mode;
 use hart_core::Event;
 use hart_runner::{Kernel, NoGate, Seat};
@@ -142,7 +142,7 @@ fn print<L: Ledger, W: Write>(
     let outcomes = outcomes.as_slice();
     let notes = notes_of(alloc, mode, events, outcomes)?;
     write_harts(out, events, outcomes).map_err(ConsoleFault::Write)?;
-    finish(alloc, out, mode, image, &notes, Ok(()))
+    finish_on(alloc, out, mode, image, &notes)
 }
 
 // Whether it is a run on this image, over a disk that doesn't fail.

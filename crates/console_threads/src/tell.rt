@@ -10,6 +10,7 @@ ghost use Rattle.console_threads.specs.Worked.{eight_harts};
 use console::{Notes, Verb, What, hart_in, most_noted, what_of, what_of_step, write_refused};
 use console_parts::{Mode, write_reply};
 use hart_core::{Came, Event, Outcome};
+use plain_tree::{Call, Reply};
 use std::alloc::{AllocError, Global};
 use std::io;
 use std::io::Write;
@@ -85,13 +86,52 @@ pub fn notes_of(
 }
 
 fn note_event(notes: &mut Notes, event: &Event, came: &Came) -> Result<(), AllocError>
-    ensures { OnOk result (notes.new ≡ with_what notes.old (hart_in event.now) (what_in event.now came.now) (Some event.now)) }
+    ensures { OnOk result
+        (notes.new ≡ with_what notes.old (hart_in event.now) (what_in event.now came.now) (Some event.now) came.now) }
 {
     if let Some(what) = what_in(event, came) {
         let copy = notes.copy_of(event)?;
-        notes.note(hart_in(event), what, copy)?;
+        let came = copied_came(came)?;
+        notes.note(hart_in(event), what, copy, came)?;
     }
     Ok(())
+}
+
+fn copied_came(came: &Came) -> Result<Came, AllocError>
+    ensures { IfOk result (λ c. c ≡ came.now) }
+{
+    match came {
+        Came::Started => Ok(Came::Started),
+        Came::Refused(why) => Ok(Came::Refused(*why)),
+        Came::Stepped(outcome) => Ok(Came::Stepped(copied_outcome(outcome)?)),
+    }
+}
+
+fn copied_outcome(outcome: &Outcome) -> Result<Outcome, AllocError>
+    ensures { IfOk result (λ o. o ≡ outcome.now) }
+{
+    match outcome {
+        Outcome::Idle => Ok(Outcome::Idle),
+        Outcome::Waits => Ok(Outcome::Waits),
+        Outcome::Ran(kind) => Ok(Outcome::Ran(*kind)),
+        Outcome::Done(reply) => Ok(Outcome::Done(copied_reply(reply)?)),
+        Outcome::Stopped(stop) => Ok(Outcome::Stopped(*stop)),
+    }
+}
+
+fn copied_reply(reply: &Reply) -> Result<Reply, AllocError>
+    ensures { IfOk result (λ r. r ≡ reply.now) }
+{
+    Ok(Reply {
+        answer: reply.answer,
+        call: copied_call(&reply.call)?,
+    })
+}
+
+fn copied_call(call: &Call) -> Result<Call, AllocError>
+    ensures { IfOk result (λ c. c ≡ call.now) }
+{
+    call.clone()
 }
 
 // What is noted of an event. A hart's step has the word of no call.

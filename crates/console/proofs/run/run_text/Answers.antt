@@ -1,4 +1,5 @@
 use Rattle.std.proofs.Common.{rules, ap, sym, ◌≡◌, ◌∙◌, subst, Err}
+use Rattle.console.specs.Histories.{history_from}
 use Rattle.console.specs.Lines.{FailsTo, course, course_in}
 use Rattle.console.proofs.Running.{failed_course, with_course}
 use Rattle.console.proofs.run.run_text.Goals as goal
@@ -6,10 +7,10 @@ use Rattle.console.proofs.run.run_text.Goals as goal
 pub returns-in_err-planned : goal.returns-in_err-planned
 returns-in_err-planned g c =
     let is : c.from_residual-in_err-planned.result ≡ Err c.in_err-planned.field-0.0 = search rules in
-    failed_course g.D.Device.contents g.D.Device.failures c.args.mode c.args.image.now _ c.args.session.now c.in_err-planned.field-0.0 c.from_residual-in_err-planned.result _ is
+    failed_course g.D.Device.contents g.D.Device.failures c.args.mode (history_from c.args.base.now) _ c.args.session.now c.in_err-planned.field-0.0 c.from_residual-in_err-planned.result _ is
     (subst (λ w. FailsTo c.in_err-planned.field-0.0 w) (sym (ap (course_in c.args.mode.schedule) c.in_ok-lines.ensures)) c.in_err-planned.ensures)
 
 pub returns : goal.returns
 returns g c =
-    with_course g.D.Device.contents g.D.Device.failures c.args.mode c.args.image.now _ (course c.in_ok-planned.planned) c.args.session.now c.run_course.new.session c.run_course.result _ _
+    with_course g.D.Device.contents g.D.Device.failures c.args.mode (history_from c.args.base.now) _ (course c.in_ok-planned.planned) c.args.session.now c.run_course.new.session c.run_course.result _ _
     (ap (course_in c.args.mode.schedule) c.in_ok-lines.ensures ∙ c.in_ok-planned.ensures) c.run_course.ensures

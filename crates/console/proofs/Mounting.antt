@@ -1,0 +1,149 @@
+-- A disk in memory is mounted, and what is run on it; or it isn't mounted.
+use Rattle.std.proofs.Common.{◌≡◌, ℕ, arith, Bool, true, false, List, [], Option, None, Result, Err, replicate, refl, sym, ap, ◌∙◌, subst, inl, inr}
+use Rattle.std.specs.Prelude.{Vec}
+use Rattle.std.specs.declared.alloc.Global.{Global}
+use Rattle.block_device.specs.Blocks.{blocks_of}
+use Rattle.fs_layout.specs.Recovered.{sizes_of}
+use Rattle.buffer_cache.specs.Limits.{buffer_count, hart_count}
+use Rattle.buffer_cache.specs.Seats.{unused_from}
+use Rattle.group_log.specs.declared.phase.Phase.TheVariants.{Open}
+use Rattle.group_log.specs.Soundness.{IsPlaced}
+use Rattle.image_tree.specs.Damage.{IsWellFormed, JudgesFault, fault_count_of}
+use Rattle.image_tree.specs.Trees.{tree_in}
+use Rattle.image_tree.specs.declared.fault.MountFault.{MountFault}
+use Rattle.image_tree.specs.declared.fault.MountFault.TheVariants as mounts
+use Rattle.plain_tree.specs.TreeData.{TreeData}
+use Rattle.hart_core.specs.Mounting.{IsSettled, Rests}
+use Rattle.hart_core.specs.Harts.{HartsOf}
+use Rattle.hart_core.specs.Runs.{HasHistory}
+use Rattle.explain.specs.Explained.{never}
+use Rattle.console_parts.specs.declared.mode.Mode.{Mode}
+use Rattle.console.specs.declared.fault.ConsoleFault.{ConsoleFault}
+use Rattle.console.specs.declared.fault.ConsoleFault.TheVariants as faults
+use Rattle.console.specs.Faults.{of_mount}
+use Rattle.console.specs.Histories.{WhereSet, history_from, history_of}
+use Rattle.console.specs.Images.{JudgesImage, RefusesDisk, bytes_for}
+use Rattle.console.specs.Notes.{KeptRun}
+use Rattle.console.specs.Prompts.{PromptsImage, PromptsOn, PromptsReader}
+use Rattle.console.specs.Runs.{RunsReader}
+use Rattle.console.specs.Scripts.{HandsOut, IsMountedOn, IsUntaken, RunsImage, RunsOn, TakesNoImage}
+use Rattle.console.specs.Sessions.{SessionOf}
+use Rattle.console.proofs.Keeping.{history_is, prompts_again, reader_again}
+
+-- ---- a disk that isn't mounted
+
+pub mount_refused : (disk : List (List ℕ)) (fault : MountFault) → JudgesFault disk fault → fault_count_of fault 0 ≡ 0 → RefusesDisk disk (of_mount fault)
+mount_refused disk (mounts.Damaged d) judged none = judged
+mount_refused disk mounts.DeviceFault judged none = let bad : 1 ≡ 0 = none in absurd (omega (arith, bad))
+mount_refused disk mounts.NoMemory judged none = tt
+
+pub refused_judged : (disk : List (List ℕ)) (fault : ConsoleFault) → RefusesDisk disk fault → JudgesImage disk fault
+refused_judged disk (faults.Image (mounts.Damaged d)) refuses = refuses
+refused_judged disk (faults.Image mounts.DeviceFault) refuses = absurd refuses
+refused_judged disk (faults.Image mounts.NoMemory) refuses = absurd refuses
+refused_judged disk (faults.Read e) refuses = absurd refuses
+refused_judged disk (faults.Write e) refuses = absurd refuses
+refused_judged disk (faults.Line n why) refuses = absurd refuses
+refused_judged disk (faults.Stopped stop) refuses = absurd refuses
+refused_judged disk faults.Memory refuses = tt
+
+untaken : (A : Type 0) (disk : List (List ℕ)) (fault : ConsoleFault) → RefusesDisk disk fault → IsUntaken {A = A} (Err fault)
+untaken A disk (faults.Image f) refuses = tt
+untaken A disk faults.Memory refuses = tt
+untaken A disk (faults.Read e) refuses = absurd refuses
+untaken A disk (faults.Write e) refuses = absurd refuses
+untaken A disk (faults.Line n why) refuses = absurd refuses
+untaken A disk (faults.Stopped stop) refuses = absurd refuses
+
+-- nothing is printed then
+pub not_taken : {A : Type 0} (disk : List (List ℕ)) (fault : ConsoleFault) (result : Result A ConsoleFault) (out : Option (List ℕ)) → result ≡ Err fault → RefusesDisk disk fault → TakesNoImage result out out
+not_taken {A} disk fault result out is refuses = record { untaken = subst (λ (r : Result A ConsoleFault). IsUntaken r) (sym is) (untaken A disk fault refuses); silent = refl }
+
+-- ---- a disk that is mounted, of these blocks
+
+rests_on : (old new : List ℕ) (w : HartsOf (List ℕ)) → blocks_of old ≡ blocks_of new → Rests blocks_of never old w → Rests blocks_of never new w
+rests_on old new w same rests = record {
+  disk = subst (λ (b : List (List ℕ)). IsSettled b (blocks_of w.core.log.cache.device)) same rests.disk;
+  whole = rests.whole;
+  bytes = rests.bytes;
+  placed = subst (λ (b : List (List ℕ)). IsPlaced (blocks_of w.core.log.cache.device) (sizes_of b)) same rests.placed;
+  failures_are = rests.failures_are;
+  log = subst
+      (λ (b : List (List ℕ)). w.core.log ≡ record {
+        cache = record { device = w.core.log.cache.device; seats = unused_from 0 buffer_count };
+        sizes = sizes_of b;
+        group = [];
+        members = replicate hart_count None;
+        phase = Open;
+      })
+      same rests.log;
+  tables = rests.tables;
+  runs = rests.runs;
+  children = rests.children;
+  idle = rests.idle;
+}
+
+pub mounted_on : (wanted : Bool) (bytes device : List ℕ) (base : TreeData) (s : SessionOf (List ℕ)) → blocks_of device ≡ blocks_of bytes → IsWellFormed (blocks_of device) → Rests blocks_of never device s.world.harts → s.world.sizes ≡ sizes_of (blocks_of device)
+    → s.doing ≡ replicate 8 None → WhereSet wanted (base ≡ tree_in (blocks_of bytes)) (Unit {0}) → IsMountedOn wanted bytes base s
+mounted_on wanted bytes device base s same well rests sizes idle is = record {
+  starts = record {
+    well = subst (λ (b : List (List ℕ)). IsWellFormed b) same well;
+    mounted = record { rests = rests_on device bytes s.world.harts same rests; sizes = sizes ∙ ap (λ (b : List (List ℕ)). sizes_of b) same };
+  };
+  idle = idle;
+  base_is = is;
+}
+
+-- ---- what is run on it
+
+-- the tree is the image's where a history is wanted
+wanted_base : (b : Bool) (base tree : TreeData) → b ≡ true → WhereSet b (base ≡ tree) (Unit {0}) → base ≡ tree
+wanted_base true base tree is same = same
+wanted_base false base tree is same = absurd (cc is)
+
+unset : (b : Bool) (this other : Type 0) → b ≡ false → other → WhereSet b this other
+unset true this other is holds = absurd (cc is)
+unset false this other is holds = holds
+
+module _ (mode : Mode) (bytes : List ℕ) (base : TreeData) (first last : SessionOf (List ℕ)) (on : IsMountedOn mode.explain bytes base first) where
+  tells : mode.explain ≡ true → (run : KeptRun) (t : SessionOf (List ℕ)) → HasHistory blocks_of never first.world.sizes first.world.harts run.events run.outcomes t.world.harts → (text : List ℕ) → history_from base run text → history_of bytes run text
+  tells is = history_is bytes base first on.starts (wanted_base mode.explain base (tree_in (blocks_of bytes)) is on.base_is)
+
+  pub ran_on : (script : Option (List ℕ)) (ended : Result (Unit {0}) ConsoleFault) (result : Result (List ℕ) ConsoleFault) (out out' : Option (List ℕ)) → RunsReader blocks_of never mode (history_from base) first script ended last out out'
+      → HandsOut last.world.harts.core.log.cache.device ended result → RunsOn blocks_of never mode bytes bytes script result out out'
+  ran_on script ended result out out' runs hands = record {
+    first = first;
+    last = last;
+    ended = ended;
+    rests = on.starts.mounted.rests;
+    idle = on.idle;
+    runs = reader_again blocks_of never mode (history_from base) (history_of bytes) first tells script ended last out out' runs;
+    hands = hands;
+  }
+
+  pub prompted_on : (help : List ℕ) (typed : Option (List ℕ)) (ended : Result (Unit {0}) ConsoleFault) (result : Result (List ℕ) ConsoleFault) (out out' : Option (List ℕ)) → PromptsReader blocks_of never help mode (history_from base) first typed ended last out out'
+      → HandsOut last.world.harts.core.log.cache.device ended result → PromptsOn blocks_of never help mode bytes bytes typed result out out'
+  prompted_on help typed ended result out out' prompts hands = record {
+    first = first;
+    last = last;
+    ended = ended;
+    rests = on.starts.mounted.rests;
+    idle = on.idle;
+    runs = prompts_again blocks_of never mode (history_from base) (history_of bytes) first tells help typed ended last out out' prompts;
+    hands = hands;
+  }
+
+-- ---- on the image that is given, or a fresh one
+
+pub image_run : (mode : Mode) (image : Option (Vec ℕ Global)) (bytes : List ℕ) (script : Option (List ℕ)) (result : Result (List ℕ) ConsoleFault) (out out' : Option (List ℕ)) → mode.check ≡ false → bytes ≡ bytes_for image
+    → RunsOn blocks_of never mode bytes bytes script result out out' → RunsImage mode image script result out out'
+image_run mode image bytes script result out out' unchecked is runs =
+    unset mode.check _ _ unchecked (inl (subst (λ (b : List ℕ). RunsOn blocks_of never mode b b script result out out') is runs))
+
+pub image_untaken : (mode : Mode) (image : Option (Vec ℕ Global)) (script : Option (List ℕ)) (result : Result (List ℕ) ConsoleFault) (out out' : Option (List ℕ)) → mode.check ≡ false → TakesNoImage result out out' → RunsImage mode image script result out out'
+image_untaken mode image script result out out' unchecked none = unset mode.check _ _ unchecked (inr none)
+
+pub image_prompted : (help : List ℕ) (mode : Mode) (image : Option (Vec ℕ Global)) (bytes : List ℕ) (typed : Option (List ℕ)) (result : Result (List ℕ) ConsoleFault) (out out' : Option (List ℕ)) → bytes ≡ bytes_for image
+    → PromptsOn blocks_of never help mode bytes bytes typed result out out' → PromptsImage help mode image typed result out out'
+image_prompted help mode image bytes typed result out out' is prompts =
+    inl (subst (λ (b : List ℕ). PromptsOn blocks_of never help mode b b typed result out out') is prompts)

@@ -1,0 +1,46 @@
+//! Mounting a disk in memory.
+ghost use Rattle.std.specs.Prelude.{◌≡◌, IfOk, IfErr};
+ghost use Rattle.block_device.specs.Blocks.{blocks_of};
+ghost use Rattle.image_tree.specs.Trees.{tree_in};
+ghost use Rattle.console.specs.Histories.{WhereSet};
+ghost use Rattle.console.specs.Images.{RefusesDisk};
+ghost use Rattle.console.specs.Scripts.{IsMountedOn};
+
+use crate::fault::ConsoleFault;
+use crate::session::Session;
+use block_device::MemoryDisk;
+use image_tree::tree_of;
+use plain_tree::Tree;
+use std::alloc::Global;
+
+/// The tree of an image, and a file system that is mounted on it.
+pub struct Mounted {
+    pub base: Tree,
+    pub session: Session<MemoryDisk>,
+}
+
+// The tree of a disk's image, where it is wanted; else one without nodes.
+fn base_of(alloc: Global, wanted: bool, disk: &mut MemoryDisk) -> Result<Tree, ConsoleFault>
+    ensures tree { IfOk result (λ tree. WhereSet wanted (tree ≡ tree_in (blocks_of disk.old)) (Unit {0})) }
+    ensures blocks { IfOk result (λ _. blocks_of disk.new ≡ blocks_of disk.old) }
+    ensures refused { IfErr result (RefusesDisk (blocks_of disk.old)) }
+{
+    if !wanted {
+        return Ok(Tree::of_nodes(alloc, Vec::new(alloc)));
+    }
+    let base = tree_of(alloc, disk)?;
+    Ok(base)
+}
+
+/// Mounts a disk, whose tree is taken before where it is wanted.
+pub fn mount_disk(alloc: Global, wanted: bool, disk: MemoryDisk) -> Result<Mounted, ConsoleFault>
+    ensures mounted { IfOk result (λ m. IsMountedOn wanted disk m.base m.session) }
+    ensures refused { IfErr result (RefusesDisk (blocks_of disk)) }
+{
+    let mut device = disk;
+    let base = base_of(alloc, wanted, &mut device)?;
+    match Session::mount(alloc, device) {
+        Ok(session) => Ok(Mounted { base, session }),
+        Err((_, fault)) => Err(ConsoleFault::from(fault)),
+    }
+}
