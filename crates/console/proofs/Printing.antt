@@ -1,9 +1,11 @@
 -- What a writer holds after one part and then another.
-use Rattle.std.proofs.Common.{◌≡◌, ◌<◌, ◌≤◌, ◌+◌, ℕ, List, [], ◌∷◌, ◌++◌, take, drop, get_or, length, ◌*◌, min, arith, true, false, replicate, if◌then◌else◌, Option, Result, Ok, Err, ap, sym, ◌∙◌, subst}
+use Rattle.std.proofs.Common.{◌≡◌, ◌<◌, ◌≤◌, ◌+◌, ℕ, List, [], ◌∷◌, ◌++◌, take, drop, get_or, length, ◌*◌, min, arith, replicate, Option, Result, Ok, Err, ap, sym, ◌∙◌, subst}
 use Rattle.std.proofs.lemmas.List.{at_drop_all, at_drop_more, take-replicate}
-use Rattle.std.specs.Prelude.{OnOk, nat_lt}
+use Rattle.std.specs.Prelude.{OnOk}
 use Rattle.std.specs.Io.KnownBytes.{Appends}
 use Rattle.console.specs.declared.notes.Note.{Note}
+use Rattle.console.specs.declared.notes.What.TheVariants.{Start}
+use Rattle.console.specs.declared.verb.Verb.TheVariants.{Open}
 use Rattle.plain_tree.specs.declared.trace.Placed.{Placed}
 use Rattle.console.specs.Histories.{entries_text}
 use Rattle.console.specs.Events.{last_line, last_text, timeline_line, timeline_rows}
@@ -25,22 +27,23 @@ pub rows_end : (known : Option (List ℕ)) (items : List Note) → items ≡ [] 
 unfolding timeline_rows
 rows_end known items is = subst (λ xs. Appends known known (timeline_rows xs)) (sym is) (appends_nothing known)
 
-pub last_more : (first : ℕ) (known next end : Option (List ℕ)) (items more : List Note) (note : Note) → items ≡ note ∷ more → nat_lt note.number first ≡ false → Appends known next (last_line note) → Appends next end (last_text first more)
-    → Appends known end (last_text first items)
-unfolding last_text
-last_more first known next end items more note is told line rest =
-    subst (λ xs. Appends known end (last_text first xs)) (sym is)
-    (appends_both known next end _ (last_text first more) (subst (λ b. Appends known next (if b then [] else last_line note)) (sym told) line) rest)
+-- what a place past the end of a list of notes is read as
+abbrev pub past_end : Note
+past_end = record { number = 0; hart = 0; what = Start Open }
 
-pub last_less : (first : ℕ) (known end : Option (List ℕ)) (items more : List Note) (note : Note) → items ≡ note ∷ more → nat_lt note.number first ≡ true → Appends known end (last_text first more) → Appends known end (last_text first items)
-unfolding last_text
-last_less first known end items more note is passed rest =
-    subst (λ xs. Appends known end (last_text first xs)) (sym is)
-    (appends_both known known end _ (last_text first more) (subst (λ b. Appends known known (if b then [] else last_line note)) (sym passed) (appends_nothing known)) rest)
+pub row_at : (known next end : Option (List ℕ)) (rows : List Note) (i : ℕ) → i < length rows → Appends known next (timeline_line (get_or rows i past_end)) → Appends next end (timeline_rows (drop (i + 1) rows)) → Appends known end (timeline_rows (drop i rows))
+row_at known next end rows i lt line rest = row_more known next end (drop i rows) (drop (i + 1) rows) (get_or rows i past_end) (at_drop_more (λ notes. notes) rows i past_end lt) line rest
 
-pub last_end : (first : ℕ) (known : Option (List ℕ)) (items : List Note) → items ≡ [] → Appends known known (last_text first items)
+pub rows_over : (known : Option (List ℕ)) (rows : List Note) (i : ℕ) → length rows ≤ i → Appends known known (timeline_rows (drop i rows))
+rows_over known rows i le = rows_end known (drop i rows) (at_drop_all (λ notes. notes) rows i le)
+
+pub last_more : (known next end : Option (List ℕ)) (items more : List Note) (note : Note) → items ≡ note ∷ more → Appends known next (last_line note) → Appends next end (last_text more) → Appends known end (last_text items)
 unfolding last_text
-last_end first known items is = subst (λ xs. Appends known known (last_text first xs)) (sym is) (appends_nothing known)
+last_more known next end items more note is line rest = subst (λ xs. Appends known end (last_text xs)) (sym is) (appends_both known next end (last_line note) (last_text more) line rest)
+
+pub last_end : (known : Option (List ℕ)) (items : List Note) → items ≡ [] → Appends known known (last_text items)
+unfolding last_text
+last_end known items is = subst (λ xs. Appends known known (last_text xs)) (sym is) (appends_nothing known)
 
 pub spaces_are : (before hart : ℕ) → before ≡ min (8 * hart) 56 → take {A = ℕ} before (replicate 56 32) ≡ replicate {A = ℕ} (min (8 * hart) 56) 32
 spaces_are before hart is = take-replicate {X = ℕ} before 56 32 (omega (arith, is)) ∙ ap (λ n. replicate {A = ℕ} n 32) is

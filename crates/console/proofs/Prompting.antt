@@ -11,7 +11,7 @@ use Rattle.console.specs.Histories.{History}
 use Rattle.console.specs.Notes.{NotesOf, no_notes}
 use Rattle.console.specs.Prompts.{PromptsAll, PromptsReader, calls_text, doing_text}
 use Rattle.console.specs.Queues.{Left, none_left}
-use Rattle.console.specs.Runs.{EndsSo, most_noted}
+use Rattle.console.specs.Runs.{EndsSo}
 use Rattle.console.specs.Sessions.{SessionOf, doing_at}
 
 -- ---- calls under way
@@ -30,7 +30,7 @@ calls_end known harts doing i le = subst (λ hs. Appends known known (calls_text
 -- ---- all lines, and what stands behind them
 
 module _ {D : Type 0} (contents : D → List (List ℕ)) (failures : D → ℕ) (help : List ℕ) where
-  pub lines_answered : (mode : Mode) (history : History) (s t : SessionOf D) (typed : Option (List ℕ)) (queues left : Left) (ends result : Result (Unit {0}) ConsoleFault) (out between out' : Option (List ℕ)) (first notes : NotesOf) → queues ≡ none_left → first ≡ no_notes (most_noted mode) mode.explain
+  pub lines_answered : (mode : Mode) (history : History) (s t : SessionOf D) (typed : Option (List ℕ)) (queues left : Left) (ends result : Result (Unit {0}) ConsoleFault) (out between out' : Option (List ℕ)) (first notes : NotesOf) → queues ≡ none_left → first ≡ no_notes mode
       → PromptsAll contents failures help 1 typed (state s queues) out first ends (state t left) between notes → EndsSo mode history notes ends between result out' → PromptsReader contents failures help mode history s typed result t out out'
   lines_answered mode history s t typed queues left ends result out between out' first notes none is answers end =
       inl (record {

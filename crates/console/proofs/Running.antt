@@ -12,7 +12,7 @@ use Rattle.console.specs.Histories.{History}
 use Rattle.console.specs.Lines.{CourseOf, FailsTo, IsMemory, script_course}
 use Rattle.console.specs.Notes.{NotesOf, no_notes}
 use Rattle.console.specs.Queues.{Left}
-use Rattle.console.specs.Runs.{EndsOn, EndsSo, FailsUnread, PrintsAll, RunsCourse, RunsReader, RunsScript, most_noted, or_stopped}
+use Rattle.console.specs.Runs.{EndsOn, EndsSo, FailsUnread, PrintsAll, RunsCourse, RunsReader, RunsScript, or_stopped}
 use Rattle.console.specs.Sessions.{SessionOf}
 
 any_text : (script : Option (List ℕ)) → (text : List ℕ) × IfSome script (λ bytes. text ≡ bytes)
@@ -46,7 +46,7 @@ module _ {D : Type 0} (contents : D → List (List ℕ)) (failures : D → ℕ) 
 
   -- ---- a course
 
-  pub course_run : (mode : Mode) (history : History) (course : CourseOf) (s t : SessionOf D) (queues left : Left) (ends result : Result (Unit {0}) ConsoleFault) (out between out' : Option (List ℕ)) (first notes : NotesOf) → queues ≡ course.left → first ≡ no_notes (most_noted mode) mode.explain
+  pub course_run : (mode : Mode) (history : History) (course : CourseOf) (s t : SessionOf D) (queues left : Left) (ends result : Result (Unit {0}) ConsoleFault) (out between out' : Option (List ℕ)) (first notes : NotesOf) → queues ≡ course.left → first ≡ no_notes mode
       → Runs (lines contents failures course.lines) (state s queues) out first ends (state t left) between notes → EndsSo mode history notes ends between result out' → RunsCourse contents failures mode history s course result t out out'
   course_run mode history course s t queues left ends result out between out' first notes same is runs end =
       inl (record {

@@ -1,5 +1,5 @@
 -- The lines that are printed after a script: the last events, and the columns of the timeline.
-use Rattle.std.specs.Prelude.{ℕ, ◌-◌, ◌*◌, ◌^◌, min, nat_lt, if◌then◌else◌, Bool, true, false, List, [], ◌∷◌, ◌++◌, replicate, codes, decimal}
+use Rattle.std.specs.Prelude.{ℕ, ◌-◌, ◌*◌, ◌^◌, min, Bool, true, false, List, [], ◌∷◌, ◌++◌, replicate, codes, decimal}
 use Rattle.std.specs.Fmt.{styled_decimal, format_spec}
 use Rattle.plain_tree.specs.declared.answer.Answer.{Answer}
 use Rattle.plain_tree.specs.declared.answer.Answer.TheVariants.{Fd, Count, Stat, Done as IsDone, Failed, Full}
@@ -8,7 +8,7 @@ use Rattle.script.specs.Grammar.{kind_word}
 use Rattle.console.specs.declared.notes.Note.{Note}
 use Rattle.console.specs.declared.notes.What.{What}
 use Rattle.console.specs.declared.notes.What.TheVariants.{Start, Refused, Ran, Waits, Done, Stopped}
-use Rattle.console.specs.Notes.{NotesOf}
+use Rattle.console.specs.Notes.{NotesOf, rows_in}
 use Rattle.console.specs.Numbers.{start_number, stop_number}
 use Rattle.console.specs.Told.{refused_text, stopped_text}
 use Rattle.console_parts.specs.Text.{numbered_text, stat_text}
@@ -46,10 +46,9 @@ cell Waits = codes "(waits)"
 cell (Done answer) = codes "reply " ++ answer_cell answer
 cell (Stopped stop) = stopped_text stop
 
--- the lines of the events from this number on
-unfoldable pub last_text : ℕ → List Note → List ℕ
-last_text first [] = []
-last_text first (note ∷ notes) = (if nat_lt note.number first then [] else last_line note) ++ last_text first notes
+unfoldable pub last_text : List Note → List ℕ
+last_text [] = []
+last_text (note ∷ notes) = last_line note ++ last_text notes
 
 -- the event's number, and what it is in its hart's column, eight wide; in the last one for a hart that there isn't
 abbrev pub timeline_line : Note → List ℕ
@@ -64,9 +63,9 @@ abbrev pub timeline_head : List ℕ
 timeline_head = codes " event  hart 0  hart 1  hart 2  hart 3  hart 4  hart 5  hart 6  hart 7\n"
 
 -- what is printed after a script
-abbrev pub last_of : ℕ → NotesOf → List ℕ
-last_of last n = last_text (n.count - last) n.tail.events
+abbrev pub last_of : NotesOf → List ℕ
+last_of n = last_text n.tail.events
 
 abbrev pub timeline_of : Bool → NotesOf → List ℕ
 timeline_of false n = []
-timeline_of true n = timeline_head ++ timeline_rows n.tail.events
+timeline_of true n = timeline_head ++ timeline_rows (rows_in n.timeline)

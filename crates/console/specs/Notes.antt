@@ -11,6 +11,7 @@ use Rattle.console.specs.declared.notes.Note.{Note}
 use Rattle.console.specs.declared.notes.What.{What}
 use Rattle.console.specs.declared.notes.What.TheVariants.{Start, Refused, Ran, Waits, Done, Stopped}
 use Rattle.console.specs.Sessions.{EventOfCall, hart_in}
+use Rattle.console_parts.specs.declared.mode.Mode.{Mode}
 use Rattle.console_parts.specs.Tails.{TailView, tail, with_event}
 
 -- a step of a hart without a call is no event
@@ -31,9 +32,10 @@ pub record KeptRun : Type 0 where
   pub events : List Event
   pub outcomes : List Came
 
--- the last notes, and how many there were in all; and the whole run, where it is kept
+-- the last notes, and how many there were in all; all notes, where there is a timeline; and the whole run, where it is kept
 pub record NotesOf : Type 0 where
   pub tail : TailView Note
+  pub timeline : Option (List Note)
   pub count : ℕ
   pub kept : Option KeptRun
 
@@ -45,9 +47,22 @@ abbrev pub none_kept : Bool → Option KeptRun
 none_kept true = Some no_events
 none_kept false = None
 
--- with room for the last n
-abbrev pub no_notes : ℕ → Bool → NotesOf
-no_notes n keeps = record { tail = tail n []; count = 0; kept = none_kept keeps }
+abbrev pub no_rows : Bool → Option (List Note)
+no_rows true = Some []
+no_rows false = None
+
+-- with room for the last ones that the mode asks for
+abbrev pub no_notes : Mode → NotesOf
+no_notes mode = record { tail = tail mode.last []; timeline = no_rows mode.timeline; count = 0; kept = none_kept mode.explain }
+
+abbrev pub with_row : Option (List Note) → Note → Option (List Note)
+with_row None note = None
+with_row (Some notes) note = Some (notes ++ note ∷ [])
+
+-- the notes of the timeline, in their order
+abbrev pub rows_in : Option (List Note) → List Note
+rows_in None = []
+rows_in (Some notes) = notes
 
 -- the copy that is to be kept, where events are kept
 abbrev pub copy_for : Option KeptRun → Event → Option Event
@@ -69,6 +84,7 @@ run_in (Some run) = run
 abbrev pub with_note : NotesOf → ℕ → What → Option Event → Came → NotesOf
 with_note n hart what copy came = record {
   tail = with_event n.tail (record { number = n.count; hart = hart; what = what });
+  timeline = with_row n.timeline (record { number = n.count; hart = hart; what = what });
   count = n.count + 1;
   kept = with_kept n.kept copy came;
 }

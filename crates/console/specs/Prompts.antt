@@ -19,7 +19,7 @@ use Rattle.console.specs.Histories.{History, history_of}
 use Rattle.console.specs.Images.{bytes_for}
 use Rattle.console.specs.Notes.{NotesOf, no_notes}
 use Rattle.console.specs.Queues.{Left, none_left}
-use Rattle.console.specs.Runs.{EndsSo, RunsNone, most_noted}
+use Rattle.console.specs.Runs.{EndsSo, RunsNone}
 use Rattle.console.specs.Scripts.{HandsOut, TakesNoImage}
 use Rattle.console.specs.Sessions.{SessionOf, doing_at, is_joined, locks_of}
 use Rattle.console.specs.Verbs.{word_of}
@@ -176,7 +176,7 @@ module _ {D : Type 0} (contents : D → List (List ℕ)) (failures : D → ℕ) 
     pub ends : Result (Unit {0}) ConsoleFault
     pub between : Option (List ℕ)
     pub notes : NotesOf
-    pub answers : PromptsAll 1 typed (state s none_left) out (no_notes (most_noted mode) mode.explain) ends (state t left) between notes
+    pub answers : PromptsAll 1 typed (state s none_left) out (no_notes mode) ends (state t left) between notes
     pub end : EndsSo mode history notes ends between result out'
 
   abbrev pub PromptsReader : Mode → History → SessionOf D → Option (List ℕ) → Result (Unit {0}) ConsoleFault → SessionOf D → Option (List ℕ)

@@ -1,5 +1,5 @@
 -- A run of a script on a mounted file system.
-use Rattle.std.specs.Prelude.{◌≡◌, ◌⊎◌, ℕ, if◌then◌else◌, List, ◌++◌, Option, IfSome, Result, Ok, Err}
+use Rattle.std.specs.Prelude.{◌≡◌, ◌⊎◌, ℕ, List, ◌++◌, Option, IfSome, Result, Ok, Err}
 use Rattle.std.specs.Io.KnownBytes.{Appends}
 use Rattle.hart_core.specs.declared.outcome.Stop.{Stop}
 use Rattle.console.specs.declared.fault.ConsoleFault.{ConsoleFault}
@@ -16,13 +16,9 @@ use Rattle.console.specs.Sessions.{SessionOf}
 
 -- ---- after the lines
 
--- the timeline has all events, or the last 4294967295
-abbrev pub most_noted : Mode → ℕ
-most_noted mode = if mode.timeline then 4294967295 else mode.last
-
 -- first the last events, then the timeline
 abbrev pub end_text : Mode → NotesOf → List ℕ
-end_text mode notes = last_of mode.last notes ++ timeline_of mode.timeline notes
+end_text mode notes = last_of notes ++ timeline_of mode.timeline notes
 
 abbrev pub IsUnwritten : Result (Unit {0}) ConsoleFault → Type 0
 IsUnwritten (Err (faults.Write e)) = Unit {0}
@@ -92,7 +88,7 @@ module _ {D : Type 0} (contents : D → List (List ℕ)) (failures : D → ℕ) 
     pub ends : Result (Unit {0}) ConsoleFault
     pub between : Option (List ℕ)
     pub notes : NotesOf
-    pub runs : Runs (lines contents failures course.lines) (state s course.left) out (no_notes (most_noted mode) mode.explain) ends
+    pub runs : Runs (lines contents failures course.lines) (state s course.left) out (no_notes mode) ends
         (state t left) between notes
     pub end : EndsSo mode history notes ends between result out'
 

@@ -21,14 +21,11 @@ const SPACES: [u8; 56] = [b' '; 56];
 const HEAD: &str = " event  hart 0  hart 1  hart 2  hart 3  hart 4  hart 5  hart 6  hart 7";
 
 /// The lines of the last events.
-pub fn write_last<W: Write>(out: &mut W, last: u32, notes: &Notes) -> io::Result<()>
-    ensures { OnOk result (Appends (W.contents out.old) (W.contents out.new) (last_of last notes.now)) }
+pub fn write_last<W: Write>(out: &mut W, notes: &Notes) -> io::Result<()>
+    ensures { OnOk result (Appends (W.contents out.old) (W.contents out.new) (last_of notes.now)) }
 {
-    let first = notes.count().saturating_sub(u64::from(last));
     for note in notes.events() {
-        if note.number >= first {
-            write_event(out, note)?;
-        }
+        write_event(out, note)?;
     }
     Ok(())
 }
@@ -60,13 +57,13 @@ pub fn write_timeline<W: Write>(out: &mut W, notes: &Notes) -> io::Result<()>
     ensures { OnOk result (Appends (W.contents out.old) (W.contents out.new) (timeline_of true notes.now)) }
 {
     writeln!(out, "{HEAD}")?;
-    write_rows(out, notes)
+    write_rows(out, notes.timeline())
 }
 
-fn write_rows<W: Write>(out: &mut W, notes: &Notes) -> io::Result<()>
-    ensures { OnOk result (Appends (W.contents out.old) (W.contents out.new) (timeline_rows notes.now.tail.events)) }
+fn write_rows<W: Write>(out: &mut W, rows: &[Note]) -> io::Result<()>
+    ensures { OnOk result (Appends (W.contents out.old) (W.contents out.new) (timeline_rows rows.now)) }
 {
-    for note in notes.events() {
+    for note in rows {
         write_row(out, note)?;
     }
     Ok(())

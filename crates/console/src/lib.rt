@@ -29,9 +29,7 @@ pub use crate::lines::{Course, call_of, course_of};
 pub use crate::notes::{Notes, What, what_of, what_of_step};
 pub use crate::prompt::{HELP, prompt_on, run_prompt};
 pub use crate::queues::Queues;
-pub use crate::run::{
-    LONGEST_SCRIPT, finish_on, image_disk, most_noted, read_script, run_on, run_script,
-};
+pub use crate::run::{LONGEST_SCRIPT, finish_on, image_disk, read_script, run_on, run_script};
 pub use crate::session::{Session, hart_in};
 pub use crate::tell::write_refused;
 pub use crate::verb::Verb;

@@ -1,11 +1,11 @@
 //! What is noted of events.
-ghost use Rattle.std.specs.Prelude.{◌≡◌, IfOk, OnOk};
+ghost use Rattle.std.specs.Prelude.{◌≡◌, IfOk, OnOk, option_map};
 ghost use Rattle.hart_core.specs.declared.events.Event.TheVariants.{Step};
-ghost use Rattle.console.specs.Notes.{copy_for, no_notes, run_in, what_of, what_of_step, with_kept, with_note};
+ghost use Rattle.console.specs.Notes.{copy_for, no_notes, run_in, rows_in, what_of, what_of_step, with_kept, with_note, with_row};
 
 use crate::verb::Verb;
 use circular_buffer::Iter;
-use console_parts::Tail;
+use console_parts::{Mode, Tail};
 use fs_machine::Kind;
 use hart_core::{Came, Event, Outcome, StartRefused, Stop};
 use plain_tree::Answer;
@@ -70,10 +70,11 @@ impl Model for Kept {
     ghost view = { λ k. record { events = k.events.items; outcomes = k.outcomes.items } };
 }
 
-/// What is noted of the last events, and how many there were; and the whole run, where it is wanted.
+/// What is noted of the last events, and how many there were; of all, where a timeline is wanted; and the whole run, where it is wanted.
 #[derive(Drop)]
 pub struct Notes {
     tail: Tail<Note>,
+    timeline: Option<Vec<Note>>,
     count: u64,
     kept: Option<Kept>,
 }
@@ -83,7 +84,24 @@ impl Model for Notes {
 
     ghost Value = { NotesOf };
 
-    ghost view = { λ n. record { tail = n.tail; count = n.count; kept = n.kept } };
+    ghost use Rattle.std.specs.Prelude.{option_map};
+
+    ghost view = { λ n. record {
+      tail = n.tail;
+      timeline = option_map (λ v. v.items) n.timeline;
+      count = n.count;
+      kept = n.kept;
+    } };
+}
+
+// Puts a note behind those of the timeline.
+fn add_row(timeline: &mut Option<Vec<Note>>, note: Note) -> Result<(), AllocError>
+    ensures { OnOk result (option_map (λ v. v.items) timeline.new ≡ with_row (option_map (λ v. v.items) timeline.old) note) }
+{
+    if let Some(notes) = timeline {
+        notes.push(note)?;
+    }
+    Ok(())
 }
 
 // Puts an event, of which there is a copy, and what it came to behind those that are kept.
@@ -98,11 +116,16 @@ fn keep(kept: &mut Option<Kept>, copy: Option<Event>, came: Came) -> Result<(), 
 }
 
 impl Notes {
-    /// Of no event, with room for the last `most`. Where `keeps` is set the whole run is kept too.
-    pub fn new(alloc: Global, most: u32, keeps: bool) -> Result<Notes, AllocError>
-        ensures { IfOk result (λ n. n ≡ no_notes most keeps) }
+    /// Of no event, with room for the last ones that the mode asks for. Where it asks for a history the whole run is kept too.
+    pub fn new(alloc: Global, mode: Mode) -> Result<Notes, AllocError>
+        ensures { IfOk result (λ n. n ≡ no_notes mode) }
     {
-        let kept = if keeps {
+        let timeline = if mode.timeline {
+            Some(Vec::new(alloc))
+        } else {
+            None
+        };
+        let kept = if mode.explain {
             Some(Kept {
                 events: Vec::new(alloc),
                 outcomes: Vec::new(alloc),
@@ -111,7 +134,8 @@ impl Notes {
             None
         };
         Ok(Notes {
-            tail: Tail::new(alloc, most)?,
+            tail: Tail::new(alloc, mode.last)?,
+            timeline,
             count: 0,
             kept,
         })
@@ -152,8 +176,10 @@ impl Notes {
         let Some(count) = number.checked_add(1) else {
             return Err(AllocError);
         };
-        self.tail.note(Note { number, hart, what })?;
+        let note = Note { number, hart, what };
+        add_row(&mut self.timeline, note)?;
         keep(&mut self.kept, copy, came)?;
+        self.tail.note(note);
         self.count = count;
         Ok(())
     }
@@ -178,14 +204,17 @@ impl Notes {
         }
     }
 
-    /// How many events there were.
-    pub fn count(&self) -> u64
-        ensures { result ≡ self.now.count }
+    /// All events, the oldest first, where a timeline is wanted.
+    pub fn timeline(&self) -> &[Note]
+        ensures { result.now ≡ rows_in self.now.timeline }
     {
-        self.count
+        match &self.timeline {
+            Some(notes) => notes.as_slice(),
+            None => &[],
+        }
     }
 
-    /// The events that are held, the oldest first.
+    /// The last events, the oldest first.
     pub fn events(&self) -> Iter<'_, Note>
         ensures { result ≡ self.now.tail.events }
     {

@@ -8,7 +8,7 @@ ghost use Rattle.console.specs.Histories.{history_from, history_on};
 ghost use Rattle.console.specs.Images.{bytes_for, disk_for, fresh_bytes, JudgesImage};
 ghost use Rattle.console.specs.Lines.{course, script_course};
 ghost use Rattle.console.specs.Notes.{no_notes};
-ghost use Rattle.console.specs.Runs.{EndsSo, FailsUnread, PrintsAll, RunsCourse, RunsReader, RunsScript, TellsWanted, end_text, most_noted};
+ghost use Rattle.console.specs.Runs.{EndsSo, FailsUnread, PrintsAll, RunsCourse, RunsReader, RunsScript, TellsWanted, end_text};
 ghost use Rattle.console.specs.Scripts.{RunsImage, Tells};
 
 use crate::commands::{Desk, run_lines};
@@ -187,10 +187,10 @@ fn run_course<D: Device, W: Write>(
 
 /// A desk with these calls to be started, on which nothing is noted. The keeper begins with this tree.
 pub fn desk_of(alloc: Global, mode: Mode, base: &Tree, queues: Queues) -> Result<Desk, ConsoleFault>
-    ensures desk { IfOk result (λ desk. (desk.queues ≡ queues) × (desk.notes ≡ no_notes (most_noted mode) mode.explain)) }
+    ensures desk { IfOk result (λ desk. (desk.queues ≡ queues) × (desk.notes ≡ no_notes mode)) }
     ensures memory { IfErr result (λ fault. fault ≡ Memory) }
 {
-    let notes = Notes::new(alloc, most_noted(mode), mode.explain)?;
+    let notes = Notes::new(alloc, mode)?;
     let Ok(keeper) = Keeper::new(alloc, base) else {
         return Err(ConsoleFault::Memory);
     };
@@ -290,18 +290,11 @@ fn write_wanted_on<W: Write>(
     }
 }
 
-/// How many events have to be noted.
-pub fn most_noted(mode: Mode) -> u32
-    ensures { result ≡ most_noted mode }
-{
-    if mode.timeline { u32::MAX } else { mode.last }
-}
-
 // What stands after all answers. Before a history is sought, which may take long, all that was written is handed on.
 fn write_end<W: Write>(out: &mut W, mode: Mode, notes: &Notes) -> io::Result<()>
     ensures { OnOk result (Appends (W.contents out.old) (W.contents out.new) (end_text mode notes.now)) }
 {
-    write_last(out, mode.last, notes)?;
+    write_last(out, notes)?;
     if mode.timeline {
         write_timeline(out, notes)?;
     }

@@ -14,7 +14,7 @@ use Rattle.console.specs.declared.fault.ConsoleFault.{ConsoleFault}
 use Rattle.console.specs.declared.fault.ConsoleFault.TheVariants as faults
 use Rattle.console.specs.Histories.{IsUntold, TellsHistory, WhereSet, history_on}
 use Rattle.console.specs.Notes.{NotesOf, no_notes, run_in}
-use Rattle.console.specs.Runs.{PrintsAll, most_noted}
+use Rattle.console.specs.Runs.{PrintsAll}
 use Rattle.console_threads.specs.declared.fault.ThreadsFault.{ThreadsFault}
 use Rattle.console_threads.specs.declared.fault.ThreadsFault.TheVariants.{Console, Device, Strange}
 use Rattle.console_threads.specs.Asked.{IsAsked, IsUnasked}
@@ -84,13 +84,13 @@ end_fails mode image notes (Err fault) between end ends = unended mode image not
 
 -- all is printed
 pub end_prints : (mode : Mode) (image : List ℕ) (run : StoredRun) (events : List Event) (outcomes : List Came) (notes : NotesOf) (result : Result (Unit {0}) ConsoleFault) (out between end : Option (List ℕ)) → events ≡ run.events → outcomes ≡ run.outcomes
-    → Appends out between (harts_text events outcomes eight_harts) → notes ≡ noted_in (no_notes (most_noted mode) mode.explain) events outcomes → PrintsAll mode (history_on image) notes between result end → OnOk result (IsPrinted mode image run out end)
+    → Appends out between (harts_text events outcomes eight_harts) → notes ≡ noted_in (no_notes mode) events outcomes → PrintsAll mode (history_on image) notes between result end → OnOk result (IsPrinted mode image run out end)
 end_prints mode image run events outcomes notes (Err fault) out between end these those lines noted ends = tt
 end_prints mode image run events outcomes notes (Ok u) out between end these those lines noted ends =
     record {
       between = between;
       lines = subst (λ (p : List Event × List Came). Appends out between (harts_text p.0 p.1 eight_harts)) (λ i. (these i, those i)) lines;
-      ends = subst (λ n. PrintsAll mode (history_on image) n between (Ok tt) end) (noted ∙ (λ i. noted_in (no_notes (most_noted mode) mode.explain) (these i) (those i))) ends;
+      ends = subst (λ n. PrintsAll mode (history_on image) n between (Ok tt) end) (noted ∙ (λ i. noted_in (no_notes mode) (these i) (those i))) ends;
     }
 
 untold_run : (script : Option (List ℕ)) (fault : ThreadsFault) (out out' : Option (List ℕ)) → IsUntoldRun fault out out' → IsNoRun script fault out out'

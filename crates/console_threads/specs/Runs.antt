@@ -8,7 +8,7 @@ use Rattle.console.specs.declared.fault.ConsoleFault.{ConsoleFault}
 use Rattle.console.specs.declared.fault.ConsoleFault.TheVariants as faults
 use Rattle.console.specs.Histories.{history_on}
 use Rattle.console.specs.Notes.{no_notes}
-use Rattle.console.specs.Runs.{PrintsAll, most_noted}
+use Rattle.console.specs.Runs.{PrintsAll}
 use Rattle.console_threads.specs.declared.fault.ThreadsFault.{ThreadsFault}
 use Rattle.console_threads.specs.declared.fault.ThreadsFault.TheVariants.{Console, Device, Strange}
 use Rattle.console_threads.specs.Asked.{IsAsked, IsUnasked}
@@ -20,7 +20,7 @@ use Rattle.console_threads.specs.Worked.{AllAnswered, eight_harts}
 pub record IsPrinted (mode : Mode) (image : List ℕ) (run : StoredRun) (out out' : Option (List ℕ)) : Type 0 where
   pub between : Option (List ℕ)
   pub lines : Appends out between (harts_text run.events run.outcomes eight_harts)
-  pub ends : PrintsAll mode (history_on image) (noted_in (no_notes (most_noted mode) mode.explain) run.events run.outcomes) between (Ok tt) out'
+  pub ends : PrintsAll mode (history_on image) (noted_in (no_notes mode) run.events run.outcomes) between (Ok tt) out'
 
 -- A run on this image leaves this disk, one that doesn't fail, and is printed. Each hart was to start its calls, and all that were started
 -- are answered. One

@@ -2,12 +2,11 @@
 ghost use Rattle.std.specs.Prelude.{◌≡◌, Some, IfOk, OnOk};
 ghost use Rattle.std.specs.Io.KnownBytes.{Appends};
 ghost use Rattle.console.specs.Notes.{no_notes, with_what};
-ghost use Rattle.console.specs.Runs.{most_noted};
 ghost use Rattle.console.specs.Sessions.{hart_in};
 ghost use Rattle.console_threads.specs.Told.{hart_text, harts_text, line_for, line_of, noted_in, what_in};
 ghost use Rattle.console_threads.specs.Worked.{eight_harts};
 
-use console::{Notes, Verb, What, hart_in, most_noted, what_of, what_of_step, write_refused};
+use console::{Notes, Verb, What, hart_in, what_of, what_of_step, write_refused};
 use console_parts::{Mode, write_reply};
 use hart_core::{Came, Event, Outcome};
 use plain_tree::{Call, Reply};
@@ -76,9 +75,9 @@ pub fn notes_of(
     events: &[Event],
     outcomes: &[Came],
 ) -> Result<Notes, AllocError>
-    ensures { IfOk result (λ n. n ≡ noted_in (no_notes (most_noted mode) mode.explain) events.now outcomes.now) }
+    ensures { IfOk result (λ n. n ≡ noted_in (no_notes mode) events.now outcomes.now) }
 {
-    let mut notes = Notes::new(alloc, most_noted(mode), mode.explain)?;
+    let mut notes = Notes::new(alloc, mode)?;
     for i in 0..events.len().min(outcomes.len()) {
         note_event(&mut notes, &events[i], &outcomes[i])?;
     }

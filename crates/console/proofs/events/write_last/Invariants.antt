@@ -5,4 +5,4 @@ use Rattle.console.proofs.events.write_last.Given as goal
 
 abbrev pub invariant-loop-note : goal.invariant-loop-note
 invariant-loop-note g l =
-    (end : Option (List ℕ)) → Appends (g.W.Write.contents l.out) end (last_text l.first l.note-iterator) → Appends (g.W.Write.contents l.fn.out) end (last_text l.first l.notes.tail.events)
+    (end : Option (List ℕ)) → Appends (g.W.Write.contents l.out) end (last_text l.note-iterator) → Appends (g.W.Write.contents l.fn.out) end (last_text l.notes.tail.events)

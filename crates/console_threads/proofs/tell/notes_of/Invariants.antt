@@ -1,8 +1,7 @@
 use Rattle.std.proofs.Common.{◌≡◌, drop}
 use Rattle.console.specs.Notes.{no_notes}
-use Rattle.console.specs.Runs.{most_noted}
 use Rattle.console_threads.specs.Told.{noted_in}
 use Rattle.console_threads.proofs.tell.notes_of.Given as goal
 
 abbrev pub invariant-loop-i : goal.invariant-loop-i
-invariant-loop-i l = noted_in l.notes (drop l.i l.events) (drop l.i l.outcomes) ≡ noted_in (no_notes (most_noted l.fn.mode) l.fn.mode.explain) l.events l.outcomes
+invariant-loop-i l = noted_in l.notes (drop l.i l.events) (drop l.i l.outcomes) ≡ noted_in (no_notes l.fn.mode) l.events l.outcomes
