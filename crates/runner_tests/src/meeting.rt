@@ -2,8 +2,8 @@
 ghost use Rattle.std.specs.Prelude.{◌≡◌};
 
 use crate::kernels::{Came, all_of, called, closed, first_two, image, mkdir, no_kernel, open};
-use hart_core::Event;
 use hart_runner::{Gate, Kernel, Seat};
+use locked_world::{Closed, EventRef};
 use plain_tree::{Answer, Call, Cause};
 use std::alloc::Global;
 use std::marker::Brand;
@@ -54,14 +54,14 @@ fn poll(clock: &impl Clock, flag: &AtomicBool) {
 }
 
 // How many steps of hart 0's last call stand before the start of hart 1's.
-fn steps_before(events: &[Event]) -> usize {
+fn steps_before<L: Ledger>(closed: &Closed<L>) -> usize {
     let mut steps: usize = 0;
     let mut before: usize = 0;
-    for event in events {
+    for (event, _came) in closed.iter() {
         match event {
-            Event::Start { hart: 0, call: _ } => steps = 0,
-            Event::Start { hart: 1, call: _ } => before = steps,
-            Event::Step { hart: 0 } => steps = steps.saturating_add(1),
+            EventRef::Start { hart: 0, call: _ } => steps = 0,
+            EventRef::Start { hart: 1, call: _ } => before = steps,
+            EventRef::Step { hart: 0 } => steps = steps.saturating_add(1),
             _ => {}
         }
     }
@@ -125,7 +125,6 @@ fn answer_of(came: &Came) -> Option<Answer> {
 // The meeting of two harts.
 fn met<L: Ledger + Send + Sync, G: Gate + Drop + Sync, R: Threads + Wait + Clock + Abort + Sync>(
     rt: &R,
-    alloc: Global,
     kernel: Kernel<L, G>,
     seats: [Seat<L>; 8],
     flags: &Flags,
@@ -151,8 +150,7 @@ fn met<L: Ledger + Send + Sync, G: Gate + Drop + Sync, R: Threads + Wait + Clock
     let (a, held) = one;
     let (b, other) = two;
     let closed = closed(rt, kernel, all_of(a, b, others));
-    let events = closed.events(alloc).expect(rt, "error");
-    let before = steps_before(events.as_slice());
+    let before = steps_before(&closed);
     (answer_of(&held), answer_of(&other), before)
 }
 
@@ -172,7 +170,7 @@ fn meet<'a, L: Ledger + Send + Sync, R: Threads + Wait + Clock + Abort + Sync>(
     match Kernel::<L, Meeting<'a, R>>::open(alloc, blank, image, u64::MAX, gate) {
         Ok(opened) => {
             let (kernel, seats) = opened;
-            met(rt, alloc, kernel, seats, flags, calls)
+            met(rt, kernel, seats, flags, calls)
         }
         Err(fault) => no_kernel(rt, fault),
     }
