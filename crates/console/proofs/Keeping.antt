@@ -14,7 +14,7 @@ use Rattle.console.specs.Histories.{History, TellsHistory, WhereSet, history_fro
 use Rattle.console.specs.Lines.{CourseOf}
 use Rattle.console.specs.Notes.{KeptRun, NotesOf, all_noted, no_notes, none_kept, run_in}
 use Rattle.console.specs.Prompts.{PromptsReader}
-use Rattle.console.specs.Runs.{EndsSo, PrintsAll, RunsReader, RunsScript, most_noted}
+use Rattle.console.specs.Runs.{EndsSo, PrintsAll, RunsReader, RunsScript}
 use Rattle.console.specs.Sessions.{EventOfCall, SessionOf}
 use Rattle.console.proofs.Chaining.{Chain, lines_chain, prompts_all_chain}
 use Rattle.console.proofs.Noting.{IsKept, events_kept, kept_first, kept_history}
@@ -46,17 +46,17 @@ module _ {D : Type 0} (contents : D → List (List ℕ)) (failures : D → ℕ) 
   printed_again t notes out result out' made (inr unwritten) = inr unwritten
 
   -- what the notes of these events keep
-  made_so : (most : ℕ) (xs : List EventOfCall) (t : SessionOf D) (notes : NotesOf) → notes ≡ all_noted (no_notes most mode.explain) xs → Chain contents failures s xs t → mode.explain ≡ true → IsRunTo t (run_in notes.kept)
-  made_so most xs t notes noted chain is =
-      let begins : IsKept contents failures s.world.sizes s.world.harts (no_notes most mode.explain).kept s.world.harts = subst (λ (b : Bool). IsKept contents failures s.world.sizes s.world.harts (none_kept b) s.world.harts) (sym is) (kept_first contents failures s.world.sizes s.world.harts) in
-      let all = events_kept contents failures s.world.sizes s.world.harts xs (no_notes most mode.explain) s t refl begins chain in
+  made_so : (xs : List EventOfCall) (t : SessionOf D) (notes : NotesOf) → notes ≡ all_noted (no_notes mode) xs → Chain contents failures s xs t → mode.explain ≡ true → IsRunTo t (run_in notes.kept)
+  made_so xs t notes noted chain is =
+      let begins : IsKept contents failures s.world.sizes s.world.harts (no_notes mode).kept s.world.harts = subst (λ (b : Bool). IsKept contents failures s.world.sizes s.world.harts (none_kept b) s.world.harts) (sym is) (kept_first contents failures s.world.sizes s.world.harts) in
+      let all = events_kept contents failures s.world.sizes s.world.harts xs (no_notes mode) s t refl begins chain in
       subst (λ (n : NotesOf). IsRunTo t (run_in n.kept)) (sym noted) (kept_history contents failures s.world.sizes s.world.harts _ t.world.harts all)
 
   ends_again : (xs : List EventOfCall) (text : List ℕ) (t : SessionOf D) (notes : NotesOf) (ends result : Result (Unit {0}) ConsoleFault) (out between out' : Option (List ℕ)) → Chain contents failures s xs t
-      → IfTold ends (Told out (no_notes (most_noted mode) mode.explain) xs text between notes) → EndsSo mode one notes ends between result out' → EndsSo mode other notes ends between result out'
-  ends_again xs text t notes (Ok u) result out between out' chain told printed = printed_again t notes between result out' (made_so (most_noted mode) xs t notes told.noted chain) printed
+      → IfTold ends (Told out (no_notes mode) xs text between notes) → EndsSo mode one notes ends between result out' → EndsSo mode other notes ends between result out'
+  ends_again xs text t notes (Ok u) result out between out' chain told printed = printed_again t notes between result out' (made_so xs t notes told.noted chain) printed
   ends_again xs text t notes (Err (faults.Stopped stop)) result out between out' chain told printed =
-      (printed.0, printed_again t notes between printed.0 out' (made_so (most_noted mode) xs t notes told.noted chain) printed.1, printed.2)
+      (printed.0, printed_again t notes between printed.0 out' (made_so xs t notes told.noted chain) printed.1, printed.2)
   ends_again xs text t notes (Err faults.Memory) result out between out' chain told is = is
   ends_again xs text t notes (Err (faults.Write e)) result out between out' chain told is = is
   ends_again xs text t notes (Err (faults.Image f)) result out between out' chain told is = is

@@ -4,7 +4,7 @@ use block_device::{Fused, MemoryDisk};
 use console::{ConsoleFault, Session, run_on, run_script, status};
 use console_parts::{Mode, Schedule};
 use hart_core::Stop;
-use image_tree::{MountFault, tree_of};
+use image_tree::MountFault;
 use plain_tree::Tree;
 use script::Reason;
 use std::alloc::{AllocError, Global};
@@ -64,34 +64,6 @@ fn prints_why_a_call_is_stopped(rt: HostRuntime) -> Result<(), Fail> {
         assert!(rt; out.as_slice() == lines.as_bytes(), "{script}");
     }
     let _disk = session.unmount();
-    Ok(())
-}
-
-/// The answers up to a stop have a history, also where the stopped call has made no step.
-#[test]
-fn a_stopped_run_is_explained(rt: HostRuntime) -> Result<(), Fail> {
-    let base = match tree_of(rt.alloc(), &mut disk(rt.alloc(), 60, 16)?) {
-        Ok(base) => base,
-        Err(MountFault::NoMemory) => return Err(Fail::from(AllocError)),
-        Err(_) => return Err(Fail::new("it is damaged")),
-    };
-    let mut session = mounted_at_last(rt.alloc())?;
-    let mut out = Vec::new(rt.alloc());
-    let ran = run_on(
-        rt.alloc(),
-        &mut session,
-        EXPLAIN,
-        &base,
-        STOPPED.as_bytes(),
-        &mut out,
-    );
-    let _disk = session.unmount();
-    match ran {
-        Err(ConsoleFault::Stopped(Stop::DeviceFault)) => {}
-        Err(ConsoleFault::Memory) => return Err(Fail::from(AllocError)),
-        _ => return Err(Fail::new("it isn't stopped")),
-    }
-    assert!(rt; out.as_slice() == STOPPED_LINES.as_bytes());
     Ok(())
 }
 
@@ -230,12 +202,6 @@ const SHORT: &str = "0 fstat 0\n1 dup 0\n0 dup 1\nall\n9 dup 0\n";
 
 const SHORT_ANSWERS: &str =
     "0 dup refused 41 Busy\n0 fstat failed 6 BadDescriptor\n1 dup failed 6 BadDescriptor\n9 dup refused 45 NoSuchHart\n";
-
-// The second call stops at its first read of the device.
-const STOPPED: &str = "do 0 fstat 0\ndo 0 open / 0\ndo 0 dup 0\n";
-
-const STOPPED_LINES: &str =
-    "0 fstat failed 6 BadDescriptor\n0 open stopped 31 DeviceFault\nevent 1: 0 fstat 0: failed 6 BadDescriptor\n";
 
 // Each step stands at the event at which it was made: here at its call's second.
 const SHORT_HISTORY: &str =
