@@ -3,7 +3,7 @@ ghost use Rattle.std.specs.Prelude.{◌≡◌, []};
 
 use crate::records::inode_of_size;
 use crate::workload::WorkloadError;
-use fs_tables::{Dropped, Listed, MEMORY_INODES, Reference, Tables};
+use fs_machine::{Dropped, Listed, MEMORY_INODES, Reference, Tables};
 use std::alloc::Global;
 
 const OPERATIONS: u32 = 4_000_000;

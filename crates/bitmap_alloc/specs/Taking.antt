@@ -7,12 +7,12 @@ use Rattle.fs_machine.specs.Steps as steps
 use Rattle.fs_machine.specs.Machines.{P}
 use Rattle.bitmap_alloc.specs.Bytes.{marked_by}
 use Rattle.bitmap_alloc.specs.Programs.{give_zeros, take_first, zero_found}
-use Rattle.hands.specs.declared.hand.Hand.{Hand}
-use Rattle.hands.specs.declared.hand.Place.{Place}
-use Rattle.hands.specs.declared.op.Op.{Op}
-use Rattle.hands.specs.declared.op.Op.TheVariants as ops
-use Rattle.hands.specs.Hands.{buffer_at, block_at, bytes_at}
-use Rattle.hands.specs.Fetching.{fetch_left, fetch_asked, fetch_block, fetch_place, FetchReady}
+use Rattle.fs_machine.specs.declared.hand.Hand.{Hand}
+use Rattle.fs_machine.specs.declared.hand.Place.{Place}
+use Rattle.fs_machine.specs.declared.op.Op.{Op}
+use Rattle.fs_machine.specs.declared.op.Op.TheVariants as ops
+use Rattle.fs_machine.specs.Hands.{buffer_at, block_at, bytes_at}
+use Rattle.fs_machine.specs.Fetching.{fetch_left, fetch_asked, fetch_block, fetch_place, FetchReady}
 use Rattle.bitmap_alloc.specs.declared.take_block.TakeBlock.{TakeBlock}
 use Rattle.bitmap_alloc.specs.declared.take_block.TakeBlock.TheVariants.{Bitmap, Mark, Block, Zero}
 

@@ -4,15 +4,15 @@ ghost use Rattle.std.specs.Option.{MatchOption};
 ghost use Rattle.fs_machine.specs.Tied.{bytes_of};
 ghost use Rattle.bitmap_alloc.specs.Bytes.{without_bit};
 ghost use Rattle.bitmap_alloc.specs.Programs.{free_block};
-ghost use Rattle.hands.specs.Hands.{buffer_at, bytes_at, with_buffer, with_bytes, with_content};
-ghost use Rattle.hands.specs.Ops.{IsAfter, answer_in};
-ghost use Rattle.hands.specs.Controls.{Goes, left_after, bare};
-ghost use Rattle.hands.specs.declared.hand.Hand.{Hand as HandState};
+ghost use Rattle.fs_machine.specs.Hands.{buffer_at, bytes_at, with_buffer, with_bytes, with_content};
+ghost use Rattle.fs_machine.specs.Ops.{IsAfter, answer_in};
+ghost use Rattle.fs_machine.specs.Controls.{Goes, left_after, bare};
+ghost use Rattle.fs_machine.specs.declared.hand.Hand.{Hand as HandState};
 ghost use Rattle.bitmap_alloc.specs.FreeingBlocks.{free_left, free_asked, free_place, FreeReady};
 
 use crate::bits::clear;
 use buffer_cache::Buffer;
-use hands::{Answer, Fetch, Hand, Op, Part, Place};
+use fs_machine::{Answer, Fetch, Hand, Op, Part, Place};
 use sleep_lock::Guard;
 
 /// Clears a block's bit, so that it may be taken.
@@ -66,7 +66,7 @@ impl Part for FreeBlock {
         }
     }
 
-    #[tactic(auto, using(hands::proofs::Going::goes_bind, hands::proofs::Goings::fetched_goes))]
+    #[tactic(auto, using(fs_machine::proofs::Going::goes_bind, fs_machine::proofs::Goings::fetched_goes))]
     fn next(&mut self, answer: &Answer, hand: &Hand) -> Option<()> {
         match self {
             FreeBlock::Bitmap(b, fetch) => {

@@ -2,17 +2,17 @@
 ghost use Rattle.std.specs.Prelude.{◌≡◌, ◌<◌, Some, IsSome, ◌≤◌, IfSome, None};
 ghost use Rattle.std.specs.Option.{MatchOption};
 ghost use Rattle.fs_machine.specs.Tied.{bytes_of};
-ghost use Rattle.hands.specs.Hands.{buffer_at, bytes_at, with_bytes, with_content};
+ghost use Rattle.fs_machine.specs.Hands.{buffer_at, bytes_at, with_bytes, with_content};
 ghost use Rattle.bitmap_alloc.specs.Bytes.{with_bit, zeros};
 ghost use Rattle.bitmap_alloc.specs.First.{first_clear_below};
 ghost use Rattle.fs_layout.specs.Widths.{bits_per_block};
-ghost use Rattle.hands.specs.declared.hand.Place.TheVariants.{First};
+ghost use Rattle.fs_machine.specs.declared.hand.Place.TheVariants.{First};
 
 use crate::bits::set;
 use crate::search::first_clear;
 use buffer_cache::Buffer;
 use fs_layout::widths::BLOCK_LEN;
-use hands::{Hand, Place};
+use fs_machine::{Hand, Place};
 use sleep_lock::Guard;
 
 // Sets a bit of the bitmap.

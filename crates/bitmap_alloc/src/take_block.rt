@@ -2,14 +2,14 @@
 ghost use Rattle.std.specs.Prelude.{◌≡◌, ◌≤◌, ℕ, Option, None, IsSome, IfSome, IfNone};
 ghost use Rattle.fs_layout.specs.Widths.{bits_per_block};
 ghost use Rattle.bitmap_alloc.specs.Programs.{take_block};
-ghost use Rattle.hands.specs.Hands.{buffer_at, with_buffer};
-ghost use Rattle.hands.specs.Ops.{IsAfter, answer_in};
-ghost use Rattle.hands.specs.Controls.{Goes, left_after, bare};
-ghost use Rattle.hands.specs.declared.hand.Hand.{Hand as HandState};
+ghost use Rattle.fs_machine.specs.Hands.{buffer_at, with_buffer};
+ghost use Rattle.fs_machine.specs.Ops.{IsAfter, answer_in};
+ghost use Rattle.fs_machine.specs.Controls.{Goes, left_after, bare};
+ghost use Rattle.fs_machine.specs.declared.hand.Hand.{Hand as HandState};
 ghost use Rattle.bitmap_alloc.specs.Taking.{take_left, take_asked, take_place, TakeReady};
 
 use crate::place::{clear_at, set_at, zero_at};
-use hands::{Answer, Fetch, Hand, Op, Part, Place};
+use fs_machine::{Answer, Fetch, Hand, Op, Part, Place};
 
 /// Takes a free block and fills it with zeros. None where no block is free.
 #[derive(Clone, Copy, Drop)]
@@ -75,7 +75,7 @@ impl Part for TakeBlock {
         }
     }
 
-    #[tactic(auto, using(hands::proofs::Going::goes_bind, hands::proofs::Goings::fetched_goes))]
+    #[tactic(auto, using(fs_machine::proofs::Going::goes_bind, fs_machine::proofs::Goings::fetched_goes))]
     fn next(&mut self, answer: &Answer, hand: &Hand) -> Option<Option<u32>> {
         match self {
             TakeBlock::Bitmap(size, fetch) => {

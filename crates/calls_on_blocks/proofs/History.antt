@@ -9,7 +9,7 @@ use Rattle.plain_tree.specs.Widths.{hart_count}
 use Rattle.image_tree.specs.Trees.{tree_in}
 use Rattle.tree_laws.specs.WellFormed.{IsWellFormed}
 use Rattle.tree_laws.proofs.Nodes.{settled_well}
-use Rattle.tree_moves.specs.Moves.{Step as MoveStep}
+use Rattle.tree_laws.specs.Moves.{Step as MoveStep}
 use Rattle.atomic_programs.specs.Prog.{Did, Waits, Ran, Stops}
 use Rattle.atomic_programs.specs.Logic.{placed_with}
 use Rattle.atomic_programs.specs.Calls.{Began, Refuses, Begins, Event}

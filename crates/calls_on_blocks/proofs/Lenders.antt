@@ -18,7 +18,7 @@ use Rattle.inode_machine.specs.World.{Desk, Entry}
 use Rattle.inode_machine.specs.World.Op.{Take, Give, UpStart, Up, WalkDown, Down, Free, Forget, Claim, Store, Fill, Enter, Clear, Empty, Slot, Install, StatFile, LockFile, ReadFile, CheckFile, JoinFile, LockOpen, WriteFile, Double, Shut, Settle, Lend, LendDirectory, Release, Join, Leave, Say}
 use Rattle.inode_machine.specs.World.Outside.{Room, RoomFor, Picks}
 use Rattle.inode_machine.proofs.Frame.{put_elim}
-use Rattle.inodes_on_tables.proofs.Desks.{part_same}
+use Rattle.inodes_on_blocks.proofs.Desks.{part_same}
 use Rattle.inodes_on_blocks.proofs.Marked.{marked_same}
 use Rattle.calls_on_blocks.specs.Layer.{Reserves}
 

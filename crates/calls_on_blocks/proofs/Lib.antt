@@ -11,3 +11,14 @@ pub mod Reserving
 pub mod Starting
 pub mod Lawful
 pub mod History
+pub mod Moves
+pub mod Events
+pub mod Following
+pub mod Quiet
+pub mod Histories
+pub mod Stops
+pub mod Told
+pub mod Beginnings
+pub mod Commits
+pub mod Whole
+pub mod Heads

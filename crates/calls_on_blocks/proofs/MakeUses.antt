@@ -9,7 +9,7 @@ use Rattle.plain_tree.specs.declared.call.Call.TheVariants as calls
 use Rattle.plain_tree.specs.declared.step.Action.TheVariants as actions
 use Rattle.plain_tree.specs.Tree.{Name, elements}
 use Rattle.plain_tree.specs.Widths.{hart_count}
-use Rattle.tree_moves.specs.Moves.Move.{Begin}
+use Rattle.tree_laws.specs.Moves.Move.{Begin}
 use Rattle.atomic_programs.specs.Prog.{Do, unmarked}
 use Rattle.atomic_programs.specs.Lifting.{Uses}
 use Rattle.inode_machine.specs.Inodes.{OfDirectory, OfFile, Sort, Face, face_or, AtNothing, AtName, is_live_face}

@@ -7,7 +7,7 @@ use Rattle.plain_tree.specs.declared.tree.OpenFile.{OpenFile}
 use Rattle.plain_tree.specs.Tree.{Name}
 use Rattle.plain_tree.specs.Widths.{hart_count}
 use Rattle.atomic_programs.specs.Spending.{AtomicWithin}
-use Rattle.tree_moves.specs.Moves.{Stage, Step, Takes}
+use Rattle.tree_laws.specs.Moves.{Stage, Step, Takes}
 use Rattle.inode_machine.specs.Inodes.{Face, Query, Sight, Sort}
 use Rattle.inode_machine.specs.Marks.{places}
 use Rattle.inode_machine.specs.Rules as rules

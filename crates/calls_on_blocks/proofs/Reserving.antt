@@ -8,18 +8,18 @@ use Rattle.fs_layout.specs.declared.inode.Dinode.{Dinode}
 use Rattle.plain_tree.specs.Tree.{put}
 use Rattle.plain_tree.specs.Widths.{hart_count, descriptor_count}
 use Rattle.tree_laws.proofs.Maps.{same_or, put_same, put_other, any_none, none_any, any_same, eq_self}
-use Rattle.fs_tables.specs.declared.desk.Desk as cards
-use Rattle.fs_tables.specs.Tables.{TablesState, file_named}
+use Rattle.fs_machine.specs.declared.desk.Desk as cards
+use Rattle.fs_machine.specs.Tables.{TablesState, file_named}
 use Rattle.inode_machine.specs.Exec.{entry_at, entry_of, is_at, is_nothing, serving}
 use Rattle.inode_machine.specs.Rules.{Idle, Inv}
 use Rattle.inode_machine.specs.Theory.{has_descriptor, serving_world}
 use Rattle.inode_machine.specs.World as above
 use Rattle.inode_machine.specs.World.{Desk, Entry}
 use Rattle.inode_machine.proofs.Turnings.{serving_none}
-use Rattle.inodes_on_tables.specs.Shown as tables
-use Rattle.inodes_on_tables.specs.Shown.{DesksShow, FilesShow, descriptor, file_of, first, is_taken, lent_by, loaded, place_with}
-use Rattle.inodes_on_tables.proofs.Desks.{part_same}
-use Rattle.inodes_on_tables.proofs.Named.{descriptors_name_files}
+use Rattle.inodes_on_blocks.specs.ShownTables as tables
+use Rattle.inodes_on_blocks.specs.ShownTables.{DesksShow, FilesShow, descriptor, file_of, first, is_taken, lent_by, loaded, place_with}
+use Rattle.inodes_on_blocks.proofs.Desks.{part_same}
+use Rattle.inodes_on_blocks.proofs.Named.{descriptors_name_files}
 use Rattle.inodes_on_blocks.specs.Below.{World as Blocks, tables_of}
 use Rattle.inodes_on_blocks.specs.Shown.{Shows}
 use Rattle.inodes_on_blocks.proofs.Tables.{shows_then}

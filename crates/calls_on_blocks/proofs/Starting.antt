@@ -21,8 +21,8 @@ use Rattle.inode_machine.specs.Theory as theory
 use Rattle.inode_machine.specs.Theory.{Refusal, NoSuchHart, Busy, TooLong, NotEmptyHart, NotCovered, asks_wrong, begin_call, begin_if, begin_inherit, has_descriptor, is_covered, call_wrong, serving_world, why_not}
 use Rattle.inode_machine.proofs.InheritStarts.{started_rests}
 use Rattle.inode_machine.proofs.Starts.{begun_same, inherit_begins}
-use Rattle.inodes_on_tables.specs.Shown as tables
-use Rattle.inodes_on_tables.specs.Shown.{loaded}
+use Rattle.inodes_on_blocks.specs.ShownTables as tables
+use Rattle.inodes_on_blocks.specs.ShownTables.{loaded}
 use Rattle.inodes_on_blocks.specs.Below.{tables_of}
 use Rattle.inodes_on_blocks.specs.Lowering.{nothing}
 use Rattle.inodes_on_blocks.proofs.Layer.{below_laws}

@@ -8,7 +8,7 @@ use Rattle.plain_tree.specs.declared.call.Call.TheVariants as calls
 use Rattle.plain_tree.specs.declared.step.Action.TheVariants as actions
 use Rattle.plain_tree.specs.Tree.{Name, elements, same_name, dot, dotdot}
 use Rattle.plain_tree.specs.Widths.{hart_count}
-use Rattle.tree_moves.specs.Moves.Move.{Begin, Look}
+use Rattle.tree_laws.specs.Moves.Move.{Begin, Look}
 use Rattle.atomic_programs.specs.Prog.{Do, unmarked}
 use Rattle.atomic_programs.specs.Lifting.{Uses}
 use Rattle.inode_machine.specs.Inodes.{Face, face_or, AtNothing, AtName, AtEntries, is_directory_sort, is_live_face}

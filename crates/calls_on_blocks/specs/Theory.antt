@@ -9,7 +9,7 @@ use Rattle.atomic_programs.specs.Prog.{or_else}
 use Rattle.atomic_programs.specs.Calls.{Theory, Began, Refuses, Begins}
 use Rattle.atomic_programs.specs.Plain.{Code}
 use Rattle.atomic_programs.specs.Lowered.{Starts, lowered_calls, Part, code_part}
-use Rattle.fs_tables.specs.Tables.{TablesState, file_named}
+use Rattle.fs_machine.specs.Tables.{TablesState, file_named}
 use Rattle.fs_machine.specs.declared.kind.Kind.{Kind}
 use Rattle.fs_machine.specs.Steps as steps
 use Rattle.fs_machine.specs.Premises as premises

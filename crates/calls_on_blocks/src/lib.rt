@@ -4,6 +4,9 @@
 
 ghost use Rattle.calls_on_blocks.specs.Laws.{CallsAreLawful, CodeIsOfIt};
 ghost use Rattle.calls_on_blocks.specs.History.{MountsHaveOneHistory, OneHartHasOneHistory};
+ghost use Rattle.calls_on_blocks.specs.Stops.{MarksAreTold, OneHartLeavesABeginning, StopsLeaveABeginning, StopsLeaveImages};
+ghost use Rattle.calls_on_blocks.specs.Whole.{CutsHaveReplies, MarksPartNone};
+ghost use Rattle.calls_on_blocks.specs.Heads.{LogsLeaveGoodHeads, LogsMayBegin};
 
 /// Each call that is served is right on the blocks: whatever the other harts do and wherever the device fails, each of its
 /// operations may be made where it is made, it leaves to the others what is theirs, and it ends with its written sequence, in
@@ -28,4 +31,45 @@ pub fn mounts_have_one_history()
 /// Where one hart alone makes calls the same holds for any paths.
 pub fn one_hart_has_one_history()
     ensures { OneHartHasOneHistory }
+{}
+
+/// Wherever a mounted file system is stopped, in the middle of calls or of a commit, by the device's failure or not, its disk
+/// passes all checks as recovery sees it: it can be mounted again.
+pub fn stops_leave_images()
+    ensures { StopsLeaveImages }
+{}
+
+/// Crash safety, of definitions: the tree on that disk is what has names in the tree after a beginning of the one list of tree steps
+/// that explains the run: the entries of its first events, up to the leave that began the last commit whose header has stood; as
+/// long as no step found no room and no path has the element "..".
+pub fn stops_leave_a_beginning()
+    ensures { StopsLeaveABeginning }
+{}
+
+/// Where one hart alone makes calls the same holds for any paths.
+pub fn one_hart_leaves_a_beginning()
+    ensures { OneHartLeavesABeginning }
+{}
+
+/// The marks of its events are known by where each takes the log's commit: so code that sees the log before and after an event keeps
+/// them.
+pub fn marks_are_told()
+    ensures { MarksAreTold }
+{}
+
+/// After so many events as a mark tells no hart is in a transaction: so none is stored in part. And once a hart has replied whose
+/// leave began a commit, that leave is not behind the cut.
+pub fn marks_leave_all_whole()
+    ensures transactions { MarksPartNone }
+    ensures replies { CutsHaveReplies }
+{}
+
+/// Whatever a log was doing when it stopped, its disk passes the checks up to the log's: so recovery passes it.
+pub fn logs_leave_good_heads()
+    ensures { LogsLeaveGoodHeads }
+{}
+
+/// A log may begin on a disk that recovery has passed.
+pub fn logs_may_begin()
+    ensures { LogsMayBegin }
 {}

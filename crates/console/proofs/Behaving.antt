@@ -7,7 +7,7 @@ use Rattle.console.specs.declared.fault.ConsoleFault.TheVariants as faults
 use Rattle.console.specs.Behaviours.{Behaviour, gives, in_case, followed_by, takes_memory, prints, IfTold, IsWritten, Told, Runs}
 use Rattle.console.specs.Notes.{NotesOf, all_noted, noted}
 use Rattle.console.specs.Sessions.{EventOfCall}
-use Rattle.console_parts.proofs.Appending.{appends_nothing, appends_both}
+use Rattle.script.proofs.Appending.{appends_nothing, appends_both}
 
 noted_both : (n : NotesOf) (xs ys : List EventOfCall) → all_noted n (xs ++ ys) ≡ all_noted (all_noted n xs) ys
 unfolding all_noted

@@ -17,7 +17,7 @@ use Rattle.console.specs.Lines.{called}
 use Rattle.console.specs.Queues.{left_to}
 use Rattle.console.specs.Sessions.{SessionOf, EventOfCall, Happens, doing_at}
 use Rattle.console.specs.Verbs.{verb_of}
-use Rattle.console_parts.specs.declared.mode.Mode.{Mode}
+use Rattle.script.specs.declared.mode.Mode.{Mode}
 use Rattle.console.specs.Histories.{History, IsUntold, TellsHistory, WhereSet}
 use Rattle.console.specs.Images.{JudgesImage}
 use Rattle.console.specs.Lines.{CourseOf, TellsLine}

@@ -13,15 +13,15 @@ use Rattle.sleep_lock.specs.SleepLock.{SlotState, GuardState}
 use Rattle.sleep_lock.specs.Row.{lock_of}
 use Rattle.atomic_programs.specs.Prog.{Did, Waits, Ran, Stops}
 use Rattle.fs_layout.specs.declared.inode.Dinode.{Dinode}
-use Rattle.fs_tables.specs.declared.inodes.Inode.{Inode}
-use Rattle.fs_tables.specs.declared.files.NewFile.{NewFile}
-use Rattle.fs_tables.specs.declared.files.OpenFile.{OpenFile}
-use Rattle.fs_tables.specs.declared.files.Refused.{Refused}
-use Rattle.fs_tables.specs.declared.files.Want.{Want}
-use Rattle.fs_tables.specs.declared.files.Want.TheVariants as want
-use Rattle.fs_tables.specs.Tables.{TablesState, file_named, place_named, place_of}
-use Rattle.fs_tables.specs.Inodes as inodes
-use Rattle.fs_tables.specs.Files as files
+use Rattle.fs_machine.specs.declared.entries.Inode.{Inode}
+use Rattle.fs_machine.specs.declared.files.NewFile.{NewFile}
+use Rattle.fs_machine.specs.declared.files.OpenFile.{OpenFile}
+use Rattle.fs_machine.specs.declared.files.Refused.{Refused}
+use Rattle.fs_machine.specs.declared.files.Want.{Want}
+use Rattle.fs_machine.specs.declared.files.Want.TheVariants as want
+use Rattle.fs_machine.specs.Tables.{TablesState, file_named, place_named, place_of}
+use Rattle.fs_machine.specs.Inodes as inodes
+use Rattle.fs_machine.specs.Files as files
 use Rattle.fs_machine.specs.LogPart.{Outside, Passes, Fails, got_by, join_if, read_block, commit_if, write_log}
 use Rattle.fs_machine.specs.Steps.{State, Op, Join, JoinToWrite, Leave, Get, Read, Put, Commit, Lock, LockFile, LockOpen, Unlock, Settle, Up, Claim, Down, CheckFile, TakePlace, TakeDescriptor, Double, Close, Give, Reply, Number, Directory, Held, Walked, Freed, exec, in_log, in_tables, joins, join_unless, lock_open, with_open, claims, claim_first}
 

@@ -6,7 +6,7 @@ use Rattle.plain_tree.specs.TreeData.{TreeData}
 use Rattle.hart_core.specs.Runs.{HasHistory}
 use Rattle.explain.specs.Explained.{RunOn, StartsOn, never}
 use Rattle.explain.proofs.Running.{found_run}
-use Rattle.console_parts.specs.declared.mode.Mode.{Mode}
+use Rattle.script.specs.declared.mode.Mode.{Mode}
 use Rattle.console.specs.declared.fault.ConsoleFault.{ConsoleFault}
 use Rattle.console.specs.declared.fault.ConsoleFault.TheVariants as faults
 use Rattle.console.specs.Behaviours.{IfTold, Told}

@@ -17,7 +17,7 @@ use Rattle.hart_core.specs.Mounting.{IsSettled, Rests}
 use Rattle.hart_core.specs.Harts.{HartsOf}
 use Rattle.hart_core.specs.Runs.{HasHistory}
 use Rattle.explain.specs.Explained.{never}
-use Rattle.console_parts.specs.declared.mode.Mode.{Mode}
+use Rattle.script.specs.declared.mode.Mode.{Mode}
 use Rattle.console.specs.declared.fault.ConsoleFault.{ConsoleFault}
 use Rattle.console.specs.declared.fault.ConsoleFault.TheVariants as faults
 use Rattle.console.specs.Faults.{of_mount}

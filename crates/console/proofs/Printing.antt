@@ -9,8 +9,8 @@ use Rattle.console.specs.declared.verb.Verb.TheVariants.{Open}
 use Rattle.plain_tree.specs.declared.trace.Placed.{Placed}
 use Rattle.console.specs.Histories.{entries_text}
 use Rattle.console.specs.Events.{last_line, last_text, timeline_line, timeline_rows}
-use Rattle.console_parts.specs.Entries.{entry_line}
-use Rattle.console_parts.proofs.Appending.{appends_nothing, appends_both}
+use Rattle.script.specs.Entries.{entry_line}
+use Rattle.script.proofs.Appending.{appends_nothing, appends_both}
 
 pub tells_four : {E : Type 0} (known a b c end : Option (List ℕ)) (result : Result (Unit {0}) E) (ws xs ys zs : List ℕ) → Appends known a ws → Appends a b xs → Appends b c ys → OnOk result (Appends c end zs) → OnOk result (Appends known end (ws ++ xs ++ ys ++ zs))
 tells_four known a b c end (Ok u) ws xs ys zs one two three four =

@@ -2,8 +2,8 @@
 use Rattle.std.proofs.Common.{◌≡◌, ℕ, ◌+◌, ◌<◌, ◌≤◌, List, ◌∷◌, length, drop, get_or, Option, Result, ap, sym, ◌∙◌, subst, inl}
 use Rattle.std.proofs.lemmas.List.{at_drop_all, at_drop_more}
 use Rattle.std.specs.Io.KnownBytes.{Appends}
-use Rattle.console_parts.specs.declared.mode.Mode.{Mode}
-use Rattle.console_parts.proofs.Appending.{appends_nothing, appends_both}
+use Rattle.script.specs.declared.mode.Mode.{Mode}
+use Rattle.script.proofs.Appending.{appends_nothing, appends_both}
 use Rattle.console.specs.declared.doing.Doing.{Doing}
 use Rattle.console.specs.declared.fault.ConsoleFault.{ConsoleFault}
 use Rattle.console.specs.Commands.{state}

@@ -5,7 +5,7 @@ use Rattle.std.specs.Prelude.{IfSome}
 use Rattle.hart_core.specs.declared.outcome.Stop.{Stop}
 use Rattle.console.specs.declared.fault.ConsoleFault.{ConsoleFault}
 use Rattle.console.specs.declared.fault.ConsoleFault.TheVariants as faults
-use Rattle.console_parts.specs.declared.mode.Mode.{Mode}
+use Rattle.script.specs.declared.mode.Mode.{Mode}
 use Rattle.console.specs.Behaviours.{Runs}
 use Rattle.console.specs.Commands.{lines, state}
 use Rattle.console.specs.Histories.{History}

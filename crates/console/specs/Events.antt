@@ -11,7 +11,7 @@ use Rattle.console.specs.declared.notes.What.TheVariants.{Start, Refused, Ran, W
 use Rattle.console.specs.Notes.{NotesOf, rows_in}
 use Rattle.console.specs.Numbers.{start_number, stop_number}
 use Rattle.console.specs.Told.{refused_text, stopped_text}
-use Rattle.console_parts.specs.Text.{numbered_text, stat_text}
+use Rattle.script.specs.Text.{numbered_text, stat_text}
 use Rattle.console.specs.Verbs.{word_of}
 
 -- ---- --last

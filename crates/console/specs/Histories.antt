@@ -12,7 +12,7 @@ use Rattle.explain.specs.Explained.{ExplainsRun, IsRefusedFor, IsRefusedSo}
 use Rattle.explain.specs.Numbers.{number_of, name_of}
 use Rattle.explain.specs.declared.refused.ExplainRefused.{ExplainRefused}
 use Rattle.explain.specs.declared.refused.ExplainRefused.TheVariants as refused
-use Rattle.console_parts.specs.Entries.{entry_line}
+use Rattle.script.specs.Entries.{entry_line}
 use Rattle.console.specs.declared.fault.ConsoleFault.{ConsoleFault}
 use Rattle.console.specs.declared.fault.ConsoleFault.TheVariants as faults
 use Rattle.console.specs.Notes.{KeptRun}

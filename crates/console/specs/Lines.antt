@@ -8,8 +8,8 @@ use Rattle.script.specs.Reading.{script_in}
 use Rattle.console.specs.declared.fault.ConsoleFault.{ConsoleFault}
 use Rattle.console.specs.declared.fault.ConsoleFault.TheVariants as faults
 use Rattle.console.specs.declared.lines.Course.{Course}
-use Rattle.console_parts.specs.declared.mode.Schedule.{Schedule}
-use Rattle.console_parts.specs.declared.mode.Schedule.TheVariants.{Listed, Round}
+use Rattle.script.specs.declared.mode.Schedule.{Schedule}
+use Rattle.script.specs.declared.mode.Schedule.TheVariants.{Listed, Round}
 use Rattle.console.specs.Queues.{Left, none_left, queued}
 
 -- ---- the call that a line says; a read is handed zeros to fill, a fill writes the letter x

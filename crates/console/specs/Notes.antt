@@ -11,8 +11,8 @@ use Rattle.console.specs.declared.notes.Note.{Note}
 use Rattle.console.specs.declared.notes.What.{What}
 use Rattle.console.specs.declared.notes.What.TheVariants.{Start, Refused, Ran, Waits, Done, Stopped}
 use Rattle.console.specs.Sessions.{EventOfCall, hart_in}
-use Rattle.console_parts.specs.declared.mode.Mode.{Mode}
-use Rattle.console_parts.specs.Tails.{TailView, tail, with_event}
+use Rattle.script.specs.declared.mode.Mode.{Mode}
+use Rattle.script.specs.Tails.{TailView, tail, with_event}
 
 -- a step of a hart without a call is no event
 abbrev pub what_of_step : Outcome → Option What

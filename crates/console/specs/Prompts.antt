@@ -9,7 +9,7 @@ use Rattle.fs_machine.specs.declared.kind.Kind.{Kind}
 use Rattle.hart_core.specs.Mounting.{Rests}
 use Rattle.script.specs.Asking.{Asked, Nothing, Help, State, Quit, Run, asked_in, typed_lines}
 use Rattle.script.specs.Grammar.{kind_word}
-use Rattle.console_parts.specs.declared.mode.Mode.{Mode}
+use Rattle.script.specs.declared.mode.Mode.{Mode}
 use Rattle.console.specs.declared.doing.Doing.{Doing}
 use Rattle.console.specs.declared.fault.ConsoleFault.{ConsoleFault}
 use Rattle.console.specs.declared.fault.ConsoleFault.TheVariants as faults

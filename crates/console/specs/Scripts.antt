@@ -8,8 +8,8 @@ use Rattle.plain_tree.specs.TreeData.{TreeData}
 use Rattle.image_tree.specs.Trees.{tree_in}
 use Rattle.hart_core.specs.Mounting.{Rests}
 use Rattle.explain.specs.Explained.{StartsOn}
-use Rattle.console_parts.specs.Text.{shape_line}
-use Rattle.console_parts.specs.declared.mode.Mode.{Mode}
+use Rattle.script.specs.Text.{shape_line}
+use Rattle.script.specs.declared.mode.Mode.{Mode}
 use Rattle.console.specs.declared.fault.ConsoleFault.{ConsoleFault}
 use Rattle.console.specs.declared.fault.ConsoleFault.TheVariants as faults
 use Rattle.console.specs.Histories.{WhereSet, history_of}

@@ -9,7 +9,7 @@ use Rattle.hart_core.specs.declared.starts.StartRefused.{StartRefused}
 use Rattle.console.specs.declared.verb.Verb.{Verb}
 use Rattle.console.specs.Numbers.{start_name, start_number, stop_name, stop_number}
 use Rattle.console.specs.Sessions.{EventOfCall, hart_in}
-use Rattle.console_parts.specs.Text.{numbered_text, reply_line, told_line}
+use Rattle.script.specs.Text.{numbered_text, reply_line, told_line}
 use Rattle.console.specs.Verbs.{word_of}
 
 abbrev pub refused_text : StartRefused → List ℕ

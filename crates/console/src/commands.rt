@@ -18,7 +18,7 @@ use crate::session::{Session, hart_in};
 use crate::tell::tell;
 use crate::verb::Verb;
 use block_device::Device;
-use console_parts::write_waits;
+use script::write_waits;
 use explain::Keeper;
 use hart_core::{Came, Event};
 use script::{CallLine, Command, ScriptLine};

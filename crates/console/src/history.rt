@@ -7,7 +7,7 @@ ghost use Rattle.console.specs.Notes.{run_in};
 
 use crate::fault::ConsoleFault;
 use crate::notes::Notes;
-use console_parts::write_entry;
+use script::write_entry;
 use explain::{ExplainRefused, Keeper, explain, explain_noted};
 use plain_tree::{Placed, Tree};
 use std::alloc::Global;

@@ -7,7 +7,7 @@ ghost use Rattle.console.specs.Queues.{none_left, queued, started_in};
 use crate::fault::ConsoleFault;
 use crate::queues::Queues;
 use crate::session::HARTS;
-use console_parts::Schedule;
+use script::Schedule;
 use plain_tree::{Bytes, Call};
 use script::{CallLine, Command, Reason, ScriptLine};
 use std::alloc::{AllocError, Global};

@@ -18,7 +18,7 @@ use crate::run::{desk_of, finish, image_disk, read_fault};
 use crate::session::Session;
 use crate::state::write_state;
 use block_device::{Device, MemoryDisk};
-use console_parts::Mode;
+use script::Mode;
 use plain_tree::Tree;
 use script::{Asked, Reason, ScriptFault, asked_in};
 use std::alloc::Global;

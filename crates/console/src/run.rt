@@ -21,7 +21,7 @@ use crate::notes::Notes;
 use crate::queues::Queues;
 use crate::session::Session;
 use block_device::{Device, MemoryDisk};
-use console_parts::{Mode, write_shape};
+use script::{Mode, write_shape};
 use explain::Keeper;
 use image_tree::examine;
 use mkfs::{MakeRefused, make};

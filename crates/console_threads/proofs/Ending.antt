@@ -9,7 +9,7 @@ use Rattle.image_tree.specs.declared.fault.MountFault.{MountFault}
 use Rattle.image_tree.specs.declared.fault.MountFault.TheVariants as mounts
 use Rattle.locked_world.specs.Kept.{StoredRun}
 use Rattle.plain_tree.specs.declared.call.Call.{Call}
-use Rattle.console_parts.specs.declared.mode.Mode.{Mode}
+use Rattle.script.specs.declared.mode.Mode.{Mode}
 use Rattle.console.specs.declared.fault.ConsoleFault.{ConsoleFault}
 use Rattle.console.specs.declared.fault.ConsoleFault.TheVariants as faults
 use Rattle.console.specs.Histories.{IsUntold, TellsHistory, WhereSet, history_on}

@@ -4,7 +4,7 @@ use Rattle.std.specs.Io.KnownBytes.{Appends}
 use Rattle.std.proofs.lemmas.List.{at_drop_all, at_drop_more}
 use Rattle.hart_core.specs.declared.events.Came.{Came}
 use Rattle.hart_core.specs.declared.events.Event.{Event}
-use Rattle.console_parts.proofs.Appending.{appends_both, appends_nothing}
+use Rattle.script.proofs.Appending.{appends_both, appends_nothing}
 use Rattle.console.specs.declared.notes.What.{What}
 use Rattle.console.specs.Notes.{KeptRun, NotesOf, copy_for, with_note, with_what}
 use Rattle.console.specs.Sessions.{hart_in}

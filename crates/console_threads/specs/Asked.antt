@@ -1,7 +1,7 @@
 -- The calls that a script asks of each hart, and why there are none.
 use Rattle.std.specs.Prelude.{◌≡◌, ℕ, List, Option, IfSome, Ok, Err, map}
 use Rattle.plain_tree.specs.declared.call.Call.{Call}
-use Rattle.console_parts.specs.declared.mode.Schedule.TheVariants.{Round}
+use Rattle.script.specs.declared.mode.Schedule.TheVariants.{Round}
 use Rattle.console.specs.declared.fault.ConsoleFault.{ConsoleFault}
 use Rattle.console.specs.declared.fault.ConsoleFault.TheVariants as faults
 use Rattle.console.specs.Lines.{CourseOf, called, script_course}

@@ -3,7 +3,7 @@ use Rattle.std.specs.Prelude.{◌≡◌, ℕ, ◌-◌, ◌^◌, List, Option, Re
 use Rattle.std.specs.Io.KnownBytes.{Appends}
 use Rattle.plain_tree.specs.declared.call.Call.{Call}
 use Rattle.locked_world.specs.Kept.{StoredRun, ClosedRun, HasOneHistory}
-use Rattle.console_parts.specs.declared.mode.Mode.{Mode}
+use Rattle.script.specs.declared.mode.Mode.{Mode}
 use Rattle.console.specs.declared.fault.ConsoleFault.{ConsoleFault}
 use Rattle.console.specs.declared.fault.ConsoleFault.TheVariants as faults
 use Rattle.console.specs.Histories.{history_on}

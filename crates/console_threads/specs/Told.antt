@@ -7,7 +7,7 @@ use Rattle.hart_core.specs.declared.events.Event.TheVariants as event
 use Rattle.hart_core.specs.declared.outcome.Outcome.{Outcome}
 use Rattle.hart_core.specs.declared.outcome.Outcome.TheVariants as outcome
 use Rattle.plain_tree.specs.declared.call.Call.{Call}
-use Rattle.console_parts.specs.Text.{reply_line, told_line}
+use Rattle.script.specs.Text.{reply_line, told_line}
 use Rattle.console.specs.declared.notes.What.{What}
 use Rattle.console.specs.Notes.{NotesOf, what_of, what_of_step, with_what}
 use Rattle.console.specs.Sessions.{hart_in}

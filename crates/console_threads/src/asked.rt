@@ -5,7 +5,7 @@ ghost use Rattle.console.specs.Lines.{called};
 ghost use Rattle.console_threads.specs.Asked.{IsAsked, IsUnasked};
 
 use console::{ConsoleFault, Course, LONGEST_SCRIPT, call_of, course_of, read_script};
-use console_parts::Schedule;
+use script::Schedule;
 use plain_tree::Call;
 use script::{CallLine, parse};
 use std::alloc::{AllocError, Global};

@@ -14,7 +14,7 @@ use crate::tell::{notes_of, write_harts};
 use crate::work::run_calls;
 use block_device::MemoryDisk;
 use console::{ConsoleFault, finish_on, image_disk};
-use console_parts::Mode;
+use script::Mode;
 use hart_core::Event;
 use hart_runner::{Kernel, NoGate, Seat};
 use locked_world::Closed;

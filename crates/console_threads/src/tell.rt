@@ -7,7 +7,7 @@ ghost use Rattle.console_threads.specs.Told.{hart_text, harts_text, line_for, li
 ghost use Rattle.console_threads.specs.Worked.{eight_harts};
 
 use console::{Notes, Verb, What, hart_in, what_of, what_of_step, write_refused};
-use console_parts::{Mode, write_reply};
+use script::{Mode, write_reply};
 use hart_core::{Came, Event, Outcome};
 use plain_tree::{Call, Reply};
 use std::alloc::{AllocError, Global};

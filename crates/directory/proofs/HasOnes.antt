@@ -1,7 +1,7 @@
 -- Each part has an operation to make.
 use Rattle.fs_layout.specs.declared.inode.Dinode.{Dinode}
-use Rattle.hands.proofs.HasOnes.{HasOne, first}
-use Rattle.hands.specs.declared.hand.Hand.{Hand}
+use Rattle.fs_machine.proofs.HasOnes.{HasOne, first}
+use Rattle.fs_machine.specs.declared.hand.Hand.{Hand}
 use Rattle.inode_data.specs.FetchingBlocks.{block_left}
 use Rattle.inode_table.specs.Storing.{store_left}
 use Rattle.directory.specs.Programs.{Aim}

@@ -7,10 +7,10 @@ use Rattle.fs_machine.specs.Machines.{P}
 use Rattle.inode_table.specs.Programs.{inode_block}
 use Rattle.inode_data.specs.Programs.{FetchedBlock}
 use Rattle.directory.specs.Programs.{give_record, most_slots, put_dirent}
-use Rattle.hands.specs.declared.hand.Hand.{Hand}
-use Rattle.hands.specs.declared.hand.Place.TheVariants.{First}
-use Rattle.hands.specs.declared.op.Op.{Op}
-use Rattle.hands.specs.declared.op.Op.TheVariants as ops
+use Rattle.fs_machine.specs.declared.hand.Hand.{Hand}
+use Rattle.fs_machine.specs.declared.hand.Place.TheVariants.{First}
+use Rattle.fs_machine.specs.declared.op.Op.{Op}
+use Rattle.fs_machine.specs.declared.op.Op.TheVariants as ops
 use Rattle.inode_data.specs.FetchingBlocks.{block_left, block_asked}
 use Rattle.inode_table.specs.Storing.{store_left, store_asked, store_place, StoreReady}
 use Rattle.inode_data.specs.InHand.{block_in, FetchesFirst, HasBlock}

@@ -7,8 +7,8 @@ use Rattle.inode_table.specs.Programs.{inode_block}
 use Rattle.directory.specs.Programs.{Unused, most_slots}
 use Rattle.directory.specs.Entering.{EnteredState, enter_at, entered_by}
 use Rattle.directory.specs.declared.enter.Room.TheVariants.{There, NoBlock}
-use Rattle.hands.specs.declared.hand.Hand.{Hand}
-use Rattle.hands.specs.declared.op.Op.{Op}
+use Rattle.fs_machine.specs.declared.hand.Hand.{Hand}
+use Rattle.fs_machine.specs.declared.op.Op.{Op}
 use Rattle.directory.specs.Searching.{search_left, search_asked, SearchReady}
 use Rattle.inode_data.specs.PartWriting.{write_left, write_asked, WriteReady}
 use Rattle.inode_data.specs.declared.write_part.Written.{Written}

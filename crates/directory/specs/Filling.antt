@@ -9,8 +9,8 @@ use Rattle.plain_tree.specs.Tree.{dot, dotdot}
 use Rattle.atomic_programs.specs.Prog.{Ret, bind}
 use Rattle.fs_machine.specs.Machines.{P}
 use Rattle.inode_data.specs.Writing.{WriteResult, write_part}
-use Rattle.hands.specs.declared.hand.Hand.{Hand}
-use Rattle.hands.specs.declared.op.Op.{Op}
+use Rattle.fs_machine.specs.declared.hand.Hand.{Hand}
+use Rattle.fs_machine.specs.declared.op.Op.{Op}
 use Rattle.inode_data.specs.PartWriting.{write_left, write_asked, WriteReady}
 use Rattle.directory.specs.declared.fill.Fill.{Fill}
 use Rattle.directory.specs.declared.fill.Filled.{Filled}

@@ -10,11 +10,11 @@ use Rattle.inode_data.specs.Widths.{most_blocks}
 use Rattle.directory.specs.Programs.{Aim, Entry, is_directory, look_at, or_next, search, search_from}
 use Rattle.directory.specs.Sought.{IsSlot}
 use Rattle.directory.specs.declared.found.Found.{Found}
-use Rattle.hands.specs.declared.hand.Hand.{Hand}
-use Rattle.hands.specs.declared.hand.Place.TheVariants.{First}
-use Rattle.hands.specs.declared.op.Op.{Op}
-use Rattle.hands.specs.declared.op.Op.TheVariants as ops
-use Rattle.hands.specs.Hands.{block_at}
+use Rattle.fs_machine.specs.declared.hand.Hand.{Hand}
+use Rattle.fs_machine.specs.declared.hand.Place.TheVariants.{First}
+use Rattle.fs_machine.specs.declared.op.Op.{Op}
+use Rattle.fs_machine.specs.declared.op.Op.TheVariants as ops
+use Rattle.fs_machine.specs.Hands.{block_at}
 use Rattle.inode_data.specs.FetchingBlocks.{block_left, block_asked}
 use Rattle.inode_data.specs.InHand.{FetchesFirst}
 use Rattle.directory.specs.declared.search.Blocks.{Blocks}

@@ -4,16 +4,16 @@ ghost use Rattle.fs_layout.specs.declared.inode.Dinode.{Dinode as DinodeState};
 ghost use Rattle.fs_layout.specs.declared.entry.Dirent.TheVariants.{Free};
 ghost use Rattle.inode_table.specs.Programs.{inode_block};
 ghost use Rattle.directory.specs.Programs.{most_slots, put_entry, with_slot};
-ghost use Rattle.hands.specs.Ops.{IsAfter, answer_in};
-ghost use Rattle.hands.specs.Controls.{Goes, left_after, bare};
-ghost use Rattle.hands.specs.declared.hand.Hand.{Hand as HandState};
+ghost use Rattle.fs_machine.specs.Ops.{IsAfter, answer_in};
+ghost use Rattle.fs_machine.specs.Controls.{Goes, left_after, bare};
+ghost use Rattle.fs_machine.specs.declared.hand.Hand.{Hand as HandState};
 ghost use Rattle.inode_data.specs.InHand.{beside_buffers, NoBuffers};
 ghost use Rattle.directory.specs.Clearing.{clear_left, clear_asked, ClearReady};
 
 use crate::place::clear_at;
 use fs_layout::Dinode;
 use fs_layout::widths::{DIRENT_LEN, DIRENTS_PER_BLOCK};
-use hands::{Answer, Hand, Op, Part, Place, Routine};
+use fs_machine::{Answer, Hand, Op, Part, Place, Routine};
 use inode_data::{FetchBlock, fetch_of};
 use inode_table::StoreInode;
 
@@ -85,7 +85,7 @@ impl Routine for Clear {
         }
     }
 
-    #[tactic(auto, using(hands::proofs::Going::goes_bind))]
+    #[tactic(auto, using(fs_machine::proofs::Going::goes_bind))]
     fn next(&mut self, answer: &Answer, hand: &mut Hand) -> Option<Dinode> {
         match self {
             Clear::Fetching(slot, fetch) => match fetch.next(answer, hand) {

@@ -8,9 +8,9 @@ ghost use Rattle.inode_table.specs.Programs.{inode_block};
 ghost use Rattle.inode_data.specs.Beginnings.{begun_of, IfBegun};
 ghost use Rattle.directory.specs.Programs.{most_slots};
 ghost use Rattle.directory.specs.Entering.{EnteredState, enter, enter_at, slot_for};
-ghost use Rattle.hands.specs.Ops.{IsAfter, answer_in};
-ghost use Rattle.hands.specs.Controls.{Goes, left_after, bare};
-ghost use Rattle.hands.specs.declared.hand.Hand.{Hand as HandState};
+ghost use Rattle.fs_machine.specs.Ops.{IsAfter, answer_in};
+ghost use Rattle.fs_machine.specs.Controls.{Goes, left_after, bare};
+ghost use Rattle.fs_machine.specs.declared.hand.Hand.{Hand as HandState};
 ghost use Rattle.inode_data.specs.InHand.{beside_buffers, NoBuffers};
 ghost use Rattle.directory.specs.EnterParts.{entered_as, enter_left, enter_asked, entered_in, EnterReady, IsEntering};
 
@@ -19,7 +19,7 @@ use crate::search::Search;
 use byteorder::{ByteOrder, LittleEndian};
 use fs_layout::widths::{DIRENT_LEN, DIRENT_NAME_AT};
 use fs_layout::{Dinode, Super};
-use hands::{Answer, Hand, Op, Routine};
+use fs_machine::{Answer, Hand, Op, Routine};
 use inode_data::{Begun, WritePart, Written};
 
 // An entry can have so many numbers.
@@ -128,7 +128,7 @@ impl Routine for Enter {
         }
     }
 
-    #[tactic(auto, using(hands::proofs::Going::goes_bind))]
+    #[tactic(auto, using(fs_machine::proofs::Going::goes_bind))]
     fn next(&mut self, answer: &Answer, hand: &mut Hand) -> Option<Entered> {
         match self {
             Enter::Searching(entering, search) => {

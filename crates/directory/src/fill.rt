@@ -2,9 +2,9 @@
 ghost use Rattle.std.specs.Prelude.{◌≡◌, ◌≤◌, ◌<◌, ◌^◌, Some, None, IsSome, IfSome, IfNone};
 ghost use Rattle.fs_layout.specs.Widths.{bits_per_block};
 ghost use Rattle.inode_table.specs.Programs.{inode_block};
-ghost use Rattle.hands.specs.Ops.{IsAfter, answer_in};
-ghost use Rattle.hands.specs.Controls.{Goes, left_after, bare};
-ghost use Rattle.hands.specs.declared.hand.Hand.{Hand as HandState};
+ghost use Rattle.fs_machine.specs.Ops.{IsAfter, answer_in};
+ghost use Rattle.fs_machine.specs.Controls.{Goes, left_after, bare};
+ghost use Rattle.fs_machine.specs.declared.hand.Hand.{Hand as HandState};
 ghost use Rattle.inode_data.specs.InHand.{beside_buffers, NoBuffers};
 ghost use Rattle.inode_data.specs.PartWriting.{written_as};
 ghost use Rattle.directory.specs.Filling.{dots, fill, fill_left, fill_asked, filled_in, FillReady};
@@ -13,7 +13,7 @@ ghost use Rattle.directory.specs.declared.fill.Filled.{Filled as FilledState};
 use crate::enter::entry_bytes;
 use fs_layout::widths::DIRENT_LEN;
 use fs_layout::{Dinode, Super};
-use hands::{Answer, Hand, Op, Routine};
+use fs_machine::{Answer, Hand, Op, Routine};
 use inode_data::{WritePart, Written};
 
 // "." and "..".
@@ -73,7 +73,7 @@ impl Routine for Fill {
         self.part.op(&self.bytes, hand)
     }
 
-    #[tactic(auto, using(hands::proofs::Going::goes_bind))]
+    #[tactic(auto, using(fs_machine::proofs::Going::goes_bind))]
     fn next(&mut self, answer: &Answer, hand: &mut Hand) -> Option<Filled> {
         match self.part.next(&self.bytes, answer, hand) {
             None => None,

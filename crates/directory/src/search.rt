@@ -6,11 +6,11 @@ ghost use Rattle.inode_data.specs.Beginnings.{IfBegun};
 ghost use Rattle.inode_data.specs.Widths.{most_blocks};
 ghost use Rattle.directory.specs.Programs.{Aim, Entry, Named, found_in, lookup, search, search_from};
 ghost use Rattle.directory.specs.Sought.{aim_of, IsSlot, IsSought};
-ghost use Rattle.hands.specs.Hands.{bytes_at};
-ghost use Rattle.hands.specs.Ops.{op_in, answer_in, CanDo, Prepared, IsAfter};
-ghost use Rattle.hands.specs.Controls.{Goes, left_after};
-ghost use Rattle.hands.specs.declared.hand.Hand.{Hand as HandState};
-ghost use Rattle.hands.specs.declared.hand.Place.TheVariants.{First};
+ghost use Rattle.fs_machine.specs.Hands.{bytes_at};
+ghost use Rattle.fs_machine.specs.Ops.{op_in, answer_in, CanDo, Prepared, IsAfter};
+ghost use Rattle.fs_machine.specs.Controls.{Goes, left_after};
+ghost use Rattle.fs_machine.specs.declared.hand.Hand.{Hand as HandState};
+ghost use Rattle.fs_machine.specs.declared.hand.Place.TheVariants.{First};
 ghost use Rattle.inode_data.specs.Locating.{Leaves};
 ghost use Rattle.fs_layout.specs.declared.inode.Dinode.{Dinode as DinodeState};
 ghost use Rattle.inode_data.specs.InHand.{NoBuffers};
@@ -18,7 +18,7 @@ ghost use Rattle.directory.specs.Searching.{begun_left, entries, search_left, se
 
 use crate::found::{Found, Sought, block_count, found_in, is_directory, is_live_directory};
 use fs_layout::Dinode;
-use hands::{Answer, Hand, Op, Part, Place};
+use fs_machine::{Answer, Hand, Op, Part, Place};
 use inode_data::{Begun, FetchBlock, fetch_of};
 
 /// The blocks of a directory that a search has to look at yet.
@@ -90,7 +90,7 @@ impl Search {
     }
 
     /// How it goes on.
-    #[tactic(auto, using(hands::proofs::Going::goes_bind))]
+    #[tactic(auto, using(fs_machine::proofs::Going::goes_bind))]
     pub fn next(
         &mut self,
         inode: &Dinode,

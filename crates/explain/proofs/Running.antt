@@ -17,7 +17,7 @@ use Rattle.hart_core.specs.declared.events.Came.{Came}
 use Rattle.hart_core.specs.declared.events.Event.{Event}
 use Rattle.hart_core.specs.Runs.{trace_in}
 use Rattle.hart_core.proofs.Histories.{explained}
-use Rattle.explain_parts.specs.Told.{any_climbs}
+use Rattle.tree_histories.specs.Told.{any_climbs}
 use Rattle.explain.specs.declared.play.Played.{Played}
 use Rattle.explain.specs.declared.refused.ExplainRefused.{ExplainRefused}
 use Rattle.explain.specs.declared.refused.ExplainRefused.TheVariants as refused

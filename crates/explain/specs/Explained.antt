@@ -18,7 +18,7 @@ use Rattle.hart_core.specs.declared.events.Event.{Event}
 use Rattle.hart_core.specs.Harts.{HartsOf}
 use Rattle.hart_core.specs.Runs.{FoundRoom, HasHistory, IsHistory, IsMounted, trace_in}
 use Rattle.hart_core.specs.Worlds.{WorldOf}
-use Rattle.explain_parts.specs.Told.{any_climbs, any_full}
+use Rattle.tree_histories.specs.Told.{any_climbs, any_full}
 use Rattle.explain.specs.declared.refused.ExplainRefused.{ExplainRefused}
 use Rattle.explain.specs.declared.refused.ExplainRefused.TheVariants as refused
 

@@ -6,9 +6,9 @@ ghost use Rattle.explain.specs.Explained.{ExplainsRun, IsFoundFor, IsRefusedSo};
 use crate::keep::Keeper;
 use crate::play::{Played, play};
 use crate::refused::ExplainRefused;
-use explain_parts::{any_climbs, any_full};
+use tree_histories::{any_climbs, any_full};
 use hart_core::{Came, Event, trace};
-use history_search::find_history;
+use tree_histories::find_history;
 use plain_tree::{NoMemory, Placed, Tree};
 use std::alloc::Global;
 

@@ -1,9 +1,9 @@
 // The tree kept beside a run, for the order in which its steps acted.
 ghost use Rattle.std.specs.Prelude.{◌≡◌, IfOk};
 
-use explain_parts::Kept;
+use tree_histories::Kept;
 use hart_core::{Came, Event, Observer, Outcome, find_fault};
-use history_search::Hint;
+use tree_histories::Hint;
 use path_walk::Heard;
 use plain_tree::{Call, NoMemory, Tree};
 use std::alloc::{AllocError, Global};

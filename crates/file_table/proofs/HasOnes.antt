@@ -1,6 +1,6 @@
 -- Each part has an operation to make.
-use Rattle.hands.proofs.HasOnes.{HasOne, first}
-use Rattle.hands.specs.declared.hand.Hand.{Hand}
+use Rattle.fs_machine.proofs.HasOnes.{HasOne, first}
+use Rattle.fs_machine.specs.declared.hand.Hand.{Hand}
 use Rattle.inode_table.specs.Loading.{load_left}
 use Rattle.file_table.specs.LockingFiles.{file_left, open_left}
 use Rattle.file_table.specs.declared.lock_file.LockFile.{LockFile}

@@ -1,17 +1,17 @@
 //! The inode of an open file locked, and loaded.
 ghost use Rattle.std.specs.Prelude.{◌≡◌, None, Option, IfSome, IfNone};
 ghost use Rattle.fs_layout.specs.declared.inode.Dinode.{Dinode as DinodeState};
-ghost use Rattle.fs_tables.specs.declared.files.OpenFile.{OpenFile as OpenFileState};
-ghost use Rattle.hands.specs.Hands.{inode_at};
-ghost use Rattle.hands.specs.Ops.{IsAfter, answer_in};
-ghost use Rattle.hands.specs.Controls.{Goes, left_after, bare};
-ghost use Rattle.hands.specs.declared.hand.Hand.{Hand as HandState};
-ghost use Rattle.hands.specs.declared.hand.Seat.{Seat as SeatState};
+ghost use Rattle.fs_machine.specs.declared.files.OpenFile.{OpenFile as OpenFileState};
+ghost use Rattle.fs_machine.specs.Hands.{inode_at};
+ghost use Rattle.fs_machine.specs.Ops.{IsAfter, answer_in};
+ghost use Rattle.fs_machine.specs.Controls.{Goes, left_after, bare};
+ghost use Rattle.fs_machine.specs.declared.hand.Hand.{Hand as HandState};
+ghost use Rattle.fs_machine.specs.declared.hand.Seat.{Seat as SeatState};
 ghost use Rattle.inode_table.specs.LoadingHeld.{beside_lock};
 ghost use Rattle.file_table.specs.LockingFiles.{lock_open_loaded, open_left, open_value, open_asked, open_seat, HasFile, HasInodeBlocks, OpenReady};
 
 use crate::lock_file::HeldFile;
-use hands::{Answer, Hand, Op, Part, Routine, Seat};
+use fs_machine::{Answer, Hand, Op, Part, Routine, Seat};
 use inode_table::{LoadInode, load_held};
 
 /// Takes the lock of what a descriptor names that is known to be open, and loads the inode where it isn't.
@@ -63,7 +63,7 @@ impl Routine for LockOpen {
         }
     }
 
-    #[tactic(auto, using(hands::proofs::Going::goes_bind))]
+    #[tactic(auto, using(fs_machine::proofs::Going::goes_bind))]
     fn next(&mut self, answer: &Answer, hand: &mut Hand) -> Option<HeldFile> {
         match self {
             LockOpen::Lock(seat, inodestart, _) => {

@@ -4,18 +4,18 @@ use Rattle.std.proofs.lemmas.Option.{same_Some, none-some}
 use Rattle.std.specs.Prelude.{IfNone, IfSome, find, is_none}
 use Rattle.sleep_lock.specs.SleepLock.{GuardState}
 use Rattle.group_log.specs.Soundness.{LogState}
-use Rattle.fs_tables.specs.declared.inodes.Inode.{Inode}
-use Rattle.fs_tables.specs.declared.inodes.Dropped.{Dropped}
-use Rattle.fs_tables.specs.declared.inodes.Dropped.TheVariants as dropped
+use Rattle.fs_machine.specs.declared.entries.Inode.{Inode}
+use Rattle.fs_machine.specs.declared.entries.Dropped.{Dropped}
+use Rattle.fs_machine.specs.declared.entries.Dropped.TheVariants as dropped
 use Rattle.atomic_programs.specs.Prog.{Ran}
-use Rattle.fs_tables.specs.declared.files.OpenFile.{OpenFile}
-use Rattle.fs_tables.specs.declared.files.Want.{Want}
-use Rattle.fs_tables.specs.declared.files.Want.TheVariants as want
-use Rattle.fs_tables.specs.declared.files.Refused.{Refused}
-use Rattle.fs_tables.specs.Tables.{TablesState, file_named, place_of, references_of, references_in}
-use Rattle.fs_tables.specs.Inodes.{lock_file, lock_unless, with_file, lock_inode, refusal_of, Refuses, first_free, is_unreferenced}
-use Rattle.fs_tables.specs.Locks.{IsLocked}
-use Rattle.fs_tables.specs.Results.{IfDying}
+use Rattle.fs_machine.specs.declared.files.OpenFile.{OpenFile}
+use Rattle.fs_machine.specs.declared.files.Want.{Want}
+use Rattle.fs_machine.specs.declared.files.Want.TheVariants as want
+use Rattle.fs_machine.specs.declared.files.Refused.{Refused}
+use Rattle.fs_machine.specs.Tables.{TablesState, file_named, place_of, references_of, references_in}
+use Rattle.fs_machine.specs.Inodes.{lock_file, lock_unless, with_file, lock_inode, refusal_of, Refuses, first_free, is_unreferenced}
+use Rattle.fs_machine.specs.Locks.{IsLocked}
+use Rattle.fs_machine.specs.Results.{IfDying}
 use Rattle.fs_machine.specs.declared.shared.Core.{Core}
 use Rattle.fs_machine.specs.LogPart.{LogPart, join_log}
 use Rattle.fs_machine.specs.Steps.{State, RefusesJoin, in_log, joins, join_unless, with_open, lock_open}

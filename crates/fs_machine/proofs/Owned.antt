@@ -16,12 +16,12 @@ use Rattle.group_log.specs.declared.phase.Phase.TheVariants.{Halted}
 use Rattle.group_log.specs.Waiting.{join_waits}
 use Rattle.group_log.proofs.Seats.{pick}
 use Rattle.atomic_programs.specs.Prog.{Did, Waits, Ran, Stops}
-use Rattle.fs_tables.specs.declared.files.OpenFile.{OpenFile}
-use Rattle.fs_tables.specs.declared.files.Refused.{Refused}
-use Rattle.fs_tables.specs.declared.files.Want.TheVariants as want
-use Rattle.fs_tables.specs.Tables.{TablesState, file_named}
-use Rattle.fs_tables.specs.Inodes.{refusal_of, lock_inode, lock_file, settle_inode, up_inode, first_free}
-use Rattle.fs_tables.specs.Files.{take_place, open_file, double_descriptor, shut_descriptor, give_next}
+use Rattle.fs_machine.specs.declared.files.OpenFile.{OpenFile}
+use Rattle.fs_machine.specs.declared.files.Refused.{Refused}
+use Rattle.fs_machine.specs.declared.files.Want.TheVariants as want
+use Rattle.fs_machine.specs.Tables.{TablesState, file_named}
+use Rattle.fs_machine.specs.Inodes.{refusal_of, lock_inode, lock_file, settle_inode, up_inode, first_free}
+use Rattle.fs_machine.specs.Files.{take_place, open_file, double_descriptor, shut_descriptor, give_next}
 use Rattle.fs_machine.specs.LogPart.{LogPart, Outside, Passes, Fails, with_seats, join_if, got_by, read_block, put_block, commit_if, write_log, written, failed, LeavesOne, LeavesIt}
 use Rattle.fs_machine.specs.Steps.{State, Join, JoinToWrite, Leave, Get, Read, Put, Commit, Lock, LockFile, LockOpen, Unlock, Settle, Up, Claim, Down, CheckFile, TakePlace, TakeDescriptor, Double, Close, Give, Reply, exec, in_log, in_tables, joins, join_unless, lock_open, claims, claim_first, up_whom, drop_which}
 use Rattle.fs_machine.specs.Premises.{May, Honest}

@@ -7,10 +7,10 @@ use Rattle.buffer_cache.specs.declared.got.Got.TheVariants as got
 use Rattle.group_log.specs.declared.commit.Progress.{Progress}
 use Rattle.group_log.specs.declared.commit.Progress.TheVariants as progress
 use Rattle.atomic_programs.specs.Prog.{did_in}
-use Rattle.fs_tables.specs.declared.inodes.Inode.{Inode}
-use Rattle.fs_tables.specs.declared.inodes.Dropped.{Dropped}
-use Rattle.fs_tables.specs.declared.inodes.Dropped.TheVariants as dropped
-use Rattle.fs_tables.specs.Results.{locked_as, dropped_as}
+use Rattle.fs_machine.specs.declared.entries.Inode.{Inode}
+use Rattle.fs_machine.specs.declared.entries.Dropped.{Dropped}
+use Rattle.fs_machine.specs.declared.entries.Dropped.TheVariants as dropped
+use Rattle.fs_machine.specs.Results.{locked_as, dropped_as}
 use Rattle.fs_machine.specs.Did.{joined_as, got_as, read_as, committed_as}
 
 module _ {S T : Type 0} (into : S → T) (s : S) where

@@ -21,7 +21,7 @@ use Rattle.group_log.specs.Turns.{turn_is_out, seats_after, seats_at_fault}
 use Rattle.group_log.specs.Waiting.{join_waits, left_at, progress_at, faults_at, IfMade, IfFailed}
 use Rattle.group_log.proofs.Getting.{waits_same}
 use Rattle.atomic_programs.specs.Prog.{Ran, Stops}
-use Rattle.fs_tables.specs.Tables.{TablesState}
+use Rattle.fs_machine.specs.Tables.{TablesState}
 use Rattle.fs_machine.specs.declared.shared.Core.{Core}
 use Rattle.fs_machine.specs.LogPart.{part_of, Passes, Fails, join_if, got_by, with_seats, commit_if, is_open, join_log, leave_log, get_block, read_block, put_block, commit_log, LeavesIt, LeavesOne, written}
 use Rattle.fs_layout.specs.Recovered.{IsOutsideLog}

@@ -18,23 +18,23 @@ use Rattle.group_log.specs.Turns.{turn_is_out}
 use Rattle.group_log.specs.Waiting.{join_waits}
 use Rattle.atomic_programs.specs.Prog.{Did, Waits, Ran, Stops, did_in}
 use Rattle.fs_layout.specs.declared.inode.Dinode.{Dinode}
-use Rattle.fs_tables.specs.declared.inodes.Entry.{Entry}
-use Rattle.fs_tables.specs.declared.inodes.Inode.{Inode}
-use Rattle.fs_tables.specs.declared.files.FilePlace.{FilePlace}
-use Rattle.fs_tables.specs.declared.files.FilePlace.TheVariants.{Free, Taken, Open}
-use Rattle.fs_tables.specs.declared.files.NewFile.{NewFile}
-use Rattle.fs_tables.specs.declared.files.OpenFile.{OpenFile}
-use Rattle.fs_tables.specs.declared.files.Refused.{Refused}
-use Rattle.fs_tables.specs.declared.files.Want.{Want}
-use Rattle.fs_tables.specs.declared.files.Want.TheVariants as want
-use Rattle.fs_tables.specs.Soundness.{IsSoundInodes, InsideFits}
-use Rattle.fs_tables.specs.Tables.{TablesState, is_unused, place_of, place_named, references_of, references_in, file_named, file_in, open_at, is_file_of, holder_of as lock_holder}
-use Rattle.fs_tables.specs.Inodes.{refusal_of, lock_inode, lock_at, got_by, lock_file, lock_unless, with_file, settle_inode, up_inode, up_by, up_new, up_directory, drop_inode, drop_at, drop_dying, dying, drop_walked, walked_at, walked_dying, drop_freed, freed_at as uncounted_freed, first_free}
-use Rattle.fs_tables.specs.Files.{take_place, take_at, open_file, open_in, open_by, double_descriptor, double_at, double_to, shut_descriptor, shut_at, freed_if, give_next, give_by, give_at, given_directory, is_free, hand_of, descriptors_of}
-use Rattle.fs_tables.specs.Lists.{first_empty, next_full}
-use Rattle.fs_tables.proofs.Places.{found}
-use Rattle.fs_tables.proofs.Locking.{slot_at, lock_is}
-use Rattle.fs_tables.proofs.Counting.{holder_there}
+use Rattle.fs_machine.specs.declared.entries.Entry.{Entry}
+use Rattle.fs_machine.specs.declared.entries.Inode.{Inode}
+use Rattle.fs_machine.specs.declared.files.FilePlace.{FilePlace}
+use Rattle.fs_machine.specs.declared.files.FilePlace.TheVariants.{Free, Taken, Open}
+use Rattle.fs_machine.specs.declared.files.NewFile.{NewFile}
+use Rattle.fs_machine.specs.declared.files.OpenFile.{OpenFile}
+use Rattle.fs_machine.specs.declared.files.Refused.{Refused}
+use Rattle.fs_machine.specs.declared.files.Want.{Want}
+use Rattle.fs_machine.specs.declared.files.Want.TheVariants as want
+use Rattle.fs_machine.specs.Soundness.{IsSoundInodes, InsideFits}
+use Rattle.fs_machine.specs.Tables.{TablesState, is_unused, place_of, place_named, references_of, references_in, file_named, file_in, open_at, is_file_of, holder_of as lock_holder}
+use Rattle.fs_machine.specs.Inodes.{refusal_of, lock_inode, lock_at, got_by, lock_file, lock_unless, with_file, settle_inode, up_inode, up_by, up_new, up_directory, drop_inode, drop_at, drop_dying, dying, drop_walked, walked_at, walked_dying, drop_freed, freed_at as uncounted_freed, first_free}
+use Rattle.fs_machine.specs.Files.{take_place, take_at, open_file, open_in, open_by, double_descriptor, double_at, double_to, shut_descriptor, shut_at, freed_if, give_next, give_by, give_at, given_directory, is_free, hand_of, descriptors_of}
+use Rattle.fs_machine.specs.Lists.{first_empty, next_full}
+use Rattle.fs_machine.proofs.Places.{found}
+use Rattle.fs_machine.proofs.Locking.{slot_at, lock_is}
+use Rattle.fs_machine.proofs.Counting.{holder_there}
 use Rattle.fs_machine.specs.LogPart.{LogPart, Outside, Passes, Fails, join_if, got_by as block_got, read_block, commit_if, write_log}
 use Rattle.fs_machine.specs.Steps.{State, Join, JoinToWrite, Leave, Get, Read, Put, Commit, Lock, LockFile, LockOpen, Unlock, Settle, Up, Claim, Down, CheckFile, TakePlace, TakeDescriptor, Double, Close, Give, Reply, Whom, Number, Directory, Drop, Held, Walked, Freed, exec, in_log, in_tables, joins, join_unless, with_open, lock_open, claims, claim_first, up_whom, drop_which}
 use Rattle.fs_machine.specs.Premises.{May, MayLockFile, MayLockOpen, MayWait, IsElsewhere, JoinWaits}

@@ -3,9 +3,9 @@ use Rattle.std.specs.Prelude.{Option, Some, None}
 use Rattle.fs_layout.specs.declared.inode.Dinode.{Dinode}
 use Rattle.sleep_lock.specs.SleepLock.{GuardState}
 use Rattle.atomic_programs.specs.Prog.{Did, Waits as ItWaits, Ran}
-use Rattle.fs_tables.specs.declared.inodes.Inode.{Inode}
-use Rattle.fs_tables.specs.declared.files.OpenFile.{OpenFile}
-use Rattle.fs_tables.specs.Inodes.{LockedState, Refuses, Locks}
+use Rattle.fs_machine.specs.declared.entries.Inode.{Inode}
+use Rattle.fs_machine.specs.declared.files.OpenFile.{OpenFile}
+use Rattle.fs_machine.specs.Inodes.{LockedState, Refuses, Locks}
 use Rattle.fs_machine.specs.declared.inodes.LockedFile.{LockedFile}
 use Rattle.fs_machine.specs.declared.inodes.LockedFile.TheVariants.{Waits, Refused, Locked}
 

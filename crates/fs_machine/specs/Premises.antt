@@ -10,11 +10,11 @@ use Rattle.group_log.specs.Group.{joined, has, HasRoom, IsMember}
 use Rattle.group_log.specs.Soundness.{IsHome, limit_of}
 use Rattle.group_log.specs.Turns.{turn_is_out}
 use Rattle.group_log.specs.Waiting.{join_waits}
-use Rattle.fs_tables.specs.declared.files.OpenFile.{OpenFile}
-use Rattle.fs_tables.specs.Lists.{next_full}
-use Rattle.fs_tables.specs.Tables.{TablesState, references_of, owed, holder_of as lock_holder, file_named}
-use Rattle.fs_tables.specs.Inodes.{directory_of}
-use Rattle.fs_tables.specs.Files.{hand_of, descriptors_of}
+use Rattle.fs_machine.specs.declared.files.OpenFile.{OpenFile}
+use Rattle.fs_machine.specs.Lists.{next_full}
+use Rattle.fs_machine.specs.Tables.{TablesState, references_of, owed, holder_of as lock_holder, file_named}
+use Rattle.fs_machine.specs.Inodes.{directory_of}
+use Rattle.fs_machine.specs.Files.{hand_of, descriptors_of}
 use Rattle.fs_machine.specs.LogPart.{LogPart, Outside, written, LeavesIt, LeavesOne}
 use Rattle.fs_machine.specs.Steps.{State, Op, Join, JoinToWrite, Leave, Get, Read, Put, Commit, Lock, LockFile, LockOpen, Unlock, Settle, Up, Claim, Down, CheckFile, TakePlace, TakeDescriptor, Double, Close, Give, Reply, Whom, Number, Directory, Drop, Held, Walked, Freed}
 

@@ -3,21 +3,21 @@ use Rattle.std.specs.Prelude.{ℕ, List, Bool, Option, Some, None}
 use Rattle.fs_layout.specs.declared.inode.Dinode.{Dinode}
 use Rattle.group_log.specs.declared.log.Left.{Left}
 use Rattle.atomic_programs.specs.Prog.{Did, Waits, Ran, Stops, did_in}
-use Rattle.fs_tables.specs.declared.inodes.Inode.{Inode}
-use Rattle.fs_tables.specs.declared.files.NewFile.{NewFile}
-use Rattle.fs_tables.specs.declared.files.OpenFile.{OpenFile}
-use Rattle.fs_tables.specs.declared.files.Want.{Want}
-use Rattle.fs_tables.specs.declared.files.Want.TheVariants as want
-use Rattle.fs_tables.specs.declared.files.Refused.{Refused}
-use Rattle.fs_tables.specs.declared.slots.Doubled.{Doubled}
-use Rattle.fs_tables.specs.declared.slots.Doubled.TheVariants as doubled
-use Rattle.fs_tables.specs.declared.slots.Shut.{Shut}
-use Rattle.fs_tables.specs.declared.slots.Shut.TheVariants as shut
-use Rattle.fs_tables.specs.declared.slots.Given.{Given}
-use Rattle.fs_tables.specs.declared.slots.Given.TheVariants as given
-use Rattle.fs_tables.specs.Tables.{TablesState, file_named}
-use Rattle.fs_tables.specs.Inodes.{LockedState, Refuses, Locks, DroppedState, Counts, Keeps, Dies, refusal_of, lock_inode, lock_file, unlock_inode, settle_inode, up_inode, up_directory, drop_inode, drop_walked, drop_freed, first_free}
-use Rattle.fs_tables.specs.Files.{take_place, open_file, double_descriptor, shut_descriptor, give_next}
+use Rattle.fs_machine.specs.declared.entries.Inode.{Inode}
+use Rattle.fs_machine.specs.declared.files.NewFile.{NewFile}
+use Rattle.fs_machine.specs.declared.files.OpenFile.{OpenFile}
+use Rattle.fs_machine.specs.declared.files.Want.{Want}
+use Rattle.fs_machine.specs.declared.files.Want.TheVariants as want
+use Rattle.fs_machine.specs.declared.files.Refused.{Refused}
+use Rattle.fs_machine.specs.declared.slots.Doubled.{Doubled}
+use Rattle.fs_machine.specs.declared.slots.Doubled.TheVariants as doubled
+use Rattle.fs_machine.specs.declared.slots.Shut.{Shut}
+use Rattle.fs_machine.specs.declared.slots.Shut.TheVariants as shut
+use Rattle.fs_machine.specs.declared.slots.Given.{Given}
+use Rattle.fs_machine.specs.declared.slots.Given.TheVariants as given
+use Rattle.fs_machine.specs.Tables.{TablesState, file_named}
+use Rattle.fs_machine.specs.Inodes.{LockedState, Refuses, Locks, DroppedState, Counts, Keeps, Dies, refusal_of, lock_inode, lock_file, unlock_inode, settle_inode, up_inode, up_directory, drop_inode, drop_walked, drop_freed, first_free}
+use Rattle.fs_machine.specs.Files.{take_place, open_file, double_descriptor, shut_descriptor, give_next}
 use Rattle.fs_machine.specs.LogPart.{LogPart, part_of, Outside, join_log, leave_log, get_block, read_block, put_block, commit_log}
 use Rattle.fs_machine.specs.declared.shared.Core.{Core}
 use Rattle.fs_machine.specs.declared.kind.Kind.{Kind}

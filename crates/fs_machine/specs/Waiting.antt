@@ -1,8 +1,8 @@
 -- Where an operation waits, it may.
 use Rattle.std.specs.Prelude.{◌≡◌, ◌≤◌, ℕ}
 use Rattle.atomic_programs.specs.Prog.{Waits}
-use Rattle.fs_tables.specs.Soundness.{IsSoundTables}
-use Rattle.fs_tables.specs.Tables.{TablesState, owed, references_of}
+use Rattle.fs_machine.specs.Soundness.{IsSoundTables}
+use Rattle.fs_machine.specs.Tables.{TablesState, owed, references_of}
 use Rattle.fs_machine.specs.LogPart.{Outside}
 use Rattle.fs_machine.specs.Steps.{State, Op, exec}
 use Rattle.fs_machine.specs.Premises.{May, MayWait}

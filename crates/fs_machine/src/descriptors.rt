@@ -1,8 +1,8 @@
 // One function for each operation on descriptors and open files.
 ghost use Rattle.std.specs.Prelude.{◌≡◌, ◌≤◌, IfErr};
 ghost use Rattle.atomic_programs.specs.Prog.{Ran as ItRan};
-ghost use Rattle.fs_tables.specs.Files.{IsDirectory};
-ghost use Rattle.fs_tables.specs.Results.{opened_as};
+ghost use Rattle.fs_machine.specs.Files.{IsDirectory};
+ghost use Rattle.fs_machine.specs.Results.{opened_as};
 ghost use Rattle.fs_machine.specs.LogPart.{Outside};
 ghost use Rattle.fs_machine.specs.Steps.{state_of, exec, CheckFile, TakePlace, TakeDescriptor, Double, Close, Give, Reply};
 ghost use Rattle.fs_machine.specs.Premises.{May};
@@ -11,7 +11,7 @@ ghost use Rattle.fs_machine.specs.Stays.{LeavesAll};
 
 use crate::shared::Core;
 use block_device::Device;
-use fs_tables::{DESCRIPTORS, Doubled, Given, NewFile, Reference, Refused, Shut, Want};
+use crate::{DESCRIPTORS, Doubled, Given, NewFile, Reference, Refused, Shut, Want};
 
 impl<D: Device> Core<D> {
     /// Why a descriptor may not be had for this.

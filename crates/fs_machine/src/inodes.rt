@@ -1,8 +1,8 @@
 // One function for each operation on inodes in memory.
 ghost use Rattle.std.specs.Prelude.{◌≡◌, ◌<◌, ◌^◌, Some, None, IfSome, IfNone};
 ghost use Rattle.atomic_programs.specs.Prog.{Ran as ItRan};
-ghost use Rattle.fs_tables.specs.Inodes.{Counts};
-ghost use Rattle.fs_tables.specs.Results.{locked_as, dropped_as, kept_as, IfDying};
+ghost use Rattle.fs_machine.specs.Inodes.{Counts};
+ghost use Rattle.fs_machine.specs.Results.{locked_as, dropped_as, kept_as, IfDying};
 ghost use Rattle.fs_machine.specs.LogPart.{Outside};
 ghost use Rattle.fs_machine.specs.Steps.{state_of, exec, Claim as ClaimOp, Lock, LockFile, LockOpen, Unlock, Settle, Up, Down, Number, Directory, Held, Walked, Freed};
 ghost use Rattle.fs_machine.specs.Premises.{May};
@@ -14,7 +14,7 @@ ghost use Rattle.fs_machine.specs.Locked.{file_locked_as, open_locked_as, IfFile
 use crate::shared::Core;
 use block_device::Device;
 use buffer_cache::{Buffer, HARTS};
-use fs_tables::{Dropped, Inode, OpenFile, Reference, Refused, Want};
+use crate::{Dropped, Inode, OpenFile, Reference, Refused, Want};
 use sleep_lock::Guard;
 
 impl<D: Device> Core<D> {

@@ -4,14 +4,43 @@
 //! function of `Core` is one operation.
 #![tactic(auto)]
 
+mod control;
 mod descriptors;
+mod desk;
+mod entries;
+mod fetch;
+mod files;
+mod finish;
+mod giving;
+mod hand;
 mod inodes;
 mod kind;
 pub mod laws;
+mod limits;
+mod listed;
+mod op;
+mod perform;
+mod places;
+mod queue;
 mod retired;
 mod shared;
+mod slots;
+mod tables;
 
 pub use inodes::{Claim, LockedFile};
 pub use kind::Kind;
 pub use retired::RetiredCore;
 pub use shared::{Core, JoinedToWrite};
+pub use desk::Desk;
+pub use files::{FilePlace, NewFile, OpenFile, Refused, Want};
+pub use entries::{Dropped, Entry, Inode, Reference};
+pub use limits::{DESCRIPTORS, MEMORY_INODES, MOST_LISTED, OPEN_FILES, ROOT};
+pub use listed::Listed;
+pub use slots::{Doubled, Given, Shut};
+pub use tables::Tables;
+pub use control::{Control, Machine, Part, Routine};
+pub use fetch::{Fetch, Fetched};
+pub use finish::Finish;
+pub use hand::{Hand, Place, Seat};
+pub use op::{Answer, Did, Op};
+pub use queue::Queue;

@@ -3,8 +3,8 @@ ghost use Rattle.std.specs.Prelude.{◌≡◌, ◌<◌};
 ghost use Rattle.sleep_lock.specs.SleepLock.{GuardState};
 ghost use Rattle.buffer_cache.specs.Buffers.{BufferState};
 ghost use Rattle.buffer_cache.specs.Seats.{IsHeld};
-ghost use Rattle.fs_tables.specs.declared.inodes.Inode.{Inode as InodeState};
-ghost use Rattle.fs_tables.specs.Locks.{IsLocked};
+ghost use Rattle.fs_machine.specs.declared.entries.Inode.{Inode as InodeState};
+ghost use Rattle.fs_machine.specs.Locks.{IsLocked};
 
 use crate::shared::Core;
 use block_device::Device;

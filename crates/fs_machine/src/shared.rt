@@ -14,7 +14,7 @@ ghost use Rattle.fs_machine.specs.Did.{joined_as, got_as, read_as, committed_as,
 
 use block_device::{Device, Fault};
 use buffer_cache::{Buffer, Got};
-use fs_tables::{Refused, Tables, Want};
+use crate::{Refused, Tables, Want};
 use group_log::{Left, Log, Progress, Txn};
 use sleep_lock::Guard;
 

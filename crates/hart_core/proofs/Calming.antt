@@ -10,7 +10,7 @@ use Rattle.group_log.specs.declared.marks.Marks.{Marks}
 use Rattle.atomic_programs.specs.Prog.{Ret, Do, Did, Waits, Ran, Stops}
 use Rattle.atomic_programs.specs.Logic.{P, OpWithAnswer, own}
 use Rattle.atomic_programs.specs.Calls.{Theory, Began, Refuses, Begins, Run, State, Event, Start, Step, Made, Refused, WasIdle, HonestStep, IsHonest, AllHonest, changed, told, all_told, unchanged, moved, tried, step_prog, step_unless, step_run, begun, start_run, busy_in, makes, next, run}
-use Rattle.stops_on_blocks.specs.Marks.{noted}
+use Rattle.calls_on_blocks.specs.Marks.{noted}
 use Rattle.inode_machine.specs.MoveCalls.{MoveMachine, theory_of, shown_by, climbs_at, NoneClimbs, StartsBy, Alone, shows}
 
 -- what holds of a call that was started

@@ -15,7 +15,7 @@ use Rattle.inode_machine.specs.Theory.{Refusal}
 use Rattle.calls_on_blocks.specs.History.{first}
 use Rattle.calls_on_blocks.specs.Theory.{block_calls, block_code}
 use Rattle.calls_on_blocks.proofs.Lawful.{is_code}
-use Rattle.stops_on_blocks.proofs.Stops.{first_sound, stops_leave_images}
+use Rattle.calls_on_blocks.proofs.Stops.{first_sound, stops_leave_images}
 use Rattle.hart_core.specs.Harts.{HartsOf}
 use Rattle.hart_core.specs.Worlds.{Answers, IsWorld, Makes, calls_of}
 

@@ -10,7 +10,7 @@ use Rattle.image_tree.specs.Damage.{IsWellFormed, fault_count_of}
 use Rattle.image_tree.specs.Inodes.{numbers_by}
 use Rattle.image_tree.specs.Shape.{is_orphan}
 use Rattle.image_tree.specs.Trees.{tree_in}
-use Rattle.orphans.specs.Freeing.{AreNamed}
+use Rattle.image_tree.specs.Freeing.{AreNamed}
 use Rattle.hart_core.specs.Mounting.{IsSettled, HandsBack}
 
 -- the examination leaves the disk as it was

@@ -9,7 +9,7 @@ use Rattle.plain_tree.specs.declared.trace.Trace.{Trace}
 use Rattle.plain_tree.specs.declared.trace.TracedCall.{TracedCall}
 use Rattle.plain_tree.specs.Calls.{Act}
 use Rattle.plain_tree.specs.Explains.{AllBelong, Belongs, IsInTime, act_of, acts_of}
-use Rattle.tree_moves.specs.Laws.{before}
+use Rattle.tree_laws.specs.MoveLaws.{before}
 use Rattle.atomic_programs.proofs.Explains.{Some-inj}
 
 module _ (t : Trace) (k id : ℕ) (c : TracedCall) (r : ℕ × Reply) (is : slice_get t.calls id ≡ Some c) (finished : c.finished ≡ Some r) (early : r.0 < k) where

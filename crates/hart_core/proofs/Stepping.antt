@@ -22,7 +22,7 @@ use Rattle.syscalls.specs.Machines.{Running, running_of}
 use Rattle.syscalls.specs.Places.{HasBegun, StepsAt}
 use Rattle.syscalls.proofs.HasOnes.{has_running}
 use Rattle.syscalls.proofs.Staying.{stays}
-use Rattle.hands.proofs.HasOnes.{HasOne}
+use Rattle.fs_machine.proofs.HasOnes.{HasOne}
 use Rattle.hart_core.specs.Blocks.{blocks, code}
 use Rattle.hart_core.specs.Harts.{HartFits, AreHarts}
 use Rattle.calls_on_blocks.specs.Theory.{block_calls}

@@ -12,7 +12,7 @@ use Rattle.group_log.specs.declared.marks.Marks.{Marks}
 use Rattle.group_log.specs.Group.{joined}
 use Rattle.group_log.specs.Phases.{is_point}
 use Rattle.group_log.specs.Stories.{no_marks, IsMarked}
-use Rattle.tree_moves.specs.Laws.{before}
+use Rattle.tree_laws.specs.MoveLaws.{before}
 use Rattle.atomic_programs.specs.Calls.{Theory, State, Event as EventOf, AllHonest, fresh, next, run, with_answer}
 use Rattle.atomic_programs.specs.Plain.{Code, Plain, PlainMade, plain_run, erase}
 use Rattle.atomic_programs.proofs.Erased.{erase-makes, erase-run}
@@ -20,11 +20,11 @@ use Rattle.fs_machine.specs.LogPart.{Outside, Passes}
 use Rattle.calls_on_blocks.specs.History.{block_moves, first}
 use Rattle.calls_on_blocks.specs.Theory.{block_calls, block_code}
 use Rattle.calls_on_blocks.proofs.Lawful.{is_code}
-use Rattle.stops_on_blocks.specs.Marks.{marks_told, at_point, noted, log_at, told_between}
-use Rattle.stops_on_blocks.specs.Stops.{LeavesABeginning, disk_after, marks_at}
-use Rattle.stops_on_blocks.proofs.Beginnings.{stops_leave_a_beginning, one_hart_leaves_a_beginning}
-use Rattle.stops_on_blocks.proofs.Events.{next_now}
-use Rattle.stops_on_blocks.proofs.Told.{marks_of_mounts}
+use Rattle.calls_on_blocks.specs.Marks.{marks_told, at_point, noted, log_at, told_between}
+use Rattle.calls_on_blocks.specs.Stops.{LeavesABeginning, disk_after, marks_at}
+use Rattle.calls_on_blocks.proofs.Beginnings.{stops_leave_a_beginning, one_hart_leaves_a_beginning}
+use Rattle.calls_on_blocks.proofs.Events.{next_now}
+use Rattle.calls_on_blocks.proofs.Told.{marks_of_mounts}
 use Rattle.hart_core.specs.declared.events.Event.{Event}
 use Rattle.hart_core.specs.declared.events.Came.{Came}
 use Rattle.hart_core.specs.Events.{event_of, came_of}

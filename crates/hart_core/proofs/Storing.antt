@@ -17,9 +17,9 @@ use Rattle.inode_machine.specs.Theory.{Refusal}
 use Rattle.calls_on_blocks.specs.History.{first}
 use Rattle.calls_on_blocks.specs.Theory.{block_calls, block_code}
 use Rattle.calls_on_blocks.proofs.Lawful.{is_code}
-use Rattle.stops_on_blocks.specs.Stops.{AreEventsOn, marks_at}
-use Rattle.stops_on_blocks.specs.Whole.{BeganCommit, HasReplied}
-use Rattle.stops_on_blocks.proofs.Whole.{marks_part_none, the_cuts_have_replies}
+use Rattle.calls_on_blocks.specs.Stops.{AreEventsOn, marks_at}
+use Rattle.calls_on_blocks.specs.Whole.{BeganCommit, HasReplied}
+use Rattle.calls_on_blocks.proofs.Whole.{marks_part_none, the_cuts_have_replies}
 use Rattle.hart_core.specs.declared.events.Event.{Event}
 use Rattle.hart_core.specs.declared.events.Event.TheVariants as event
 use Rattle.hart_core.specs.declared.events.Came.{Came}

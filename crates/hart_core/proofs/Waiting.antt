@@ -6,8 +6,8 @@ use Rattle.atomic_programs.specs.Calls.{Theory, Step, Came, Started, Refused, Wa
 use Rattle.atomic_programs.specs.Plain.{Code, PlainMade, PlainHonest, by_kind, plain_makes}
 use Rattle.atomic_programs.proofs.Erased.{erase-makes}
 use Rattle.atomic_programs.proofs.Reached.{honest_event}
-use Rattle.fs_tables.specs.declared.files.OpenFile.{OpenFile}
-use Rattle.fs_tables.specs.Tables.{file_named, holder_of}
+use Rattle.fs_machine.specs.declared.files.OpenFile.{OpenFile}
+use Rattle.fs_machine.specs.Tables.{file_named, holder_of}
 use Rattle.fs_machine.specs.Premises.{IsElsewhere, MayWait}
 use Rattle.fs_machine.specs.Steps as steps
 use Rattle.calls_on_blocks.specs.Theory.{block_calls, block_code}

@@ -13,8 +13,8 @@ use Rattle.image_tree.specs.Trees.{tree_in}
 use Rattle.image_tree.specs.Checks.{is_marked}
 use Rattle.image_tree.specs.Inodes.{numbers_by}
 use Rattle.image_tree.specs.Shape.{is_orphan}
-use Rattle.orphans.specs.Freeing.{AreNamed}
-use Rattle.fs_tables.specs.Fresh.{fresh}
+use Rattle.image_tree.specs.Freeing.{AreNamed}
+use Rattle.fs_machine.specs.Fresh.{fresh}
 use Rattle.hart_core.specs.Harts.{HartsOf}
 
 -- A disk that a mount has settled: it is a well-formed image of the same tree, its log is empty, each node has a name, and the blocks of

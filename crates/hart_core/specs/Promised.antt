@@ -2,7 +2,7 @@
 use Rattle.std.specs.Prelude.{◌≡◌, ◌≢◌, ◌⊎◌, ℕ, ◌<◌, List, length, false, Some, None, get_or, IsTrue}
 use Rattle.fs_layout.specs.declared.superblock.Super.{Super}
 use Rattle.atomic_programs.specs.Calls.{Step, DidWait}
-use Rattle.fs_tables.specs.Tables.{holder_of}
+use Rattle.fs_machine.specs.Tables.{holder_of}
 use Rattle.buffer_cache.specs.Limits.{hart_count}
 use Rattle.buffer_cache.specs.Lists.{count_of}
 use Rattle.buffer_cache.specs.Seats.{is_held_by, holder_of as buffer_holder}
@@ -11,7 +11,7 @@ use Rattle.fs_machine.specs.LogPart.{LogPart, Outside}
 use Rattle.fs_machine.specs.Premises.{IsElsewhere, JoinWaits}
 use Rattle.fs_machine.specs.Shown.{seen_of}
 use Rattle.fs_machine.specs.Steps.{State}
-use Rattle.image_laws.specs.Seen.{IsRecoveredSo}
+use Rattle.inodes_on_blocks.specs.Seen.{IsRecoveredSo}
 use Rattle.image_tree.specs.Damage.{IsWellFormed}
 use Rattle.image_tree.specs.Trees.{tree_in}
 use Rattle.inodes_on_blocks.specs.Below.{disk_of}

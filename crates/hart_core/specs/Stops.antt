@@ -13,13 +13,13 @@ use Rattle.image_tree.specs.Trees.{tree_in}
 use Rattle.group_log.specs.declared.marks.Marks.{Marks}
 use Rattle.group_log.specs.Group.{joined}
 use Rattle.group_log.specs.Stories.{no_marks}
-use Rattle.tree_moves.specs.Laws.{before}
+use Rattle.tree_laws.specs.MoveLaws.{before}
 use Rattle.atomic_programs.specs.Calls.{Event as EventOf}
 use Rattle.atomic_programs.specs.Plain.{Plain, plain_makes, plain_run}
 use Rattle.fs_machine.specs.LogPart.{LogPart, Outside}
 use Rattle.calls_on_blocks.specs.Theory.{block_calls, block_code}
-use Rattle.stops_on_blocks.specs.Marks.{marks_told, at_point}
-use Rattle.stops_on_blocks.specs.Stops.{marks_at}
+use Rattle.calls_on_blocks.specs.Marks.{marks_told, at_point}
+use Rattle.calls_on_blocks.specs.Stops.{marks_at}
 use Rattle.hart_core.specs.declared.events.Event.{Event}
 use Rattle.hart_core.specs.declared.events.Event.TheVariants as event
 use Rattle.hart_core.specs.declared.events.Came.{Came}

@@ -18,7 +18,7 @@ use block_device::Device;
 use buffer_cache::HARTS;
 use fs_layout::Super;
 use fs_machine::Core;
-use fs_tables::DESCRIPTORS;
+use fs_machine::DESCRIPTORS;
 use group_log::Phase;
 use path_walk::Heard;
 use plain_tree::{Call, Reply};

@@ -5,7 +5,7 @@ ghost use Rattle.block_device.specs.Calls.{ComesByCalls};
 ghost use Rattle.fs_layout.specs.Recovered.{sizes_of};
 ghost use Rattle.buffer_cache.specs.Limits.{buffer_count};
 ghost use Rattle.buffer_cache.specs.Seats.{unused_from};
-ghost use Rattle.fs_tables.specs.Fresh.{fresh};
+ghost use Rattle.fs_machine.specs.Fresh.{fresh};
 ghost use Rattle.group_log.specs.Soundness.{IsPlaced};
 ghost use Rattle.image_tree.specs.Damage.{IsWellFormed, faults_with};
 ghost use Rattle.hart_core.specs.Harts.{AreIdle};
@@ -17,11 +17,11 @@ use block_device::Device;
 use buffer_cache::{Buffers, Cache};
 use fs_layout::Super;
 use fs_machine::Core;
-use fs_tables::Tables;
+use fs_machine::Tables;
 use group_log::Log;
 use image_tree::{MountFault, examine_layout};
-use log_images::logs_may_begin;
-use orphans::settle;
+use calls_on_blocks::logs_may_begin;
+use image_tree::settle;
 use std::alloc::Global;
 
 /// All memory that a file system takes, and the sizes of its disk.

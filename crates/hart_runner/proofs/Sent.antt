@@ -16,7 +16,7 @@ use Rattle.block_device.proofs.fused.Fused.TheSendSync as fused
 use Rattle.buffer_cache.proofs.buffer.Buffer.TheSendSync as buffer
 use Rattle.buffer_cache.specs.contracts.cache.Cache as cache
 use Rattle.group_log.specs.contracts.log.Log as log
-use Rattle.fs_tables.proofs.inodes.Inode.TheSendSync as inode
+use Rattle.fs_machine.proofs.entries.Inode.TheSendSync as inode
 use Rattle.plain_tree.proofs.answer.Reply.TheSendSync as reply
 use Rattle.plain_tree.proofs.call.Call.TheSendSync as call
 use Rattle.syscalls.proofs.place.CallPlace.TheSendSync as place

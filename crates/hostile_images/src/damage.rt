@@ -1,5 +1,5 @@
 //! Images that are damaged at random, from a seed.
-use image_tests::by_hand::{Change, RICH, put, with};
+use layer_tests::by_hand::{Change, RICH, put, with};
 use std::alloc::{AllocError, Global};
 
 const BLOCK_LEN: usize = 1024;

@@ -20,3 +20,11 @@ pub mod SuperAndLog
 pub mod Installs
 pub mod Goods
 pub mod Views
+pub mod Contents
+pub mod Apart
+pub mod Unnamed
+pub mod Freed
+pub mod Logs
+pub mod Puts
+pub mod Clearing
+pub mod Reclaims

@@ -12,3 +12,4 @@ pub mod Names
 pub mod Reads
 pub mod Recovery
 pub mod Views
+pub mod Freeing

@@ -12,16 +12,16 @@ use Rattle.fs_layout.specs.declared.superblock.Super.{Super}
 use Rattle.fs_layout.specs.Indirect.{numbers_in}
 use Rattle.std.specs.Prelude.{slice_index, if◌then◌else◌, ◌==◌, Some}
 use Rattle.inode_data.specs.declared.locate.Located.{Located}
-use Rattle.hands.specs.declared.hand.Seat.{Seat}
-use Rattle.hands.specs.declared.hand.Seat.TheVariants.{One, Two}
-use Rattle.hands.specs.declared.hand.Place.TheVariants.{First, Second}
+use Rattle.fs_machine.specs.declared.hand.Seat.{Seat}
+use Rattle.fs_machine.specs.declared.hand.Seat.TheVariants.{One, Two}
+use Rattle.fs_machine.specs.declared.hand.Place.TheVariants.{First, Second}
 use Rattle.sleep_lock.specs.SleepLock.{GuardState}
-use Rattle.fs_tables.specs.declared.inodes.Inode.{Inode}
+use Rattle.fs_machine.specs.declared.entries.Inode.{Inode}
 use Rattle.atomic_programs.specs.Prog.{Do, bind, unmarked}
 use Rattle.fs_machine.specs.Steps as steps
 use Rattle.fs_machine.specs.Machines.{P}
-use Rattle.hands.specs.declared.hand.Hand.{Hand}
-use Rattle.hands.specs.Hands.{no_inode, with_buffer}
+use Rattle.fs_machine.specs.declared.hand.Hand.{Hand}
+use Rattle.fs_machine.specs.Hands.{no_inode, with_buffer}
 
 -- the indirect block by its buffer
 abbrev pub table_in : ℕ → Dinode → Option (GuardState BufferState) → Option ℕ → P Located

@@ -3,10 +3,10 @@ use Rattle.std.proofs.Common.{ℕ, Option, Some, None, List}
 use Rattle.fs_layout.specs.declared.inode.Dinode.{Dinode}
 use Rattle.inode_data.specs.Writing.{name_in_table}
 use Rattle.inode_data.specs.declared.locate.Located.{Located}
-use Rattle.hands.proofs.HasOnes.{HasOne, first, fetch_has}
-use Rattle.hands.specs.declared.hand.Hand.{Hand}
+use Rattle.fs_machine.proofs.HasOnes.{HasOne, first, fetch_has}
+use Rattle.fs_machine.specs.declared.hand.Hand.{Hand}
 use Rattle.inode_data.specs.Emptying.{truncate_left}
-use Rattle.hands.specs.Fetching.{fetch_left}
+use Rattle.fs_machine.specs.Fetching.{fetch_left}
 use Rattle.inode_data.specs.FetchingBlocks.{block_left}
 use Rattle.bitmap_alloc.specs.FreeingBlocks.{free_left}
 use Rattle.inode_data.specs.FreeingInodes.{freeing_left}

@@ -10,7 +10,7 @@ use Rattle.inode_table.specs.Programs.{store}
 use Rattle.inode_data.specs.Programs.{blocks_between}
 use Rattle.inode_data.specs.Writing.{WriteResult, grown, locate, write_located, write_blocks, write_part}
 use Rattle.inode_data.specs.declared.locate.Located.{Located}
-use Rattle.hands.specs.declared.hand.Hand.{Hand}
+use Rattle.fs_machine.specs.declared.hand.Hand.{Hand}
 use Rattle.inode_table.specs.Storing.{store_left}
 use Rattle.inode_table.specs.declared.store_inode.StoreInode.{StoreInode}
 use Rattle.inode_data.specs.PartWriting.{after_location, blocks_behind, bytes_left, give_written, next_count, stored, write_rest, written_so, IsPast}

@@ -5,7 +5,7 @@ use Rattle.fs_layout.specs.declared.superblock.Super.{Super}
 use Rattle.fs_layout.specs.Indirect.{numbers_in}
 use Rattle.fs_layout.specs.Widths.{addresses}
 use Rattle.atomic_programs.specs.Prog.{Prog, Ret, Do, bind, unmarked}
-use Rattle.fs_tables.specs.Inodes.{DroppedState, Counts, Keeps, Dies}
+use Rattle.fs_machine.specs.Inodes.{DroppedState, Counts, Keeps, Dies}
 use Rattle.fs_machine.specs.Steps.{Op, Answer, Put, Unlock, Down, Held, Freed}
 use Rattle.fs_machine.specs.Programs.{fetch}
 use Rattle.bitmap_alloc.specs.Programs.{free_block}

@@ -2,9 +2,9 @@
 use Rattle.std.specs.Prelude.{◌≡◌, None, IsSome}
 use Rattle.std.specs.Option.{MatchOption}
 use Rattle.inode_data.specs.Programs.{FetchedBlock}
-use Rattle.hands.specs.declared.hand.Hand.{Hand}
-use Rattle.hands.specs.declared.hand.Place.TheVariants.{First, Second}
-use Rattle.hands.specs.Hands.{block_at, bytes_at, with_buffer}
+use Rattle.fs_machine.specs.declared.hand.Hand.{Hand}
+use Rattle.fs_machine.specs.declared.hand.Place.TheVariants.{First, Second}
+use Rattle.fs_machine.specs.Hands.{block_at, bytes_at, with_buffer}
 use Rattle.inode_data.specs.FetchingBlocks.{block_place, BlockReady}
 use Rattle.inode_data.specs.declared.fetch_block.FetchBlock.{FetchBlock}
 

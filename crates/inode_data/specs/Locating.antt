@@ -9,12 +9,12 @@ use Rattle.fs_machine.specs.Machines.{P}
 use Rattle.inode_data.specs.Widths.{direct}
 use Rattle.inode_data.specs.Writing.{located, with_address, name_direct, name_in_table, look_up, with_table}
 use Rattle.inode_data.specs.declared.locate.Located.{Located}
-use Rattle.hands.specs.declared.hand.Hand.{Hand}
-use Rattle.hands.specs.declared.hand.Place.TheVariants.{First, Second}
-use Rattle.hands.specs.declared.op.Op.{Op}
-use Rattle.hands.specs.declared.op.Op.TheVariants as ops
-use Rattle.hands.specs.Hands.{buffer_at, block_at, bytes_at, with_buffer}
-use Rattle.hands.specs.Fetching.{fetch_left, fetch_asked, fetch_block, fetch_place, FetchReady}
+use Rattle.fs_machine.specs.declared.hand.Hand.{Hand}
+use Rattle.fs_machine.specs.declared.hand.Place.TheVariants.{First, Second}
+use Rattle.fs_machine.specs.declared.op.Op.{Op}
+use Rattle.fs_machine.specs.declared.op.Op.TheVariants as ops
+use Rattle.fs_machine.specs.Hands.{buffer_at, block_at, bytes_at, with_buffer}
+use Rattle.fs_machine.specs.Fetching.{fetch_left, fetch_asked, fetch_block, fetch_place, FetchReady}
 use Rattle.bitmap_alloc.specs.Taking.{marks, take_left, take_asked, take_place, TakeReady}
 use Rattle.bitmap_alloc.specs.declared.take_block.TakeBlock.{TakeBlock}
 use Rattle.inode_data.specs.declared.locate.Locate.{Locate}

@@ -8,12 +8,12 @@ use Rattle.inode_table.specs.Programs.{inode_block}
 use Rattle.inode_data.specs.Widths.{most_blocks}
 use Rattle.inode_data.specs.Writing.{WriteResult, front_of, put_part, write_located, write_blocks, store_written}
 use Rattle.inode_data.specs.declared.locate.Located.{Located}
-use Rattle.hands.specs.declared.hand.Hand.{Hand}
-use Rattle.hands.specs.declared.hand.Place.TheVariants.{First}
-use Rattle.hands.specs.declared.op.Op.{Op}
-use Rattle.hands.specs.declared.op.Op.TheVariants as ops
-use Rattle.hands.specs.Hands.{block_at, bytes_at}
-use Rattle.hands.specs.Fetching.{fetch_left, fetch_asked, fetch_block, fetch_place, FetchReady}
+use Rattle.fs_machine.specs.declared.hand.Hand.{Hand}
+use Rattle.fs_machine.specs.declared.hand.Place.TheVariants.{First}
+use Rattle.fs_machine.specs.declared.op.Op.{Op}
+use Rattle.fs_machine.specs.declared.op.Op.TheVariants as ops
+use Rattle.fs_machine.specs.Hands.{block_at, bytes_at}
+use Rattle.fs_machine.specs.Fetching.{fetch_left, fetch_asked, fetch_block, fetch_place, FetchReady}
 use Rattle.inode_data.specs.Locating.{locate_left, locate_asked, LocateReady}
 use Rattle.inode_table.specs.Storing.{store_left, store_asked, store_place, StoreReady}
 use Rattle.inode_data.specs.InHand.{HasBlock, NoBuffers}

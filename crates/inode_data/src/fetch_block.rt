@@ -5,17 +5,17 @@ ghost use Rattle.fs_layout.specs.Indirect.{numbers_in};
 ghost use Rattle.fs_layout.specs.Widths.{numbers_per_block};
 ghost use Rattle.inode_data.specs.Widths.{most_blocks};
 ghost use Rattle.inode_data.specs.Programs.{FetchedBlock, fetch_block};
-ghost use Rattle.hands.specs.Hands.{buffer_at, bytes_at};
-ghost use Rattle.hands.specs.Ops.{IsAfter, answer_in};
-ghost use Rattle.hands.specs.Controls.{Goes, left_after, bare};
-ghost use Rattle.hands.specs.declared.hand.Hand.{Hand as HandState};
-ghost use Rattle.hands.specs.Fetching.{FetchEnds};
+ghost use Rattle.fs_machine.specs.Hands.{buffer_at, bytes_at};
+ghost use Rattle.fs_machine.specs.Ops.{IsAfter, answer_in};
+ghost use Rattle.fs_machine.specs.Controls.{Goes, left_after, bare};
+ghost use Rattle.fs_machine.specs.declared.hand.Hand.{Hand as HandState};
+ghost use Rattle.fs_machine.specs.Fetching.{FetchEnds};
 ghost use Rattle.inode_data.specs.FetchingBlocks.{block_left, block_asked, block_place, BlockReady, fetched_block};
 
 use crate::addresses::{Address, DIRECT, address_of};
 use crate::place::number_at;
 use fs_layout::Dinode;
-use hands::{Answer, Fetch, Fetched, Hand, Op, Part, Place};
+use fs_machine::{Answer, Fetch, Fetched, Hand, Op, Part, Place};
 
 /// Takes the buffer of a block of a content, valid, after a touch of the indirect block where the block's number stands there.
 #[derive(Clone, Copy, Drop)]

@@ -2,9 +2,9 @@
 ghost use Rattle.std.specs.Prelude.{◌≡◌, None, IfSome, IfNone};
 ghost use Rattle.inode_table.specs.Programs.{store};
 ghost use Rattle.inode_data.specs.Freeing.{freed};
-ghost use Rattle.hands.specs.Ops.{IsAfter, answer_in};
-ghost use Rattle.hands.specs.Controls.{Goes, left_after, bare};
-ghost use Rattle.hands.specs.declared.hand.Hand.{Hand as HandState};
+ghost use Rattle.fs_machine.specs.Ops.{IsAfter, answer_in};
+ghost use Rattle.fs_machine.specs.Controls.{Goes, left_after, bare};
+ghost use Rattle.fs_machine.specs.declared.hand.Hand.{Hand as HandState};
 ghost use Rattle.inode_table.specs.HeldInodes.{number_in, record_in};
 ghost use Rattle.inode_data.specs.Emptying.{beside_emptying, IsEmptying, HasNoBuffer};
 ghost use Rattle.inode_data.specs.FreeingInodes.{free_record, store_free, freeing_left, freeing_asked, freeing_of, FreeingReady, HasFreed};
@@ -12,7 +12,7 @@ ghost use Rattle.inode_data.specs.declared.truncate.Emptying.{Emptying as Emptyi
 
 use crate::truncate::{Emptying, Truncate};
 use fs_layout::{Dinode, Super};
-use hands::{Answer, Hand, Op, Part, Place, Routine, Seat};
+use fs_machine::{Answer, Hand, Op, Part, Place, Routine, Seat};
 use inode_table::{StoreRecord, record_at, unload_at};
 
 /// Empties an inode without links and stores it with type 0, so that it may be taken again. Nothing is loaded of it then.
@@ -68,7 +68,7 @@ impl Routine for FreeInode {
         }
     }
 
-    #[tactic(auto, using(hands::proofs::Going::goes_bind))]
+    #[tactic(auto, using(fs_machine::proofs::Going::goes_bind))]
     fn next(&mut self, answer: &Answer, hand: &mut Hand) -> Option<()> {
         match self {
             FreeInode::Truncating(truncate) => match truncate.next(answer, hand) {

@@ -4,17 +4,17 @@ ghost use Rattle.fs_layout.specs.Widths.{bits_per_block};
 ghost use Rattle.inode_data.specs.Widths.{direct, most_blocks};
 ghost use Rattle.inode_data.specs.Writing.{with_address, locate};
 ghost use Rattle.inode_data.specs.declared.locate.Located.{Located as LocatedState};
-ghost use Rattle.hands.specs.Hands.{with_buffer};
-ghost use Rattle.hands.specs.Ops.{IsAfter, answer_in};
-ghost use Rattle.hands.specs.Controls.{Goes, left_after, bare};
-ghost use Rattle.hands.specs.declared.hand.Hand.{Hand as HandState};
+ghost use Rattle.fs_machine.specs.Hands.{with_buffer};
+ghost use Rattle.fs_machine.specs.Ops.{IsAfter, answer_in};
+ghost use Rattle.fs_machine.specs.Controls.{Goes, left_after, bare};
+ghost use Rattle.fs_machine.specs.declared.hand.Hand.{Hand as HandState};
 ghost use Rattle.inode_data.specs.Locating.{begun_left, locate_left, locate_asked, named_direct, IfBegun, LocateReady, Leaves};
 
 use crate::addresses::{Address, DIRECT, address_of};
 use crate::place::{name_at, number_at};
 use bitmap_alloc::TakeBlock;
 use fs_layout::{Dinode, Super};
-use hands::{Answer, Control, Fetch, Hand, Op, Part, Place};
+use fs_machine::{Answer, Control, Fetch, Hand, Op, Part, Place};
 
 /// A block's number, None where no block was free; and the inode's record, with what was taken for it.
 #[derive(Drop, Clone, Copy)]
@@ -132,7 +132,7 @@ impl Control for Locate {
         }
     }
 
-    #[tactic(auto, using(hands::proofs::Going::goes_bind, hands::proofs::Goings::fetched_goes))]
+    #[tactic(auto, using(fs_machine::proofs::Going::goes_bind, fs_machine::proofs::Goings::fetched_goes))]
     fn next(&mut self, answer: &Answer, hand: &mut Hand) -> Option<Located>
         requires came { (before : HandState) × LocateReady self.old before × IsAfter (locate_asked self.old) before answer.now hand.old }
         ensures goes { (before : HandState) → LocateReady self.old before → IsAfter (locate_asked self.old) before answer.now hand.old

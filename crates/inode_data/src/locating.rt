@@ -5,7 +5,7 @@ ghost use Rattle.inode_data.specs.Beginnings.{begun_of, IfBegun};
 ghost use Rattle.inode_data.specs.declared.begun.Begun.TheVariants as begun;
 ghost use Rattle.inode_data.specs.Widths.{most_blocks};
 ghost use Rattle.inode_data.specs.Writing.{locate};
-ghost use Rattle.hands.specs.declared.hand.Hand.{Hand as HandState};
+ghost use Rattle.fs_machine.specs.declared.hand.Hand.{Hand as HandState};
 ghost use Rattle.inode_data.specs.Locating.{locate_left, LocateReady};
 ghost use Rattle.inode_data.specs.InHand.{NoBuffers};
 
@@ -14,7 +14,7 @@ use crate::begun::Begun;
 use crate::locate::{Locate, Located, Stage};
 use bitmap_alloc::TakeBlock;
 use fs_layout::{Dinode, Super};
-use hands::{Fetch, Place};
+use fs_machine::{Fetch, Place};
 
 // Block `k` of the content of this inode, on a disk with this superblock.
 pub(crate) fn seek(inode: &Dinode, sizes: &Super, k: usize) -> Begun<Locate, Located>

@@ -3,15 +3,15 @@ ghost use Rattle.std.specs.Prelude.{◌≡◌, ◌<◌, Some, IsSome, ◌≤◌,
 ghost use Rattle.std.specs.Option.{MatchOption};
 ghost use Rattle.fs_machine.specs.Tied.{bytes_of};
 ghost use Rattle.inode_data.specs.Numbers.{IsNext};
-ghost use Rattle.hands.specs.Hands.{block_at, buffer_at, bytes_at, with_bytes, with_content};
+ghost use Rattle.fs_machine.specs.Hands.{block_at, buffer_at, bytes_at, with_bytes, with_content};
 ghost use Rattle.inode_data.specs.Writing.{with_number, with_part};
 ghost use Rattle.fs_layout.specs.Indirect.{numbers_in};
 ghost use Rattle.fs_layout.specs.Widths.{numbers_per_block};
 ghost use Rattle.fs_layout.specs.Bytes.{overwrite};
 ghost use Rattle.inode_data.specs.Programs.{blocks_between, fetch_block};
 ghost use Rattle.inode_data.specs.Widths.{most_blocks};
-ghost use Rattle.hands.specs.declared.hand.Hand.{Hand as HandState};
-ghost use Rattle.hands.specs.declared.hand.Place.TheVariants.{First};
+ghost use Rattle.fs_machine.specs.declared.hand.Hand.{Hand as HandState};
+ghost use Rattle.fs_machine.specs.declared.hand.Place.TheVariants.{First};
 ghost use Rattle.inode_data.specs.FetchingBlocks.{block_left};
 ghost use Rattle.inode_data.specs.InHand.{FetchesFirst, NoBuffers};
 
@@ -21,7 +21,7 @@ use crate::numbers::next_listed;
 use buffer_cache::Buffer;
 use fs_layout::widths::BLOCK_LEN;
 use fs_layout::{Dinode, read_number, write_number};
-use hands::{Fetch, Hand, Place};
+use fs_machine::{Fetch, Hand, Place};
 use sleep_lock::Guard;
 
 // The number at a place of an indirect block.

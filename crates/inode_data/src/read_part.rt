@@ -5,11 +5,11 @@ ghost use Rattle.atomic_programs.specs.Prog.{asks};
 ghost use Rattle.fs_layout.specs.declared.inode.Dinode.{Dinode as DinodeState};
 ghost use Rattle.inode_data.specs.Beginnings.{begun_of, IfBegun};
 ghost use Rattle.inode_data.specs.Programs.{end_of, read_blocks, read_from};
-ghost use Rattle.hands.specs.Hands.{bytes_at};
-ghost use Rattle.hands.specs.Ops.{op_in, answer_in, CanDo, Prepared, IsAfter};
-ghost use Rattle.hands.specs.Controls.{Goes, left_after};
-ghost use Rattle.hands.specs.declared.hand.Hand.{Hand as HandState};
-ghost use Rattle.hands.specs.declared.hand.Place.TheVariants.{First};
+ghost use Rattle.fs_machine.specs.Hands.{bytes_at};
+ghost use Rattle.fs_machine.specs.Ops.{op_in, answer_in, CanDo, Prepared, IsAfter};
+ghost use Rattle.fs_machine.specs.Controls.{Goes, left_after};
+ghost use Rattle.fs_machine.specs.declared.hand.Hand.{Hand as HandState};
+ghost use Rattle.fs_machine.specs.declared.hand.Place.TheVariants.{First};
 ghost use Rattle.inode_data.specs.Locating.{Leaves};
 ghost use Rattle.inode_data.specs.InHand.{NoBuffers};
 ghost use Rattle.inode_data.specs.PartReading.{filled_in, filled_to, in_all, read_count, read_left, read_asked, HasRead, HasRoom, IsReading, ReadReady};
@@ -20,7 +20,7 @@ use crate::fetch_block::FetchBlock;
 use crate::place::{blocks, copy_into, fetch_of};
 use fs_layout::Dinode;
 use fs_layout::widths::{BLOCK_LEN, Block};
-use hands::{Answer, Hand, Op, Part, Place};
+use fs_machine::{Answer, Hand, Op, Part, Place};
 
 /// What a read has to do yet.
 #[derive(Clone, Copy, Drop)]
@@ -80,7 +80,7 @@ impl ReadPart {
     }
 
     /// How it goes on.
-    #[tactic(auto, using(hands::proofs::Going::goes_bind))]
+    #[tactic(auto, using(fs_machine::proofs::Going::goes_bind))]
     pub fn next(
         &mut self,
         inode: &Dinode,

@@ -8,11 +8,11 @@ ghost use Rattle.atomic_programs.specs.Prog.{bind};
 ghost use Rattle.inode_data.specs.Freeing.{truncate, without_content};
 ghost use Rattle.inode_data.specs.Numbers.{IsNext};
 ghost use Rattle.bitmap_alloc.specs.Programs.{free_block};
-ghost use Rattle.hands.specs.Hands.{buffer_at, inode_in};
-ghost use Rattle.hands.specs.Ops.{IsAfter, answer_in};
-ghost use Rattle.hands.specs.Controls.{Goes, left_after, bare};
-ghost use Rattle.hands.specs.declared.hand.Hand.{Hand as HandState};
-ghost use Rattle.hands.specs.declared.hand.Place.TheVariants.{Second};
+ghost use Rattle.fs_machine.specs.Hands.{buffer_at, inode_in};
+ghost use Rattle.fs_machine.specs.Ops.{IsAfter, answer_in};
+ghost use Rattle.fs_machine.specs.Controls.{Goes, left_after, bare};
+ghost use Rattle.fs_machine.specs.declared.hand.Hand.{Hand as HandState};
+ghost use Rattle.fs_machine.specs.declared.hand.Place.TheVariants.{Second};
 ghost use Rattle.inode_table.specs.HeldInodes.{number_in, record_in, IsLoadedAt};
 ghost use Rattle.inode_data.specs.Emptying.{record_rest, indirect_rest, own_rest, listed_rest, truncate_left, truncate_asked, emptying_of, beside_emptying, IsEmptying, HasTable, HasNoBuffer, TruncateReady};
 ghost use Rattle.inode_data.specs.declared.truncate.Emptying.{Emptying as EmptyingState};
@@ -23,7 +23,7 @@ use crate::place::{block_number, next_at, number_at};
 use bitmap_alloc::FreeBlock;
 use fs_layout::widths::ADDRESSES;
 use fs_layout::{Dinode, Super};
-use hands::{Answer, Fetch, Hand, Op, Part, Place, Routine, Seat};
+use fs_machine::{Answer, Fetch, Hand, Op, Part, Place, Routine, Seat};
 use inode_table::{StoreRecord, record_at};
 
 /// What an emptying is about: the inode whose lock is at this seat, and where the disk's parts lie.
@@ -103,7 +103,7 @@ impl Routine for Truncate {
         }
     }
 
-    #[tactic(auto, using(hands::proofs::Going::goes_bind, hands::proofs::Goings::fetched_goes))]
+    #[tactic(auto, using(fs_machine::proofs::Going::goes_bind, fs_machine::proofs::Goings::fetched_goes))]
     fn next(&mut self, answer: &Answer, hand: &mut Hand) -> Option<Emptying> {
         match self {
             Truncate::Own(emptying, at, free) => {

@@ -6,9 +6,9 @@ ghost use Rattle.atomic_programs.specs.Prog.{asks};
 ghost use Rattle.inode_table.specs.Programs.{inode_block};
 ghost use Rattle.inode_data.specs.Widths.{most_bytes};
 ghost use Rattle.inode_data.specs.Writing.{grown, write_part};
-ghost use Rattle.hands.specs.Ops.{op_in, answer_in, CanDo, Prepared, IsAfter};
-ghost use Rattle.hands.specs.Controls.{Goes, left_after};
-ghost use Rattle.hands.specs.declared.hand.Hand.{Hand as HandState};
+ghost use Rattle.fs_machine.specs.Ops.{op_in, answer_in, CanDo, Prepared, IsAfter};
+ghost use Rattle.fs_machine.specs.Controls.{Goes, left_after};
+ghost use Rattle.fs_machine.specs.declared.hand.Hand.{Hand as HandState};
 ghost use Rattle.inode_data.specs.Locating.{Leaves};
 ghost use Rattle.inode_data.specs.InHand.{NoBuffers};
 ghost use Rattle.inode_data.specs.PartWriting.{after_location, stored, write_left, write_asked, write_rest, written_as, written_so, BeginsAmid, IsPast, IsWithin, IsWriting, WriteReady};
@@ -19,7 +19,7 @@ use crate::locating::seek;
 use crate::place::{blocks, write_at};
 use fs_layout::widths::BLOCK_LEN;
 use fs_layout::{Dinode, Super};
-use hands::{Answer, Control, Fetch, Hand, Op, Part, Place};
+use fs_machine::{Answer, Control, Fetch, Hand, Op, Part, Place};
 use inode_table::StoreInode;
 
 /// What a writing has to do yet.
@@ -100,7 +100,7 @@ impl WritePart {
     }
 
     /// How it goes on.
-    #[tactic(auto, using(hands::proofs::Going::goes_bind, hands::proofs::Goings::fetched_goes))]
+    #[tactic(auto, using(fs_machine::proofs::Going::goes_bind, fs_machine::proofs::Goings::fetched_goes))]
     pub fn next(&mut self, bytes: &[u8], answer: &Answer, hand: &mut Hand) -> Option<Written>
         requires came { (before : HandState) × WriteReady bytes.now self.old before
             × IsAfter (write_asked self.old) before answer.now hand.old }

@@ -17,8 +17,8 @@ use Rattle.tree_laws.proofs.Maps.{same_or, put_same, put_other}
 use Rattle.tree_laws.proofs.Sums.{sum_same}
 use Rattle.tree_laws.proofs.Facts.{look_live}
 use Rattle.tree_laws.proofs.Walks.{look_same}
-use Rattle.tree_moves.specs.Moves.{Walk, Deed, Stage, Step, walks_at}
-use Rattle.tree_moves.specs.Moves.Move.{Look}
+use Rattle.tree_laws.specs.Moves.{Walk, Deed, Stage, Step, walks_at}
+use Rattle.tree_laws.specs.Moves.Move.{Look}
 use Rattle.inode_machine.specs.World.{Mine, Note, Desk, World, stage_of}
 use Rattle.inode_machine.specs.Inodes.{sort_of}
 use Rattle.inode_machine.specs.Exec.{with_walk}

@@ -17,8 +17,8 @@ use Rattle.tree_laws.proofs.Facts.{look_live}
 use Rattle.tree_laws.proofs.Nodes.{cwd_named}
 use Rattle.tree_laws.proofs.Walks.{look_same}
 use Rattle.tree_laws.proofs.Maps.{either, put_same}
-use Rattle.tree_moves.specs.Moves.{Walk, Acts, Looks, Begins, Takes}
-use Rattle.tree_moves.specs.Moves.Move.{Begin, Look}
+use Rattle.tree_laws.specs.Moves.{Walk, Acts, Looks, Begins, Takes}
+use Rattle.tree_laws.specs.Moves.Move.{Begin, Look}
 use Rattle.inode_machine.specs.World.{Desk, Note, World, stage_of}
 use Rattle.inode_machine.specs.Inodes.{sort_of}
 use Rattle.inode_machine.specs.Exec.{with_walk}

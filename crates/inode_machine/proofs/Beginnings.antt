@@ -15,8 +15,8 @@ use Rattle.plain_tree.proofs.Settling.{settled_row}
 use Rattle.tree_laws.specs.WellFormed.{one_if, IsWellFormed}
 use Rattle.tree_laws.proofs.Nodes.{folder_dead}
 use Rattle.tree_laws.proofs.Maps.{either, and_true, eq_self, same_or, put_same, put_other}
-use Rattle.tree_moves.specs.Moves.{Walk, Stage, Step, Begins}
-use Rattle.tree_moves.specs.Moves.Move.{Begin}
+use Rattle.tree_laws.specs.Moves.{Walk, Stage, Step, Begins}
+use Rattle.tree_laws.specs.Moves.Move.{Begin}
 use Rattle.inode_machine.proofs.Names.{AllNames}
 use Rattle.inode_machine.specs.World.{Note, World, stage_of}
 use Rattle.inode_machine.specs.World.Op.{UpStart}

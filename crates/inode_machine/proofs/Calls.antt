@@ -18,7 +18,7 @@ use Rattle.plain_tree.specs.declared.tree.Hold.{Hold}
 use Rattle.plain_tree.specs.Steps.{holds_raised}
 use Rattle.tree_laws.specs.WellFormed.{one_if}
 use Rattle.tree_laws.proofs.Maps.{put_same, put_other, same_or}
-use Rattle.tree_moves.specs.Moves.{IsWholeCall}
+use Rattle.tree_laws.specs.Moves.{IsWholeCall}
 use Rattle.inode_machine.specs.World.{Desk, World, stage_of}
 use Rattle.inode_machine.specs.Inodes.{face_or, face_of}
 use Rattle.inode_machine.specs.Rules.{Held, Own, Others, Rests, own_of, Idle, Inv, machine, asked_limit}

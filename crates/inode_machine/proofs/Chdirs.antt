@@ -15,7 +15,7 @@ use Rattle.plain_tree.specs.HartRow.{key_names, row_of}
 use Rattle.tree_laws.specs.WellFormed.{one_if}
 use Rattle.tree_laws.proofs.Maps.{either, eq_is, or_right, put_same, put_other}
 use Rattle.tree_laws.proofs.Opened.{well_chdir}
-use Rattle.tree_moves.specs.Moves.{Step}
+use Rattle.tree_laws.specs.Moves.{Step}
 use Rattle.inode_machine.specs.World.{Desk, World}
 use Rattle.inode_machine.specs.World.Op.{Settle}
 use Rattle.inode_machine.specs.Inodes.{OfDirectory, sort_of, sort_of_kind}

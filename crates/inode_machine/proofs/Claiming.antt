@@ -9,7 +9,7 @@ use Rattle.plain_tree.specs.Tree.{put, settle}
 use Rattle.plain_tree.specs.Steps.{node_or}
 use Rattle.tree_laws.specs.WellFormed.{sum_below}
 use Rattle.tree_laws.proofs.Maps.{eq_is, same_or, put_same, put_other, and_true}
-use Rattle.tree_moves.specs.Moves.{Walk, Step}
+use Rattle.tree_laws.specs.Moves.{Walk, Step}
 use Rattle.inode_machine.specs.World.{Mine, World, ClaimResult, New, NoInode, NoPlace, Outside, Room, RoomFor, Picks}
 use Rattle.inode_machine.specs.World.Op.{Claim, Store, Fill}
 use Rattle.inode_machine.specs.Inodes.{Sort}

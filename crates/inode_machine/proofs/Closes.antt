@@ -15,8 +15,8 @@ use Rattle.tree_laws.specs.WellFormed.{sum_below, one_if}
 use Rattle.tree_laws.proofs.Maps.{eq_self, eq_is, eq_isnt, either, same_or, put_same, put_other}
 use Rattle.tree_laws.proofs.Sums.{sum_same, sum_changed, one_no, one_yes}
 use Rattle.tree_laws.proofs.Opened.{well_closed}
-use Rattle.tree_moves.specs.Moves.{Walk, Stage, Step, Takes}
-use Rattle.tree_moves.specs.Moves.Move.{Own as OwnMove}
+use Rattle.tree_laws.specs.Moves.{Walk, Stage, Step, Takes}
+use Rattle.tree_laws.specs.Moves.Move.{Own as OwnMove}
 use Rattle.inode_machine.specs.Exec.{is_at, file_count, with_refs, with_walk, slot_at, entry_at, close_at, close_if, close_less, close_last}
 use Rattle.inode_machine.specs.World.{Mine, Entry, Desk, World, stage_of}
 use Rattle.inode_machine.specs.Marks.{places, with_mark, made_by, new_id}

@@ -10,7 +10,7 @@ use Rattle.plain_tree.specs.HartRow.{row_of}
 use Rattle.tree_laws.specs.WellFormed.{sum_below, one_if}
 use Rattle.tree_laws.proofs.Maps.{eq_is, eq_not, either, same_or, put_same, put_other, and_true}
 use Rattle.tree_laws.proofs.Sums.{one_no}
-use Rattle.tree_moves.specs.Moves.{Walk, Step}
+use Rattle.tree_laws.specs.Moves.{Walk, Step}
 use Rattle.inode_machine.specs.World.{Mine, World, stage_of}
 use Rattle.inode_machine.specs.Marks.{with_mark}
 use Rattle.inode_machine.specs.Exec.{unlocked, counted_down, down_if, is_dead, is_last, reserved, walk_down_if}

@@ -24,8 +24,8 @@ use Rattle.tree_laws.proofs.Facts.{look_live}
 use Rattle.tree_laws.proofs.Maps.{either, eq_not, same_or, put_same, put_other}
 use Rattle.tree_laws.proofs.Nodes.{live_some}
 use Rattle.tree_laws.proofs.Walks.{look_same}
-use Rattle.tree_moves.specs.Moves.{Walk, Stage, Step}
-use Rattle.tree_moves.specs.Moves.Move.{Look, Quit}
+use Rattle.tree_laws.specs.Moves.{Walk, Stage, Step}
+use Rattle.tree_laws.specs.Moves.Move.{Look, Quit}
 use Rattle.inode_machine.proofs.Names.{AllNames}
 use Rattle.inode_machine.specs.World.{Desk, Mark, Note, World, stage_of}
 use Rattle.inode_machine.specs.World.Op.{Take}

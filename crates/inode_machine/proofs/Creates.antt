@@ -16,8 +16,8 @@ use Rattle.tree_laws.proofs.Walks.{look_same}
 use Rattle.tree_laws.proofs.Formed.{well_file}
 use Rattle.tree_laws.proofs.Kept.{absent_slot}
 use Rattle.tree_laws.proofs.Maps.{and_true}
-use Rattle.tree_moves.specs.Moves.{Walk, Step}
-use Rattle.tree_moves.specs.Moves.Move.{Look}
+use Rattle.tree_laws.specs.Moves.{Walk, Step}
+use Rattle.tree_laws.specs.Moves.Move.{Look}
 use Rattle.inode_machine.specs.World.{Note, World, Mark, EntryResult, InPlace, NoBlock, NoSlot}
 use Rattle.inode_machine.specs.World.Op.{Enter}
 use Rattle.inode_machine.specs.World.Mark.{Mends}

@@ -4,7 +4,7 @@ use Rattle.atomic_programs.specs.Logic.{Safe}
 use Rattle.plain_tree.specs.Widths.{hart_count}
 use Rattle.plain_tree.specs.Tree.{put}
 use Rattle.tree_laws.proofs.Maps.{same_or, put_same, put_other}
-use Rattle.tree_moves.specs.Moves.{Step}
+use Rattle.tree_laws.specs.Moves.{Step}
 use Rattle.inode_machine.specs.World.{World}
 use Rattle.inode_machine.specs.Parts.{P as ThisP, drop}
 use Rattle.inode_machine.specs.Rules.{Own, own_names, own_of, machine}

@@ -18,8 +18,8 @@ use Rattle.tree_laws.specs.WellFormed.{sum_below, one_if, IsWellFormed}
 use Rattle.tree_laws.proofs.Maps.{eq_self, eq_not, same_or, put_same, put_other}
 use Rattle.tree_laws.proofs.Sums.{sum_same, one_no, one_yes}
 use Rattle.tree_laws.proofs.Opened.{well_dup}
-use Rattle.tree_moves.specs.Moves.{Stage, Step}
-use Rattle.tree_moves.specs.Moves.Move.{Own as OwnMove}
+use Rattle.tree_laws.specs.Moves.{Stage, Step}
+use Rattle.tree_laws.specs.Moves.Move.{Own as OwnMove}
 use Rattle.inode_machine.specs.Exec.{is_at, file_count, with_walk, slot_at, entry_at, doubled, double_at, double_if, with_joined, child_of}
 use Rattle.inode_machine.specs.Marks.{places, with_mark, with_made, made_by, found_by, refused_all, new_id}
 use Rattle.inode_machine.specs.World.{Mine, Entry, Desk, World, Note}

@@ -17,8 +17,8 @@ use Rattle.plain_tree.proofs.Settling.{settle_again}
 use Rattle.plain_tree.proofs.SettledSteps.{settled_step}
 use Rattle.tree_laws.specs.WellFormed.{IsWellFormed}
 use Rattle.tree_laws.proofs.Kept.{effect_well}
-use Rattle.tree_moves.specs.Moves.{Stage, Step}
-use Rattle.tree_moves.specs.Moves.Move.{Own as OwnMove}
+use Rattle.tree_laws.specs.Moves.{Stage, Step}
+use Rattle.tree_laws.specs.Moves.Move.{Own as OwnMove}
 use Rattle.inode_machine.specs.World.{World}
 use Rattle.inode_machine.specs.World.Op.{Empty}
 use Rattle.inode_machine.specs.Inodes.{sort_of, sort_of_kind}

@@ -15,8 +15,8 @@ use Rattle.plain_tree.specs.HartRow.{Key, key_is}
 use Rattle.plain_tree.proofs.RowLemmas.{Behind, behind}
 use Rattle.plain_tree.proofs.Settling.{settle_again}
 use Rattle.tree_laws.proofs.Nodes.{put_self}
-use Rattle.tree_moves.specs.Moves.{Stage, Step}
-use Rattle.tree_moves.specs.Moves.Move.{Own as OwnMove}
+use Rattle.tree_laws.specs.Moves.{Stage, Step}
+use Rattle.tree_laws.specs.Moves.Move.{Own as OwnMove}
 use Rattle.inode_machine.specs.World.{Mark, World}
 use Rattle.inode_machine.specs.World.Op.{Install}
 use Rattle.inode_machine.specs.Inodes.{Sort, OfDirectory, sort_of, sort_of_kind}

@@ -18,8 +18,8 @@ use Rattle.plain_tree.specs.Steps.{holds_raised}
 use Rattle.tree_laws.specs.WellFormed.{one_if}
 use Rattle.tree_laws.proofs.Sums.{one_yes}
 use Rattle.tree_laws.proofs.Maps.{either, same_or, put_same, put_other}
-use Rattle.tree_moves.specs.Moves.{Deed, Step, Move, begins, fail, IsNext, MayEnd, IsPlayed, IsWholeCall}
-use Rattle.tree_moves.specs.Moves.Move.{Begin, Look, Quit}
+use Rattle.tree_laws.specs.Moves.{Deed, Step, Move, begins, fail, IsNext, MayEnd, IsPlayed, IsWholeCall}
+use Rattle.tree_laws.specs.Moves.Move.{Begin, Look, Quit}
 use Rattle.inode_machine.specs.World.{Desk, World}
 use Rattle.inode_machine.specs.Inodes.{Sort, sort_of, face_of, is_directory_face, is_directory_sort}
 use Rattle.inode_machine.specs.Exec.{is_at}

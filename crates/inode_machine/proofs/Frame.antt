@@ -12,7 +12,7 @@ use Rattle.tree_laws.proofs.Walks.{look_same}
 use Rattle.tree_laws.proofs.Facts.{look_live}
 use Rattle.tree_laws.proofs.Sums.{sum_part, sum_two}
 use Rattle.inode_machine.specs.Inodes.{sort_of}
-use Rattle.tree_moves.specs.Moves.{Walk}
+use Rattle.tree_laws.specs.Moves.{Walk}
 use Rattle.inode_machine.specs.World.{Mine, Entry, Note, Desk, World}
 use Rattle.inode_machine.specs.Exec.{is_at, child_of, given_of}
 use Rattle.inode_machine.specs.Rules.{key_in, Own, Rests, left_or, Stands, shop_of, Shop, IsTied, own_names, Held, view, is_hart, if_kept, own_of, Found, IsReferredTo, IsReached, reference_limit, References, IsAlone, Has, KeepsFiles, HasType, Lends, Inv}

@@ -11,7 +11,7 @@ use Rattle.tree_laws.specs.WellFormed.{sum_below, folder, links_of, folders_of, 
 use Rattle.tree_laws.proofs.Maps.{either, same_or, put_same, put_other, none_any}
 use Rattle.tree_laws.proofs.Nodes.{folder_dead, dead_links, no_node, cwd_named, hold_named, file_named, folders_put, put_self, map_put}
 use Rattle.tree_laws.proofs.Facts.{look_live}
-use Rattle.tree_moves.specs.Moves.{Step, Walk}
+use Rattle.tree_laws.specs.Moves.{Step, Walk}
 use Rattle.inode_machine.specs.World.{Mine, World, Entry}
 use Rattle.inode_machine.specs.Marks.{with_mark}
 use Rattle.inode_machine.specs.Exec.{lock_if, blank, counted_down, file_count, locked, unlocked}

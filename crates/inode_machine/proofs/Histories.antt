@@ -5,7 +5,7 @@ use Rattle.plain_tree.specs.TreeData.{TreeData}
 use Rattle.plain_tree.specs.Tree.{Tree}
 use Rattle.tree_laws.specs.WellFormed.{IsWellFormed}
 use Rattle.tree_laws.proofs.Nodes.{settled_well}
-use Rattle.tree_moves.specs.Moves.{Step as MoveStep}
+use Rattle.tree_laws.specs.Moves.{Step as MoveStep}
 use Rattle.atomic_programs.specs.Calls.{Event}
 use Rattle.inode_machine.specs.World.{Op, Answer, Mark, Outside, World}
 use Rattle.inode_machine.specs.World.Mark.{Makes, Frees, Orphans, Fills, Mends, Spoils}

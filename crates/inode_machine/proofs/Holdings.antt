@@ -10,7 +10,7 @@ use Rattle.plain_tree.specs.Tree.{Name, put}
 use Rattle.plain_tree.specs.declared.step.Action.{Action}
 use Rattle.tree_laws.specs.WellFormed.{one_if}
 use Rattle.tree_laws.proofs.Maps.{either, same_or, put_same, put_other}
-use Rattle.tree_moves.specs.Moves.{Step, IsWholeCall}
+use Rattle.tree_laws.specs.Moves.{Step, IsWholeCall}
 use Rattle.inode_machine.specs.World.{Desk, World}
 use Rattle.inode_machine.specs.Rules.{Held, Own, own_names, own_of, nothing, machine}
 use Rattle.inode_machine.specs.Parts.{P, give_up, tail}

@@ -19,7 +19,7 @@ use Rattle.tree_laws.proofs.Maps.{either, put_same, put_other}
 use Rattle.tree_laws.proofs.Formed.{not_raised}
 use Rattle.tree_laws.proofs.Opened.{well_hold}
 use Rattle.tree_laws.proofs.Kept.{effect_well}
-use Rattle.tree_moves.specs.Moves.Move.{Own as OwnMove}
+use Rattle.tree_laws.specs.Moves.Move.{Own as OwnMove}
 use Rattle.inode_machine.specs.World.{World}
 use Rattle.inode_machine.specs.Inodes.{sort_of}
 use Rattle.inode_machine.specs.Exec.{is_at}

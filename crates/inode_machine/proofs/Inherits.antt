@@ -14,8 +14,8 @@ use Rattle.plain_tree.specs.declared.tree.Hold.{Hold}
 use Rattle.plain_tree.specs.Steps.{holds_raised}
 use Rattle.tree_laws.proofs.Maps.{either, same_or, put_same, put_other}
 use Rattle.tree_laws.proofs.Sums.{one_yes}
-use Rattle.tree_moves.specs.Moves.{Step, IsWholeCall}
-use Rattle.tree_moves.specs.Moves.Move.{Own as OwnMove}
+use Rattle.tree_laws.specs.Moves.{Step, IsWholeCall}
+use Rattle.tree_laws.specs.Moves.Move.{Own as OwnMove}
 use Rattle.inode_machine.specs.World.{Entry, World, LoanResult, Lent, Moved}
 use Rattle.inode_machine.specs.World.Op.{Lend, LendDirectory, Release}
 use Rattle.inode_machine.specs.Exec.{is_nothing, next_used, with_lent, handed, moved_in, lend_last, lend_if, released, given_of, serving}

@@ -12,7 +12,7 @@ use Rattle.plain_tree.proofs.RowLemmas.{key_from}
 use Rattle.tree_laws.specs.WellFormed.{sum_below, one_if}
 use Rattle.tree_laws.proofs.Maps.{eq_self, eq_not, either, same_or, put_same, put_other}
 use Rattle.tree_laws.proofs.Sums.{sum_same, sum_changed, one_yes, one_no}
-use Rattle.tree_moves.specs.Moves.{Step}
+use Rattle.tree_laws.specs.Moves.{Step}
 use Rattle.inode_machine.specs.World.{Mine, Entry, Desk, Mark, World}
 use Rattle.inode_machine.specs.World.Op.{Install}
 use Rattle.inode_machine.specs.Inodes.{Sort, sort_of, OfDirectory}

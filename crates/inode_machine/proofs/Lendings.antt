@@ -12,8 +12,8 @@ use Rattle.tree_laws.specs.WellFormed.{one_if}
 use Rattle.tree_laws.proofs.Maps.{eq_not, none_any, put_same, put_other}
 use Rattle.tree_laws.proofs.Sums.{sum_same}
 use Rattle.tree_laws.proofs.Opened.{well_inherit}
-use Rattle.tree_moves.specs.Moves.{Walk, Stage, Step, Takes}
-use Rattle.tree_moves.specs.Moves.Move.{Own as OwnMove}
+use Rattle.tree_laws.specs.Moves.{Walk, Stage, Step, Takes}
+use Rattle.tree_laws.specs.Moves.Move.{Own as OwnMove}
 use Rattle.inode_machine.specs.World.{Mine, Entry, Desk, World, stage_of}
 use Rattle.inode_machine.specs.Exec.{is_at, with_walk, slot_or, more_users, with_lent, serving}
 use Rattle.inode_machine.specs.Inodes.{sort_of}

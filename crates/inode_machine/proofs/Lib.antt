@@ -74,3 +74,5 @@ pub mod LinkNames
 pub mod LinkCalls
 pub mod Names
 pub mod Budgets
+pub mod Kept
+pub mod Moving

@@ -28,8 +28,8 @@ use Rattle.tree_laws.proofs.Formed.{not_raised}
 use Rattle.tree_laws.proofs.Nodes.{live_some}
 use Rattle.tree_laws.proofs.Opened.{well_hold}
 use Rattle.tree_laws.proofs.Walks.{look_same}
-use Rattle.tree_moves.specs.Moves.{Deed, Walk, Stage, Step, MayEnd}
-use Rattle.tree_moves.specs.Moves.Move.{Begin, Look}
+use Rattle.tree_laws.specs.Moves.{Deed, Walk, Stage, Step, MayEnd}
+use Rattle.tree_laws.specs.Moves.Move.{Begin, Look}
 use Rattle.inode_machine.proofs.Names.{AllNames}
 use Rattle.inode_machine.specs.World.{Desk, Mark, Note, World, stage_of}
 use Rattle.inode_machine.specs.World.Op.{Take, UpStart}

@@ -14,8 +14,8 @@ use Rattle.tree_laws.specs.WellFormed.{IsWellFormed}
 use Rattle.tree_laws.proofs.Maps.{and_true, put_same}
 use Rattle.tree_laws.proofs.Walks.{look_same}
 use Rattle.tree_laws.proofs.Kept.{effect_well}
-use Rattle.tree_moves.specs.Moves.{Step}
-use Rattle.tree_moves.specs.Moves.Move.{Look}
+use Rattle.tree_laws.specs.Moves.{Step}
+use Rattle.tree_laws.specs.Moves.Move.{Look}
 use Rattle.inode_machine.specs.World.{World, EntryResult, InPlace, NoBlock, NoSlot}
 use Rattle.inode_machine.specs.World.Op.{Enter}
 use Rattle.inode_machine.specs.Inodes.{Sort, sort_of}

@@ -22,8 +22,8 @@ use Rattle.plain_tree.specs.Widths.{hart_count}
 use Rattle.tree_laws.specs.WellFormed.{IsThere, one_if}
 use Rattle.tree_laws.proofs.Maps.{either, same_or, put_same, put_other}
 use Rattle.tree_laws.proofs.Sums.{one_yes}
-use Rattle.tree_moves.specs.Moves.{Step, MayEnd, IsWholeCall}
-use Rattle.tree_moves.specs.Moves.Move.{Begin}
+use Rattle.tree_laws.specs.Moves.{Step, MayEnd, IsWholeCall}
+use Rattle.tree_laws.specs.Moves.Move.{Begin}
 use Rattle.inode_machine.proofs.Names.{AllNames}
 use Rattle.inode_machine.specs.World.{Desk, Note, World}
 use Rattle.inode_machine.specs.World.Op.{Give, Store}

@@ -11,7 +11,7 @@ use Rattle.plain_tree.specs.HartRow.{Row}
 use Rattle.tree_laws.specs.WellFormed.{one_if}
 use Rattle.tree_laws.proofs.Maps.{eq_self, eq_not, same_or, put_same, put_other}
 use Rattle.tree_laws.proofs.Sums.{one_no, one_yes}
-use Rattle.tree_moves.specs.Moves.{Step}
+use Rattle.tree_laws.specs.Moves.{Step}
 use Rattle.inode_machine.specs.World.{Desk, World}
 use Rattle.inode_machine.specs.World.Op.{Say}
 use Rattle.inode_machine.specs.Rules.{Own, Held, own_names, own_of, nothing, machine}

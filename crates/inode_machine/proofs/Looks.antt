@@ -19,8 +19,8 @@ use Rattle.tree_laws.proofs.Maps.{put_same}
 use Rattle.tree_laws.proofs.Facts.{look_live}
 use Rattle.tree_laws.proofs.Nodes.{settle_at}
 use Rattle.tree_laws.proofs.Walks.{look_same}
-use Rattle.tree_moves.specs.Moves.{Walk, Deed, Stage, Step, Move, Acts, Looks, fail}
-use Rattle.tree_moves.specs.Moves.Move.{Look, Quit}
+use Rattle.tree_laws.specs.Moves.{Walk, Deed, Stage, Step, Move, Acts, Looks, fail}
+use Rattle.tree_laws.specs.Moves.Move.{Look, Quit}
 use Rattle.inode_machine.specs.World.{Desk, Note, World, Mark, stage_of}
 use Rattle.inode_machine.specs.World.Mark.{Makes, Frees, Orphans, Fills, Mends, Spoils}
 use Rattle.inode_machine.specs.World.Op.{Take}

@@ -17,8 +17,8 @@ use Rattle.plain_tree.specs.Tree.{Name, put, look, hold_names, live_directory}
 use Rattle.plain_tree.specs.Widths.{hart_count}
 use Rattle.tree_laws.specs.WellFormed.{one_if}
 use Rattle.tree_laws.proofs.Maps.{either, eq_not, or_none, same_or, put_same, put_other}
-use Rattle.tree_moves.specs.Moves.{Step, IsWholeCall}
-use Rattle.tree_moves.specs.Moves.Move.{Own as OwnMove}
+use Rattle.tree_laws.specs.Moves.{Step, IsWholeCall}
+use Rattle.tree_laws.specs.Moves.Move.{Own as OwnMove}
 use Rattle.inode_machine.specs.World.{Desk, Note, World, New}
 use Rattle.inode_machine.specs.World.Op.{Forget, Install}
 use Rattle.inode_machine.specs.Inodes.{OfFile}

@@ -17,7 +17,7 @@ use Rattle.plain_tree.specs.Steps.{node_or, name_taken, new_directory, or_else, 
 use Rattle.plain_tree.specs.Calls.{Act, next_of, reply_of, had_room}
 use Rattle.tree_laws.specs.WellFormed.{one_if}
 use Rattle.tree_laws.proofs.Maps.{eq_not, put_same, put_other}
-use Rattle.tree_moves.specs.Moves.{Step, MayEnd}
+use Rattle.tree_laws.specs.Moves.{Step, MayEnd}
 use Rattle.inode_machine.proofs.Names.{AllNames}
 use Rattle.inode_machine.specs.World.{Note, World, New, InPlace}
 use Rattle.inode_machine.specs.World.Op.{Enter, Forget}

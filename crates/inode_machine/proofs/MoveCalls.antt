@@ -8,15 +8,15 @@ use Rattle.plain_tree.specs.TreeData.{TreeData}
 use Rattle.plain_tree.specs.Tree.{Tree, put, tree_of}
 use Rattle.plain_tree.specs.Widths.{hart_count}
 use Rattle.tree_laws.proofs.Maps.{eq_self, eq_not, put_same, put_other}
-use Rattle.tree_moves.specs.Moves.{Deed, Move, Stage, Step as MoveStep, IsNext, MayEnd, Takes, IsWholeCall, after, begins, told_by}
-use Rattle.tree_moves.specs.History.{starts, passes}
-use Rattle.tree_moves.specs.History.HartStanding.{Free, Busy}
-use Rattle.tree_moves.specs.Runs.{World as Told, Event as Turn, Happens, BeginsNext, PlaysAny, Runs as Goings, NoneClimbs as Calm, Alone as Lone, IsStartBy, climbing, opened, shown_of, stepped}
-use Rattle.tree_moves.specs.Runs.Event.{Starts, Steps, Nothing}
-use Rattle.tree_moves.specs.Laws.{Tells}
-use Rattle.tree_moves.proofs.Appended.{runs_more, runs_none}
-use Rattle.tree_moves.proofs.History.{NeverClimbs, IsHart, apart_alone, apart_calm, opened_ok, run_explained, run_ok, starts_alone, starts_calm, AllMayStart, Apart}
-use Rattle.tree_moves.proofs.Told.{event_tells, played_end, played_next, told_more}
+use Rattle.tree_laws.specs.Moves.{Deed, Move, Stage, Step as MoveStep, IsNext, MayEnd, Takes, IsWholeCall, after, begins, told_by}
+use Rattle.tree_laws.specs.History.{starts, passes}
+use Rattle.tree_laws.specs.History.HartStanding.{Free, Busy}
+use Rattle.tree_laws.specs.Runs.{World as Told, Event as Turn, Happens, BeginsNext, PlaysAny, Runs as Goings, NoneClimbs as Calm, Alone as Lone, IsStartBy, climbing, opened, shown_of, stepped}
+use Rattle.tree_laws.specs.Runs.Event.{Starts, Steps, Nothing}
+use Rattle.tree_laws.specs.MoveLaws.{Tells}
+use Rattle.tree_laws.proofs.Appended.{runs_more, runs_none}
+use Rattle.tree_laws.proofs.History.{NeverClimbs, IsHart, apart_alone, apart_calm, opened_ok, run_explained, run_ok, starts_alone, starts_calm, AllMayStart, Apart}
+use Rattle.tree_laws.proofs.Told.{event_tells, played_end, played_next, told_more}
 use Rattle.atomic_programs.specs.Prog.{Prog, Ret, Do, Did, Waits, Ran, Stops, asks, OfNext}
 use Rattle.atomic_programs.specs.Logic.{OpWithAnswer, Goes, Good, Grown, PlacesOne, Wp, onto, oldest_first, own}
 use Rattle.atomic_programs.specs.Calls.{Theory, Began, Begins, Begun, Came, Refuses, busy_in, Ends, Event, Start, Step, HonestStep, IsHonest, Run, Sound, State, AllHonest, all_told, begun, fresh, makes, moved, next, run, start_run, step_prog, step_run, step_unless, told, tried, unchanged}

@@ -5,7 +5,7 @@ use Rattle.plain_tree.specs.Tree.{put, settle}
 use Rattle.tree_laws.specs.WellFormed.{one_if, IsWellFormed}
 use Rattle.tree_laws.proofs.Maps.{put_same, put_other}
 use Rattle.tree_laws.proofs.Opened.{well_inherit}
-use Rattle.tree_moves.specs.Moves.{Stage, Takes}
+use Rattle.tree_laws.specs.Moves.{Stage, Takes}
 use Rattle.inode_machine.specs.World.{Mine, Desk, World, stage_of}
 use Rattle.inode_machine.specs.Exec.{with_walk, moved_in, serving}
 use Rattle.inode_machine.specs.Rules.{Own, Rests, own_of, shop_of, IsTied, Has, Inv}

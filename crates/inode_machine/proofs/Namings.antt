@@ -16,8 +16,8 @@ use Rattle.plain_tree.specs.Steps.{path_of, follows_path, refusal_with, refused,
 use Rattle.plain_tree.specs.Calls.{Act}
 use Rattle.plain_tree.specs.HartRow.{row_of}
 use Rattle.plain_tree.proofs.Settling.{settled_row}
-use Rattle.tree_moves.specs.Moves.{Stage, Step, Begins, MayEnd, fail}
-use Rattle.tree_moves.specs.Moves.Move.{Begin, Look}
+use Rattle.tree_laws.specs.Moves.{Stage, Step, Begins, MayEnd, fail}
+use Rattle.tree_laws.specs.Moves.Move.{Begin, Look}
 use Rattle.inode_machine.proofs.Names.{AllNames}
 use Rattle.inode_machine.specs.World.{Note, World, stage_of}
 use Rattle.inode_machine.specs.World.Op.{Join}

@@ -21,8 +21,8 @@ use Rattle.tree_laws.proofs.Facts.{look_live}
 use Rattle.tree_laws.proofs.Maps.{either, eq_is, put_same, put_other}
 use Rattle.tree_laws.proofs.Nodes.{live_some}
 use Rattle.tree_laws.proofs.Walks.{look_same}
-use Rattle.tree_moves.specs.Moves.{Deed, Walk, Move, Stage, Step, IsNext, begins}
-use Rattle.tree_moves.specs.Moves.Move.{Begin, Look}
+use Rattle.tree_laws.specs.Moves.{Deed, Walk, Move, Stage, Step, IsNext, begins}
+use Rattle.tree_laws.specs.Moves.Move.{Begin, Look}
 use Rattle.inode_machine.proofs.Names.{AllNames}
 use Rattle.inode_machine.specs.World.{Desk, Note, World, stage_of}
 use Rattle.inode_machine.specs.World.Op.{UpStart}

@@ -19,8 +19,8 @@ use Rattle.plain_tree.specs.Steps.{empty_it, has, has_room, lowest, node_or}
 use Rattle.plain_tree.specs.HartRow.{Key, Row, key_is, key_names}
 use Rattle.tree_laws.specs.WellFormed.{one_if}
 use Rattle.tree_laws.proofs.Maps.{and_true, either, eq_is, or_none, same_or, put_same, put_other}
-use Rattle.tree_moves.specs.Moves.{Step, MayEnd, IsWholeCall}
-use Rattle.tree_moves.specs.Moves.Move.{Begin, Own as OwnMove}
+use Rattle.tree_laws.specs.Moves.{Step, MayEnd, IsWholeCall}
+use Rattle.tree_laws.specs.Moves.Move.{Begin, Own as OwnMove}
 use Rattle.inode_machine.specs.World.{Desk, Note, World}
 use Rattle.inode_machine.specs.World.Op.{Empty}
 use Rattle.inode_machine.specs.Inodes.{is_file_sort, OfDirectory, Sort, open_refusal, sort_of}

@@ -13,7 +13,7 @@ use Rattle.plain_tree.specs.Widths.{hart_count}
 use Rattle.plain_tree.specs.Tree.{Name, Tree, settle}
 use Rattle.plain_tree.specs.Steps.{IsLeastUnused, answer_with, creates, effect_with, has_room, is_file, lowest, makes_node, node_at, node_or, open_kind, place_of, refusal_with, IsInPlace, StepWith}
 use Rattle.tree_laws.proofs.Maps.{eq_not, eq_self}
-use Rattle.tree_moves.specs.Moves.{Step, Move}
+use Rattle.tree_laws.specs.Moves.{Step, Move}
 use Rattle.inode_machine.specs.World.{World}
 use Rattle.inode_machine.specs.Inodes.{Sort, face_of, face_or, is_file_sort, open_refusal, sort_of, sort_of_kind}
 use Rattle.inode_machine.specs.Marks.{Made, acts, with_made}

@@ -11,7 +11,7 @@ use Rattle.plain_tree.proofs.Settling.{settle_nodes}
 use Rattle.tree_laws.specs.WellFormed.{links_of, folders_of, links_in, raises, Folders, IsForest, IsWellFormed}
 use Rattle.tree_laws.proofs.Maps.{same_or, put_same, put_other}
 use Rattle.tree_laws.proofs.Nodes.{folder_dead, dead_links, no_node, cwd_named, hold_named, file_named, folders_put, put_self, map_put}
-use Rattle.tree_moves.specs.Moves.{Step}
+use Rattle.tree_laws.specs.Moves.{Step}
 use Rattle.inode_machine.specs.Exec.{with_count}
 use Rattle.inode_machine.specs.Inodes.{sort_of}
 use Rattle.inode_machine.specs.World.{Note, World}

@@ -9,7 +9,7 @@ use Rattle.plain_tree.specs.Widths.{hart_count}
 use Rattle.plain_tree.specs.Tree.{put}
 use Rattle.tree_laws.specs.WellFormed.{one_if}
 use Rattle.tree_laws.proofs.Maps.{either, same_or, put_same, put_other}
-use Rattle.tree_moves.specs.Moves.{Step}
+use Rattle.tree_laws.specs.Moves.{Step}
 use Rattle.inode_machine.specs.World.{Desk, Note, World}
 use Rattle.inode_machine.specs.Exec.{with_count}
 use Rattle.inode_machine.specs.Rules.{Held, Own, own_names, own_of, machine}

@@ -21,8 +21,8 @@ use Rattle.plain_tree.specs.HartRow.{row_of}
 use Rattle.tree_laws.proofs.Maps.{put_same}
 use Rattle.tree_laws.proofs.Nodes.{live_is}
 use Rattle.tree_laws.proofs.Walks.{look_same}
-use Rattle.tree_moves.specs.Moves.{Walk, Step, MayEnd, IsPlayed, IsWholeCall, fail}
-use Rattle.tree_moves.specs.Moves.Move.{Begin, Look, Quit}
+use Rattle.tree_laws.specs.Moves.{Walk, Step, MayEnd, IsPlayed, IsWholeCall, fail}
+use Rattle.tree_laws.specs.Moves.Move.{Begin, Look, Quit}
 use Rattle.inode_machine.specs.World.{World, Mark}
 use Rattle.inode_machine.specs.World.Op.{Take}
 use Rattle.inode_machine.specs.Inodes.{Query, Sight, seen_in}

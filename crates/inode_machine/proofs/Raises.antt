@@ -12,8 +12,8 @@ use Rattle.plain_tree.specs.Widths.{count_limit, hart_count}
 use Rattle.plain_tree.specs.Tree.{Name, Tree, put, hold_names, settle, resolve, parent}
 use Rattle.plain_tree.specs.Steps.{follows_path, makes_node, node_or, path_of}
 use Rattle.tree_laws.proofs.Maps.{put_same}
-use Rattle.tree_moves.specs.Moves.{Stage, Step, Takes}
-use Rattle.tree_moves.specs.Moves.Move.{Own as OwnMove}
+use Rattle.tree_laws.specs.Moves.{Stage, Step, Takes}
+use Rattle.tree_laws.specs.Moves.Move.{Own as OwnMove}
 use Rattle.inode_machine.specs.World.{World, stage_of}
 use Rattle.inode_machine.specs.World.Op.{Store}
 use Rattle.inode_machine.specs.Inodes.{sort_of}

@@ -22,8 +22,8 @@ use Rattle.tree_laws.specs.WellFormed.{IsWellFormed}
 use Rattle.tree_laws.proofs.Maps.{same_or, put_same, put_other}
 use Rattle.tree_laws.proofs.Sums.{sum_same}
 use Rattle.tree_laws.proofs.Opened.{well_moved}
-use Rattle.tree_moves.specs.Moves.{Stage, Step}
-use Rattle.tree_moves.specs.Moves.Move.{Own as OwnMove}
+use Rattle.tree_laws.specs.Moves.{Stage, Step}
+use Rattle.tree_laws.specs.Moves.Move.{Own as OwnMove}
 use Rattle.inode_machine.specs.World.{Mine, Entry, World, LockResult as Lockup, NotLocked, LocksIt}
 use Rattle.inode_machine.specs.Marks.{places, with_mark, made_by, new_id, with_made}
 use Rattle.inode_machine.specs.Descriptors.{refused_read}

@@ -18,8 +18,8 @@ use Rattle.tree_laws.proofs.Walks.{look_same, look_in}
 use Rattle.tree_laws.proofs.Facts.{look_live}
 use Rattle.tree_laws.proofs.Placed.{can_go}
 use Rattle.tree_laws.proofs.Kept.{effect_well}
-use Rattle.tree_moves.specs.Moves.{Step}
-use Rattle.tree_moves.specs.Moves.Move.{Look}
+use Rattle.tree_laws.specs.Moves.{Step}
+use Rattle.tree_laws.specs.Moves.Move.{Look}
 use Rattle.inode_machine.specs.World.{World}
 use Rattle.inode_machine.specs.World.Op.{Clear}
 use Rattle.inode_machine.specs.Inodes.{Sort, OfDirectory, sort_of, sort_of_kind}

@@ -11,7 +11,7 @@ use Rattle.tree_laws.proofs.Sums.{one_yes, sum_same, sum_changed, sum_part}
 use Rattle.tree_laws.proofs.Facts.{look_live, folder_linked}
 use Rattle.tree_laws.proofs.Nodes.{linked_live}
 use Rattle.tree_laws.proofs.Walks.{look_same}
-use Rattle.tree_moves.specs.Moves.{Walk, Step, Takes, Stage}
+use Rattle.tree_laws.specs.Moves.{Walk, Step, Takes, Stage}
 use Rattle.inode_machine.specs.World.{Mine, Entry, World, Op, Answer, Mark, stage_of, Note, Outside, Take}
 use Rattle.inode_machine.specs.Exec.{file_count, with_refs, lock_if, counted_up, locked, up_if, has_place}
 use Rattle.inode_machine.specs.Marks.{marked, go, places, with_mark}

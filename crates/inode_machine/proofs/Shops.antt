@@ -10,8 +10,8 @@ use Rattle.plain_tree.specs.Steps.{path_of, follows_path, makes_node, StepWith, 
 use Rattle.plain_tree.specs.HartRow.{row_of, Row, key_names}
 use Rattle.plain_tree.specs.declared.tree.Hold.{Hold}
 use Rattle.tree_laws.specs.WellFormed.{sum_below, IsWellFormed}
-use Rattle.tree_moves.specs.Moves.{Takes}
-use Rattle.tree_moves.specs.Moves.Move.{Own as OwnMove}
+use Rattle.tree_laws.specs.Moves.{Takes}
+use Rattle.tree_laws.specs.Moves.Move.{Own as OwnMove}
 use Rattle.inode_machine.specs.World.{Mine, Entry, Desk, World, stage_of, Note}
 use Rattle.inode_machine.specs.Rules.{shop_of, Opens, own_names, IsReferredTo, IsAlone, reference_limit, HasType, Inv, key_in, Stands}
 use Rattle.inode_machine.proofs.Frame.{Kin, Did, Ours, stands_in, type_on}

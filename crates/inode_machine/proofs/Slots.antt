@@ -10,7 +10,7 @@ use Rattle.plain_tree.specs.HartRow.{row_of}
 use Rattle.tree_laws.specs.WellFormed.{sum_below, one_if}
 use Rattle.tree_laws.proofs.Maps.{and_true, any_none, eq_self, same_or, put_same, put_other}
 use Rattle.tree_laws.proofs.Sums.{sum_same}
-use Rattle.tree_moves.specs.Moves.{Step}
+use Rattle.tree_laws.specs.Moves.{Step}
 use Rattle.inode_machine.specs.World.{Desk, Mark, World}
 use Rattle.inode_machine.specs.World.Op.{Slot, Install}
 use Rattle.inode_machine.specs.World.Mark.{Mends}

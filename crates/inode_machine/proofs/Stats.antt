@@ -15,8 +15,8 @@ use Rattle.plain_tree.specs.Tree.{Name, Tree, put, settle, resolve, parent}
 use Rattle.plain_tree.specs.Steps.{node_or, node_at, stat_of, file_at, refusal_with, effect_with, answer_with, place_of, IsInPlace}
 use Rattle.plain_tree.proofs.Settling.{file_settled, settle_or, settle_again}
 use Rattle.tree_laws.proofs.Nodes.{file_named}
-use Rattle.tree_moves.specs.Moves.{Deed, Stage, Step}
-use Rattle.tree_moves.specs.Moves.Move.{Own as OwnMove}
+use Rattle.tree_laws.specs.Moves.{Deed, Stage, Step}
+use Rattle.tree_laws.specs.Moves.Move.{Own as OwnMove}
 use Rattle.inode_machine.specs.World.{World, Entry, Mark}
 use Rattle.inode_machine.specs.Inodes.{Face, face_of, face_or, sort_of, stat_of_face}
 use Rattle.inode_machine.specs.Rules.{Own, Opens, EntryOut, Inv, machine, own_of}

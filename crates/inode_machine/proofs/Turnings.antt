@@ -5,7 +5,7 @@ use Rattle.plain_tree.specs.Tree.{put}
 use Rattle.tree_laws.specs.WellFormed.{sum_below, one_if, IsWellFormed}
 use Rattle.tree_laws.proofs.Maps.{eq_self, same_or, put_same, put_other}
 use Rattle.tree_laws.proofs.Sums.{one_yes}
-use Rattle.tree_moves.specs.Moves.{Walk}
+use Rattle.tree_laws.specs.Moves.{Walk}
 use Rattle.inode_machine.specs.World.{Mine, Entry, Desk, World}
 use Rattle.inode_machine.specs.Exec.{child_of, given_of, serving, with_refs}
 use Rattle.inode_machine.specs.Inodes.{OfDirectory, sort_of}

@@ -22,7 +22,7 @@ use Rattle.tree_laws.proofs.Maps.{eq_not, same_or, put_same, put_other, or_none}
 use Rattle.tree_laws.proofs.Nodes.{live_is}
 use Rattle.tree_laws.proofs.Facts.{look_live, look_folder, entry_found, entry_apart}
 use Rattle.tree_laws.proofs.Walks.{look_bad, look_same}
-use Rattle.tree_moves.specs.Moves.{Step, MayEnd}
+use Rattle.tree_laws.specs.Moves.{Step, MayEnd}
 use Rattle.inode_machine.proofs.Names.{AllNames}
 use Rattle.inode_machine.specs.World.{Desk, World}
 use Rattle.inode_machine.specs.World.Op.{Take, Store}

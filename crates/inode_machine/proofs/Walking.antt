@@ -6,7 +6,7 @@ use Rattle.plain_tree.specs.Tree.{put, settle}
 use Rattle.plain_tree.specs.HartRow.{row_of}
 use Rattle.tree_laws.proofs.Maps.{eq_self, put_same, put_other}
 use Rattle.tree_laws.proofs.Sums.{sum_same}
-use Rattle.tree_moves.specs.Moves.{Walk, Step, Move, Takes}
+use Rattle.tree_laws.specs.Moves.{Walk, Step, Move, Takes}
 use Rattle.inode_machine.specs.World.{Mine, World, stage_of, Note}
 use Rattle.inode_machine.specs.Marks.{Made, with_made}
 use Rattle.inode_machine.specs.Exec.{with_walk}

@@ -13,8 +13,8 @@ use Rattle.plain_tree.specs.Steps.{refusal_with, refused, IsInPlace}
 use Rattle.plain_tree.specs.HartRow.{Row, key_names, row_of}
 use Rattle.tree_laws.specs.WellFormed.{one_if}
 use Rattle.tree_laws.proofs.Maps.{either, same_or, put_same, put_other}
-use Rattle.tree_moves.specs.Moves.{Walk, Deed, Stage, Step, Acts, Looks, fail}
-use Rattle.tree_moves.specs.Moves.Move.{Look, Quit}
+use Rattle.tree_laws.specs.Moves.{Walk, Deed, Stage, Step, Acts, Looks, fail}
+use Rattle.tree_laws.specs.Moves.Move.{Look, Quit}
 use Rattle.inode_machine.proofs.Names.{AllNames}
 use Rattle.inode_machine.specs.World.{Desk, Note, World, Mark}
 use Rattle.inode_machine.specs.World.Op.{Take, Give}

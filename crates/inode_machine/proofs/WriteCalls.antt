@@ -23,7 +23,7 @@ use Rattle.atomic_programs.specs.Prog.{Do, unmarked}
 use Rattle.tree_laws.proofs.Maps.{either, eq_isnt, same_or, put_same}
 use Rattle.inode_machine.specs.World.Op.{Leave}
 use Rattle.inode_machine.proofs.Resting.{given_is, idle_as, unlocks_nothing}
-use Rattle.tree_moves.specs.Moves.{Step, IsPlayed, IsWholeCall}
+use Rattle.tree_laws.specs.Moves.{Step, IsPlayed, IsWholeCall}
 use Rattle.inode_machine.specs.World.{World}
 use Rattle.inode_machine.specs.Rules.{Held, KeepsFiles, Own, Rests, own_of, nothing, Idle, machine}
 use Rattle.inode_machine.specs.Parts.{failed}

@@ -14,8 +14,8 @@ use Rattle.plain_tree.specs.Tree.{Name, Tree, put, is_live, settle, resolve, par
 use Rattle.plain_tree.specs.Steps.{is_file, node_or, refusal_with, with_nodes, write_kind}
 use Rattle.tree_laws.specs.WellFormed.{IsWellFormed}
 use Rattle.tree_laws.proofs.Maps.{same_or, put_same, put_other}
-use Rattle.tree_moves.specs.Moves.{Stage, Step, Takes}
-use Rattle.tree_moves.specs.Moves.Move.{Own as OwnMove}
+use Rattle.tree_laws.specs.Moves.{Stage, Step, Takes}
+use Rattle.tree_laws.specs.Moves.Move.{Own as OwnMove}
 use Rattle.inode_machine.specs.World.{Entry, Desk, World, stage_of, Outside, Room, RoomFor, Picks, JoinResult, NotJoined, Joined, Wrote, Whole, Refused as Stopped, Short}
 use Rattle.inode_machine.specs.World.Op.{CheckFile, JoinFile, LockOpen, WriteFile}
 use Rattle.inode_machine.specs.Inodes.{Sort, OfDirectory, OfFile, OfDevice, no_driver_for, sort_of, sort_of_kind}

@@ -12,7 +12,7 @@ use Rattle.plain_tree.specs.Steps.{content, node_or, is_used, lowest, has_room, 
 use Rattle.tree_laws.specs.WellFormed.{sum_below, one_if}
 use Rattle.atomic_programs.specs.Prog.{Did, Waits, Ran}
 use Rattle.inode_machine.specs.Inodes.{Sort, OfDirectory, OfFile, OfDevice, Face, face_of, face_or, seen_in, no_driver_for}
-use Rattle.tree_moves.specs.Moves.{Walk}
+use Rattle.tree_laws.specs.Moves.{Walk}
 use Rattle.inode_machine.specs.World.{Mine, Entry, Desk, World, Op, Answer, ClaimResult, New, NoInode, NoPlace, EntryResult, InPlace, NoBlock, NoSlot, LockResult, NotLocked, LocksIt, JoinResult, NotJoined, Joined, Wrote, Whole, Refused, Short, LoanResult, Lent, Moved, Outside, Room, RoomFor, Picks}
 use Rattle.inode_machine.specs.World.Op.{Take, Give, UpStart, Up, WalkDown, Down, Free, Forget, Claim, Store, Fill, Enter, Clear, Empty, Slot, Install, StatFile, LockFile, ReadFile, CheckFile, JoinFile, LockOpen, WriteFile, Double, Shut, Settle, Lend, LendDirectory, Release, Join, Leave, Say}
 

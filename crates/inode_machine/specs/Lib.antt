@@ -16,3 +16,4 @@ pub mod Histories
 pub mod Examples
 pub mod Stories
 pub mod Shortages
+pub mod Kept

@@ -10,8 +10,8 @@ use Rattle.plain_tree.specs.Tree.{Name, Tree, put, elements, look, start_of, res
 use Rattle.plain_tree.specs.Steps.{path_of, refusal, refusal_with, effect_with, answer_with, makes_node, opens_one, lowest, closed, drop_hold}
 use Rattle.atomic_programs.specs.Prog.{Did, Waits, Ran, Stops}
 use Rattle.inode_machine.specs.Inodes.{sort_of}
-use Rattle.tree_moves.specs.Moves.{Walk, fail, Deed, Move, Step}
-use Rattle.tree_moves.specs.Moves.Move.{Begin, Look, Quit, Own}
+use Rattle.tree_laws.specs.Moves.{Walk, fail, Deed, Move, Step}
+use Rattle.tree_laws.specs.Moves.Move.{Begin, Look, Quit, Own}
 use Rattle.inode_machine.specs.World.{Desk, World, Op, Answer, Outside, Mark}
 use Rattle.inode_machine.specs.World.Mark.{Makes, Frees, Orphans, Fills, Mends, Spoils}
 use Rattle.inode_machine.specs.Exec.{is_nothing, first_from, or_zero, with_walk, exec}

@@ -14,7 +14,7 @@ use Rattle.tree_laws.specs.WellFormed.{IsWellFormed}
 use Rattle.atomic_programs.specs.Prog.{Prog, Did}
 use Rattle.atomic_programs.specs.Logic.{Machine}
 use Rattle.atomic_programs.specs.Calls.{Theory, Began, Begins, Lawful, Event, Start, Step, Outcome, Started, Refused, WasIdle, DidWait, DidRun, DidEnd, DidStop, WasStopped, State, AllHonest, fresh, makes, next, run}
-use Rattle.tree_moves.specs.Moves.{Stage, Step as MoveStep, Takes, IsWholeCall}
+use Rattle.tree_laws.specs.Moves.{Stage, Step as MoveStep, Takes, IsWholeCall}
 
 -- a machine whose steps are moves of a call on the tree, and calls over it
 pub record MoveMachine : Type 1 where

@@ -12,7 +12,7 @@ use Rattle.plain_tree.specs.Tree.{Name, elements, same_name, dot, dotdot}
 use Rattle.plain_tree.specs.Widths.{count_limit}
 use Rattle.atomic_programs.specs.Prog.{Do, unmarked}
 use Rattle.inode_machine.specs.Inodes.{OfDirectory, Face, face_or, Sight, AtNothing, AtName, AtEntries, is_directory_sort, is_live_face}
-use Rattle.tree_moves.specs.Moves.Move.{Begin, Look}
+use Rattle.tree_laws.specs.Moves.Move.{Begin, Look}
 use Rattle.inode_machine.specs.World.{Mark, ClaimResult, New, NoInode, NoPlace, EntryResult, InPlace, NoBlock, NoSlot}
 use Rattle.inode_machine.specs.World.Op.{Take, Give, Up, Forget, Claim, Store, Fill, Enter, Clear, Join}
 use Rattle.inode_machine.specs.World.Mark.{Mends}

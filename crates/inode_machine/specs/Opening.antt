@@ -12,7 +12,7 @@ use Rattle.plain_tree.specs.Tree.{Name, elements}
 use Rattle.plain_tree.specs.Steps.{has, write_only, read_write, empty_it, creates}
 use Rattle.atomic_programs.specs.Prog.{Do, unmarked}
 use Rattle.inode_machine.specs.Inodes.{Sort, OfFile, face_or, AtNothing, AtName, is_file_sort, is_live_face, open_refusal}
-use Rattle.tree_moves.specs.Moves.Move.{Begin, Look}
+use Rattle.tree_laws.specs.Moves.Move.{Begin, Look}
 use Rattle.inode_machine.specs.World.{Mark, ClaimResult, New, NoInode, NoPlace, EntryResult, InPlace, NoBlock, NoSlot}
 use Rattle.inode_machine.specs.World.Op.{Take, Give, Up, Forget, Claim, Store, Enter, Empty, Slot, Install, Join}
 use Rattle.inode_machine.specs.World.Mark.{Mends, Orphans}

@@ -11,8 +11,8 @@ use Rattle.plain_tree.specs.declared.step.Action.{Action}
 use Rattle.plain_tree.specs.Tree.{Name, is_absolute}
 use Rattle.atomic_programs.specs.Prog.{Prog, Ret, Do, unmarked}
 use Rattle.inode_machine.specs.Inodes.{Sight, AtNothing, AtName, is_live_face, is_directory_face}
-use Rattle.tree_moves.specs.Moves.{Move}
-use Rattle.tree_moves.specs.Moves.Move.{Begin, Look, Quit, Own}
+use Rattle.tree_laws.specs.Moves.{Move}
+use Rattle.tree_laws.specs.Moves.Move.{Begin, Look, Quit, Own}
 use Rattle.inode_machine.specs.World.{Op, Answer, Mark}
 use Rattle.inode_machine.specs.World.Op.{Take, Give, UpStart, Up, WalkDown, Down, Free, Forget, Join, Leave, Say}
 use Rattle.inode_machine.specs.World.Mark.{Makes, Frees, Mends}

@@ -8,9 +8,9 @@ use Rattle.plain_tree.specs.Steps.{is_file, no_driver, holds_raised}
 use Rattle.plain_tree.specs.Tree.{Name, hold_names, is_directory, is_live, look}
 use Rattle.plain_tree.specs.HartRow.{Key, Row, row_of, key_names}
 use Rattle.tree_laws.specs.WellFormed.{sum_below, one_if, IsWellFormed}
-use Rattle.tree_moves.specs.Moves.{Walk}
+use Rattle.tree_laws.specs.Moves.{Walk}
 use Rattle.atomic_programs.specs.Logic.{Machine}
-use Rattle.tree_moves.specs.Moves.{Stage, Step, Takes}
+use Rattle.tree_laws.specs.Moves.{Stage, Step, Takes}
 use Rattle.inode_machine.specs.Inodes.{OfDirectory, sort_of, Query}
 use Rattle.inode_machine.specs.Inodes.Query.{AtNothing, AtName, AtEntries}
 use Rattle.inode_machine.specs.World.{Mine, Entry, Note, Desk, World, Op, Answer, Mark, Outside, stage_of}

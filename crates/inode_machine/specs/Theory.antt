@@ -8,7 +8,7 @@ use Rattle.plain_tree.specs.Widths.{hart_count, descriptor_count}
 use Rattle.tree_laws.specs.WellFormed.{one_if, sum_below, IsWellFormed}
 use Rattle.atomic_programs.specs.Calls.{Theory, Began, Refuses, Begins, Event, AllHonest, run, fresh}
 use Rattle.atomic_programs.specs.Explained.{IsExplained}
-use Rattle.tree_moves.specs.Moves.{IsWholeCall}
+use Rattle.tree_laws.specs.Moves.{IsWholeCall}
 use Rattle.inode_machine.specs.World.{Mine, Desk, World, Outside, stage_of}
 use Rattle.plain_tree.specs.declared.tree.OpenFile.{OpenFile}
 use Rattle.plain_tree.specs.declared.node.Node.{Node}

@@ -6,7 +6,7 @@ use Rattle.plain_tree.specs.declared.step.Action.{Action}
 use Rattle.plain_tree.specs.Tree.{Name, Tree, settle}
 use Rattle.plain_tree.specs.declared.tree.OpenFile.{OpenFile}
 use Rattle.inode_machine.specs.Inodes.{Sort, Face, Query, Sight}
-use Rattle.tree_moves.specs.Moves.{Walk, Stage, Move}
+use Rattle.tree_laws.specs.Moves.{Walk, Stage, Move}
 
 -- a hart's references, counted for it, and its walk
 pub record Mine : Type 0 where

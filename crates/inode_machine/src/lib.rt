@@ -8,6 +8,8 @@ ghost use Rattle.inode_machine.specs.Histories.{CallsHaveOneHistory, OneHartHasO
 ghost use Rattle.inode_machine.specs.Shortages.{NoOpenFileForNew, NoOpenFileLeft, NoPlaceLeft};
 ghost use Rattle.inode_machine.specs.Stories.{ClimbsAcross, LinksWhileUnlinked, OffsetIsShared, RaiseIsSeen, StaysInTheRemoved, WalkFails, WalkFailsStill};
 ghost use Rattle.inode_machine.specs.Theory.{CallsAreExplained, WorldsRest, WorldsStayInOrder, WorldsWithAFileRest};
+ghost use Rattle.inode_machine.specs.Kept.{RunsHaveTheHistory};
+ghost use Rattle.inode_machine.specs.Histories.{covered};
 
 /// For every list of events of any harts, the replies of all eleven calls, with any flags, of pieces and paths of any length,
 /// are those of one list of moves on the tree, each made between its call's start and return, as long as no step found no
@@ -110,4 +112,9 @@ pub fn harts_meet()
     ensures raised { RaiseIsSeen }
     ensures shared { OffsetIsShared }
     ensures climbed { ClimbsAcross }
+{}
+
+/// The list that is kept beside a run of the eleven calls over whole inodes explains it, and leads to its tree.
+pub fn runs_have_the_history()
+    ensures { RunsHaveTheHistory covered }
 {}

@@ -4,13 +4,13 @@ use Rattle.std.specs.Prelude.{IsSome}
 use Rattle.std.specs.Option.{MatchOption, option_map}
 use Rattle.sleep_lock.specs.SleepLock.{GuardState}
 use Rattle.fs_layout.specs.declared.inode.Dinode.{Dinode}
-use Rattle.fs_tables.specs.declared.inodes.Inode.{Inode}
-use Rattle.hands.specs.declared.hand.Hand.{Hand}
-use Rattle.hands.specs.declared.hand.Place.{Place}
-use Rattle.hands.specs.declared.hand.Place.TheVariants.{First, Second}
-use Rattle.hands.specs.declared.hand.Seat.{Seat}
-use Rattle.hands.specs.declared.hand.Seat.TheVariants.{One, Two}
-use Rattle.hands.specs.Hands.{inode_at, recorded, with_buffer, with_record}
+use Rattle.fs_machine.specs.declared.entries.Inode.{Inode}
+use Rattle.fs_machine.specs.declared.hand.Hand.{Hand}
+use Rattle.fs_machine.specs.declared.hand.Place.{Place}
+use Rattle.fs_machine.specs.declared.hand.Place.TheVariants.{First, Second}
+use Rattle.fs_machine.specs.declared.hand.Seat.{Seat}
+use Rattle.fs_machine.specs.declared.hand.Seat.TheVariants.{One, Two}
+use Rattle.fs_machine.specs.Hands.{inode_at, recorded, with_buffer, with_record}
 use Rattle.inode_data.specs.Emptying.{HasNoBuffer}
 use Rattle.inode_table.specs.HeldInodes.{unloaded, without_content, IsLoadedAt}
 use Rattle.inode_data.specs.InHand.{beside_buffers}

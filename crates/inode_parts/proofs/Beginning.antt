@@ -3,8 +3,8 @@ use Rattle.std.proofs.Common.{arith, ◌≡◌, ◌⊎◌, inl, inr, ℕ, subst}
 use Rattle.std.specs.Prelude.{◌<◌, ◌-◌, ◌^◌, IsSome}
 use Rattle.fs_layout.specs.declared.superblock.Super.{Super}
 use Rattle.inode_table.specs.Programs.{inode_block}
-use Rattle.hands.specs.declared.hand.Hand.{Hand}
-use Rattle.hands.specs.Hands.{inode_at}
+use Rattle.fs_machine.specs.declared.hand.Hand.{Hand}
+use Rattle.fs_machine.specs.Hands.{inode_at}
 use Rattle.inode_data.specs.Emptying.{HasNoBuffer}
 use Rattle.inode_table.specs.HeldInodes.{number_in}
 use Rattle.inode_machine.specs.Inodes.{AtNothing, Query}

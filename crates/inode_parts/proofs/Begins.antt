@@ -9,21 +9,21 @@ use Rattle.atomic_programs.specs.Prog.{Prog, Ret, Do, bind, plain, unmarked}
 use Rattle.sleep_lock.specs.SleepLock.{GuardState}
 use Rattle.fs_layout.specs.declared.inode.Dinode.{Dinode}
 use Rattle.fs_layout.specs.declared.superblock.Super.{Super}
-use Rattle.fs_tables.specs.declared.inodes.Inode.{Inode}
-use Rattle.fs_tables.specs.declared.slots.Given.{Given}
-use Rattle.fs_tables.specs.declared.slots.Given.TheVariants as given
+use Rattle.fs_machine.specs.declared.entries.Inode.{Inode}
+use Rattle.fs_machine.specs.declared.slots.Given.{Given}
+use Rattle.fs_machine.specs.declared.slots.Given.TheVariants as given
 use Rattle.group_log.specs.declared.log.Left.{Left}
 use Rattle.group_log.specs.declared.log.Left.TheVariants.{Free, Commits}
 use Rattle.atomic_programs.specs.Joined.{holding}
 use Rattle.fs_machine.specs.Steps as steps
 use Rattle.fs_machine.specs.Machines.{P}
 use Rattle.fs_machine.specs.Programs.{after_leave, commit_unless, commits, most_writes}
-use Rattle.hands.specs.declared.hand.Hand.{Hand}
-use Rattle.hands.specs.declared.hand.Seat.{Seat}
-use Rattle.hands.specs.declared.hand.Seat.TheVariants.{One, Two}
-use Rattle.hands.specs.Hands.{inode_at, inode_in, no_inode, number_at, reference_at}
+use Rattle.fs_machine.specs.declared.hand.Hand.{Hand}
+use Rattle.fs_machine.specs.declared.hand.Seat.{Seat}
+use Rattle.fs_machine.specs.declared.hand.Seat.TheVariants.{One, Two}
+use Rattle.fs_machine.specs.Hands.{inode_at, inode_in, no_inode, number_at, reference_at}
 use Rattle.inode_machine.specs.World as above
-use Rattle.inodes_on_tables.specs.Shown.{new_file}
+use Rattle.inodes_on_blocks.specs.ShownTables.{new_file}
 use Rattle.inodes_on_blocks.specs.Handlers.{Acts, joining_to, lent_to, with_dying, is_listed, is_dying}
 use Rattle.inodes_on_blocks.specs.Lowering.{Carry, Had, Apart, record_had}
 use Rattle.path_walk.specs.Asks.{joined_in, loan_in, op_in}

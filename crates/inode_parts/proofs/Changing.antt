@@ -7,13 +7,13 @@ use Rattle.tree_laws.proofs.Maps.{eq_is}
 use Rattle.atomic_programs.specs.Prog.{Ret}
 use Rattle.sleep_lock.specs.SleepLock.{GuardState}
 use Rattle.fs_layout.specs.declared.inode.Dinode.{Dinode}
-use Rattle.fs_tables.specs.declared.inodes.Inode.{Inode}
+use Rattle.fs_machine.specs.declared.entries.Inode.{Inode}
 use Rattle.inode_table.specs.Programs.{record_of}
-use Rattle.hands.specs.declared.hand.Hand.{Hand}
-use Rattle.hands.specs.declared.hand.Seat.{Seat}
-use Rattle.hands.specs.declared.hand.Seat.TheVariants.{One, Two}
-use Rattle.hands.specs.Controls.{bare, without_record}
-use Rattle.hands.specs.Hands.{inode_at, no_inode, recorded, with_record}
+use Rattle.fs_machine.specs.declared.hand.Hand.{Hand}
+use Rattle.fs_machine.specs.declared.hand.Seat.{Seat}
+use Rattle.fs_machine.specs.declared.hand.Seat.TheVariants.{One, Two}
+use Rattle.fs_machine.specs.Controls.{bare, without_record}
+use Rattle.fs_machine.specs.Hands.{inode_at, no_inode, recorded, with_record}
 use Rattle.inode_data.specs.Emptying.{beside_emptying}
 use Rattle.inode_table.specs.HeldInodes.{record_in, without_content, IsLoadedAt}
 use Rattle.inode_data.specs.declared.truncate.Emptying.{Emptying}

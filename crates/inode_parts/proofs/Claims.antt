@@ -10,20 +10,20 @@ use Rattle.fs_machine.specs.Programs.{fetch}
 use Rattle.fs_machine.specs.Steps as steps
 use Rattle.inode_table.specs.NewInodes.{free_in, inode_blocks, look_in, make_in, new_from, new_inode}
 use Rattle.inode_table.specs.declared.new_inode.Made.{Made}
-use Rattle.hands.specs.Controls.{Goes}
-use Rattle.hands.specs.Hands.{reference_at, with_reference}
-use Rattle.hands.specs.declared.hand.Hand.{Hand}
-use Rattle.hands.specs.declared.hand.Seat.{Seat}
-use Rattle.hands.specs.declared.hand.Seat.TheVariants.{One, Two}
+use Rattle.fs_machine.specs.Controls.{Goes}
+use Rattle.fs_machine.specs.Hands.{reference_at, with_reference}
+use Rattle.fs_machine.specs.declared.hand.Hand.{Hand}
+use Rattle.fs_machine.specs.declared.hand.Seat.{Seat}
+use Rattle.fs_machine.specs.declared.hand.Seat.TheVariants.{One, Two}
 use Rattle.inode_table.specs.Making.{beside_new, new_left, new_value}
 use Rattle.inode_table.specs.Making as making
 use Rattle.inode_table.specs.declared.new_inode.Made.TheVariants as searched
 use Rattle.inode_table.specs.declared.new_inode.NewInode.{NewInode}
-use Rattle.hands.proofs.Goings.{goes_to, goes_with}
+use Rattle.fs_machine.proofs.Goings.{goes_to, goes_with}
 use Rattle.inode_machine.specs.Inodes.{OfDevice, OfDirectory, OfFile, Sort}
 use Rattle.inode_machine.specs.World as above
 use Rattle.inode_machine.specs.World.Op.{Claim}
-use Rattle.inodes_on_tables.specs.Shown.{kind_of}
+use Rattle.inodes_on_blocks.specs.ShownTables.{kind_of}
 use Rattle.inodes_on_blocks.specs.Lowering.{Carry}
 use Rattle.inodes_on_blocks.specs.Making.{claim_at, claim_from, claim_in}
 use Rattle.path_walk.specs.Asks.{claimed_in, claimed_of}

@@ -11,20 +11,20 @@ use Rattle.fs_layout.specs.Widths.{dirents_per_block}
 use Rattle.atomic_programs.specs.Prog.{Ret, Do, bind, plain, unmarked}
 use Rattle.atomic_programs.specs.Joined.{Handover}
 use Rattle.atomic_programs.proofs.Prog.{bind-assoc}
-use Rattle.fs_tables.specs.declared.inodes.Inode.{Inode}
+use Rattle.fs_machine.specs.declared.entries.Inode.{Inode}
 use Rattle.fs_machine.specs.Machines.{P}
 use Rattle.fs_machine.specs.Programs.{fetch}
 use Rattle.fs_machine.specs.Steps as steps
 use Rattle.inode_table.specs.Programs.{inode_block, record_of, store as store_inode}
 use Rattle.inode_data.specs.Programs.{FetchedBlock, fetch_block}
 use Rattle.directory.specs.Programs.{Named, give_record, put_dirent, put_entry, search, with_dirent, with_slot}
-use Rattle.hands.specs.declared.hand.Hand.{Hand}
-use Rattle.hands.specs.declared.hand.Seat.{Seat}
-use Rattle.hands.specs.declared.hand.Seat.TheVariants.{One, Two}
-use Rattle.hands.specs.Controls.{Goes}
-use Rattle.hands.specs.Hands.{inode_at, inode_in, no_inode}
+use Rattle.fs_machine.specs.declared.hand.Hand.{Hand}
+use Rattle.fs_machine.specs.declared.hand.Seat.{Seat}
+use Rattle.fs_machine.specs.declared.hand.Seat.TheVariants.{One, Two}
+use Rattle.fs_machine.specs.Controls.{Goes}
+use Rattle.fs_machine.specs.Hands.{inode_at, inode_in, no_inode}
 use Rattle.inode_table.specs.HeldInodes.{IsLoadedAt}
-use Rattle.hands.proofs.Goings.{goes_with}
+use Rattle.fs_machine.proofs.Goings.{goes_with}
 use Rattle.directory.specs.Clearing.{clear_left}
 use Rattle.inode_data.specs.InHand.{beside_buffers}
 use Rattle.inode_machine.specs.World as above

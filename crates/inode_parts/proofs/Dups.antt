@@ -4,7 +4,7 @@ use Rattle.plain_tree.specs.declared.answer.Answer.TheVariants as answers
 use Rattle.plain_tree.specs.declared.answer.Full.TheVariants.{Descriptors}
 use Rattle.plain_tree.specs.declared.answer.Reply.{Reply}
 use Rattle.plain_tree.specs.declared.call.Call.TheVariants as calls
-use Rattle.hands.specs.Empty.{IsEmpty}
+use Rattle.fs_machine.specs.Empty.{IsEmpty}
 use Rattle.inode_machine.specs.Descriptors.{dup_on}
 use Rattle.inode_machine.specs.Parts.{full, say}
 use Rattle.inode_parts.specs.Expecting.{BeginsWith}

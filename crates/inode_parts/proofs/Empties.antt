@@ -6,19 +6,19 @@ use Rattle.plain_tree.specs.Tree.{put}
 use Rattle.atomic_programs.specs.Prog.{Ret, bind}
 use Rattle.atomic_programs.specs.Joined.{Handover}
 use Rattle.atomic_programs.proofs.Prog.{bind-assoc}
-use Rattle.fs_tables.specs.declared.inodes.Inode.{Inode}
+use Rattle.fs_machine.specs.declared.entries.Inode.{Inode}
 use Rattle.fs_machine.specs.Machines.{P}
 use Rattle.fs_machine.specs.Programs.{fetch}
 use Rattle.fs_machine.specs.Steps as steps
 use Rattle.inode_table.specs.Programs.{inode_block, record_of, store as store_inode}
 use Rattle.inode_data.specs.Freeing.{store_record, truncate, without_content}
-use Rattle.hands.specs.declared.hand.Hand.{Hand}
-use Rattle.hands.specs.Controls.{Goes}
-use Rattle.hands.specs.Hands.{inode_in, with_record}
+use Rattle.fs_machine.specs.declared.hand.Hand.{Hand}
+use Rattle.fs_machine.specs.Controls.{Goes}
+use Rattle.fs_machine.specs.Hands.{inode_in, with_record}
 use Rattle.inode_data.specs.Emptying.{beside_emptying, emptying_of, truncate_left}
 use Rattle.inode_table.specs.HeldInodes.{record_in, IsLoadedAt}
 use Rattle.inode_data.specs.declared.truncate.Emptying.{Emptying}
-use Rattle.hands.proofs.Goings.{goes_with}
+use Rattle.fs_machine.proofs.Goings.{goes_with}
 use Rattle.inode_machine.specs.World as above
 use Rattle.inodes_on_blocks.specs.Handlers as handlers
 use Rattle.inodes_on_blocks.specs.Lowering.{NothingMore, Carry, Has, record_had}

@@ -10,7 +10,7 @@ use Rattle.plain_tree.specs.Tree.{Name, put}
 use Rattle.atomic_programs.specs.Prog.{Ret, Do, asks, bind, plain}
 use Rattle.atomic_programs.specs.Joined.{Handover}
 use Rattle.atomic_programs.proofs.Prog.{bind-assoc}
-use Rattle.fs_tables.specs.declared.inodes.Inode.{Inode}
+use Rattle.fs_machine.specs.declared.entries.Inode.{Inode}
 use Rattle.fs_machine.specs.Machines.{P}
 use Rattle.fs_machine.specs.Steps as steps
 use Rattle.inode_table.specs.Programs.{inode_block, record_of, store as store_inode}
@@ -24,11 +24,11 @@ use Rattle.directory.specs.declared.enter.Room.TheVariants as room
 use Rattle.directory.specs.declared.found.Found.{Found}
 use Rattle.directory.specs.Entering.{EnteredState, enter as code_enter, enter_at, enter_in as code_enter_in, entered_by, slot_for}
 use Rattle.directory.specs.Programs.{Unused, block_count, look_at, search, search_from, slot_count}
-use Rattle.hands.specs.declared.hand.Hand.{Hand}
-use Rattle.hands.specs.declared.hand.Seat.{Seat}
-use Rattle.hands.specs.Controls.{Goes}
-use Rattle.hands.specs.Hands.{inode_in}
-use Rattle.hands.proofs.Goings.{goes_with}
+use Rattle.fs_machine.specs.declared.hand.Hand.{Hand}
+use Rattle.fs_machine.specs.declared.hand.Seat.{Seat}
+use Rattle.fs_machine.specs.Controls.{Goes}
+use Rattle.fs_machine.specs.Hands.{inode_in}
+use Rattle.fs_machine.proofs.Goings.{goes_with}
 use Rattle.directory.specs.EnterParts.{enter_left}
 use Rattle.inode_data.specs.InHand.{beside_buffers}
 use Rattle.inode_machine.specs.World as above

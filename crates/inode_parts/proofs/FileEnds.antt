@@ -3,11 +3,11 @@ use Rattle.std.proofs.Common.{◌≡◌, ℕ, List, Some, None, sym, ap, subst, 
 use Rattle.plain_tree.specs.declared.answer.Cause.{Cause}
 use Rattle.fs_layout.specs.declared.inode.Dinode.{Dinode}
 use Rattle.atomic_programs.specs.Prog.{Ret}
-use Rattle.fs_tables.specs.Inodes.{Refuses, Locks}
-use Rattle.fs_tables.specs.declared.files.Refused.{Refused}
-use Rattle.hands.specs.Hands.{inode_at}
-use Rattle.hands.specs.declared.hand.Hand.{Hand}
-use Rattle.hands.specs.declared.hand.Seat.{Seat}
+use Rattle.fs_machine.specs.Inodes.{Refuses, Locks}
+use Rattle.fs_machine.specs.declared.files.Refused.{Refused}
+use Rattle.fs_machine.specs.Hands.{inode_at}
+use Rattle.fs_machine.specs.declared.hand.Hand.{Hand}
+use Rattle.fs_machine.specs.declared.hand.Seat.{Seat}
 use Rattle.inode_table.specs.HeldInodes.{record_in}
 use Rattle.file_table.specs.LockingFiles.{HasFile}
 use Rattle.file_table.specs.declared.lock_file.HeldFile.{HeldFile}

@@ -5,14 +5,14 @@ use Rattle.fs_layout.specs.declared.superblock.Super.{Super}
 use Rattle.atomic_programs.specs.Prog.{Ret, Do, bind, plain, unmarked}
 use Rattle.atomic_programs.specs.Joined.{Handover}
 use Rattle.atomic_programs.proofs.Prog.{bind-assoc}
-use Rattle.fs_tables.specs.Inodes.{LockedState, Refuses, Locks}
-use Rattle.fs_tables.specs.declared.files.OpenFile.{OpenFile}
-use Rattle.fs_tables.specs.declared.files.Want.TheVariants as want
+use Rattle.fs_machine.specs.Inodes.{LockedState, Refuses, Locks}
+use Rattle.fs_machine.specs.declared.files.OpenFile.{OpenFile}
+use Rattle.fs_machine.specs.declared.files.Want.TheVariants as want
 use Rattle.fs_machine.specs.Machines as code
 use Rattle.fs_machine.specs.Steps as steps
 use Rattle.inode_table.specs.Programs.{load_unless}
-use Rattle.hands.specs.Hands.{inode_at}
-use Rattle.hands.specs.declared.hand.Hand.{Hand}
+use Rattle.fs_machine.specs.Hands.{inode_at}
+use Rattle.fs_machine.specs.declared.hand.Hand.{Hand}
 use Rattle.file_table.specs.LockingFiles.{load_locked, load_open, lock_file_loaded, lock_open_loaded, locks, opens, file_left, file_seat, open_left, open_seat}
 use Rattle.file_table.specs.declared.lock_file.LockFile.{LockFile}
 use Rattle.file_table.specs.declared.lock_open.LockOpen.{LockOpen}

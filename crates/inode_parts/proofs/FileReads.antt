@@ -9,16 +9,16 @@ use Rattle.fs_layout.specs.declared.superblock.Super.{Super}
 use Rattle.atomic_programs.specs.Prog.{Ret, Do, bind, plain, unmarked}
 use Rattle.atomic_programs.specs.Joined.{Handover}
 use Rattle.atomic_programs.proofs.Prog.{bind-assoc}
-use Rattle.fs_tables.specs.declared.inodes.Inode.{Inode}
+use Rattle.fs_machine.specs.declared.entries.Inode.{Inode}
 use Rattle.fs_machine.specs.Machines as code
 use Rattle.fs_machine.specs.Steps as steps
 use Rattle.inode_table.specs.Programs.{record_of}
 use Rattle.inode_data.specs.Programs.{FilledMemory, blocks_between, end_of, read_from}
-use Rattle.hands.specs.Controls.{Goes}
-use Rattle.hands.specs.Hands.{inode_at, inode_in, with_inode}
-use Rattle.hands.specs.declared.hand.Hand.{Hand}
+use Rattle.fs_machine.specs.Controls.{Goes}
+use Rattle.fs_machine.specs.Hands.{inode_at, inode_in, with_inode}
+use Rattle.fs_machine.specs.declared.hand.Hand.{Hand}
 use Rattle.inode_table.specs.HeldInodes.{record_in}
-use Rattle.hands.proofs.Goings.{goes_with}
+use Rattle.fs_machine.proofs.Goings.{goes_with}
 use Rattle.inode_data.specs.InHand.{beside_buffers}
 use Rattle.inode_data.specs.PartReading.{filled_to, read_count, read_left, ReadReady}
 use Rattle.inode_data.specs.declared.read_part.ReadPart.{ReadPart}

@@ -3,14 +3,14 @@ use Rattle.std.proofs.Common.{◌≡◌, ℕ, List, Some, None, refl, sym, ap, s
 use Rattle.fs_layout.specs.declared.inode.Dinode.{Dinode}
 use Rattle.fs_layout.specs.declared.superblock.Super.{Super}
 use Rattle.atomic_programs.specs.Prog.{Ret, Do, bind, plain, unmarked}
-use Rattle.fs_tables.specs.Inodes.{LockedState, Refuses, Locks}
-use Rattle.fs_tables.specs.declared.files.Refused.{Refused}
-use Rattle.fs_tables.specs.declared.files.Want.TheVariants as want
+use Rattle.fs_machine.specs.Inodes.{LockedState, Refuses, Locks}
+use Rattle.fs_machine.specs.declared.files.Refused.{Refused}
+use Rattle.fs_machine.specs.declared.files.Want.TheVariants as want
 use Rattle.fs_machine.specs.Machines as code
 use Rattle.fs_machine.specs.Steps as steps
-use Rattle.hands.specs.Hands.{inode_at}
-use Rattle.hands.specs.declared.hand.Hand.{Hand}
-use Rattle.hands.specs.declared.hand.Seat.{Seat}
+use Rattle.fs_machine.specs.Hands.{inode_at}
+use Rattle.fs_machine.specs.declared.hand.Hand.{Hand}
+use Rattle.fs_machine.specs.declared.hand.Seat.{Seat}
 use Rattle.inode_table.specs.HeldInodes.{record_in}
 use Rattle.file_table.specs.LockingFiles.{load_locked, lock_file_loaded, file_left, file_seat, HasFile}
 use Rattle.file_table.specs.declared.lock_file.HeldFile.{HeldFile}

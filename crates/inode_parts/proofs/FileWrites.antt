@@ -11,20 +11,20 @@ use Rattle.atomic_programs.specs.Prog.{Ret, Do, bind, plain, unmarked}
 use Rattle.atomic_programs.specs.Joined.{Handover}
 use Rattle.atomic_programs.proofs.Prog.{bind-assoc}
 use Rattle.sleep_lock.specs.SleepLock.{GuardState}
-use Rattle.fs_tables.specs.declared.inodes.Inode.{Inode}
+use Rattle.fs_machine.specs.declared.entries.Inode.{Inode}
 use Rattle.fs_machine.specs.Machines as code
 use Rattle.fs_machine.specs.Steps as steps
 use Rattle.inode_table.specs.Programs.{record_of, store as store_inode}
 use Rattle.inode_data.specs.Programs.{blocks_between}
 use Rattle.inode_data.specs.Writing.{WriteResult, grown, store_written, write_blocks, write_part}
-use Rattle.hands.specs.Controls.{Goes}
-use Rattle.hands.specs.Hands.{inode_at, inode_in, recorded, with_inode, with_record}
-use Rattle.hands.specs.declared.hand.Hand.{Hand}
-use Rattle.hands.specs.declared.hand.Seat.{Seat}
-use Rattle.hands.specs.declared.hand.Seat.TheVariants.{One, Two}
+use Rattle.fs_machine.specs.Controls.{Goes}
+use Rattle.fs_machine.specs.Hands.{inode_at, inode_in, recorded, with_inode, with_record}
+use Rattle.fs_machine.specs.declared.hand.Hand.{Hand}
+use Rattle.fs_machine.specs.declared.hand.Seat.{Seat}
+use Rattle.fs_machine.specs.declared.hand.Seat.TheVariants.{One, Two}
 use Rattle.inode_data.specs.Emptying.{HasNoBuffer}
 use Rattle.inode_table.specs.HeldInodes.{number_in, record_in, IsLoadedAt}
-use Rattle.hands.proofs.Goings.{goes_to, goes_with}
+use Rattle.fs_machine.proofs.Goings.{goes_to, goes_with}
 use Rattle.inode_table.proofs.Goings.{recorded-in}
 use Rattle.inode_data.specs.InHand.{beside_buffers}
 use Rattle.inode_data.specs.PartWriting.{write_left, written_as, WriteReady}

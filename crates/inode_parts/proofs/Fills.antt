@@ -6,17 +6,17 @@ use Rattle.fs_layout.specs.declared.superblock.Super.{Super}
 use Rattle.atomic_programs.specs.Prog.{Ret, bind, plain}
 use Rattle.atomic_programs.specs.Joined.{Handover}
 use Rattle.atomic_programs.proofs.Prog.{bind-assoc}
-use Rattle.fs_tables.specs.declared.inodes.Inode.{Inode}
+use Rattle.fs_machine.specs.declared.entries.Inode.{Inode}
 use Rattle.fs_machine.specs.Machines.{P}
 use Rattle.fs_machine.specs.Steps as steps
 use Rattle.inode_table.specs.Programs.{record_of, store as store_inode}
 use Rattle.inode_data.specs.Programs.{blocks_between}
 use Rattle.inode_data.specs.Writing.{WriteResult, grown, store_written, write_blocks, write_part}
-use Rattle.hands.specs.declared.hand.Hand.{Hand}
-use Rattle.hands.specs.declared.hand.Seat.{Seat}
-use Rattle.hands.specs.Controls.{Goes}
-use Rattle.hands.specs.Hands.{inode_in}
-use Rattle.hands.proofs.Goings.{goes_with}
+use Rattle.fs_machine.specs.declared.hand.Hand.{Hand}
+use Rattle.fs_machine.specs.declared.hand.Seat.{Seat}
+use Rattle.fs_machine.specs.Controls.{Goes}
+use Rattle.fs_machine.specs.Hands.{inode_in}
+use Rattle.fs_machine.proofs.Goings.{goes_with}
 use Rattle.directory.specs.Filling.{dots, fill as fill_names, fill_left, filled_by}
 use Rattle.inode_data.specs.InHand.{beside_buffers}
 use Rattle.directory.specs.declared.fill.Filled.{Filled}

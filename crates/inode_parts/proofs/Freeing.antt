@@ -5,15 +5,15 @@ use Rattle.fs_layout.specs.declared.superblock.Super.{Super}
 use Rattle.atomic_programs.specs.Prog.{Ret, Do, bind, plain, unmarked}
 use Rattle.atomic_programs.specs.Joined.{Handover}
 use Rattle.atomic_programs.proofs.Prog.{bind-assoc, plain-bind}
-use Rattle.fs_tables.specs.declared.inodes.Inode.{Inode}
+use Rattle.fs_machine.specs.declared.entries.Inode.{Inode}
 use Rattle.fs_machine.specs.Machines as code
 use Rattle.fs_machine.specs.Programs.{fetch}
 use Rattle.fs_machine.specs.Steps as steps
 use Rattle.inode_table.specs.Programs.{inode_block, put_inode, record_of, store as store_inode, with_dinode}
 use Rattle.inode_data.specs.Freeing.{freed, store_record, truncate, without_content}
-use Rattle.hands.specs.Hands.{inode_at, inode_in}
-use Rattle.hands.specs.declared.hand.Hand.{Hand}
-use Rattle.hands.specs.declared.hand.Seat.{Seat}
+use Rattle.fs_machine.specs.Hands.{inode_at, inode_in}
+use Rattle.fs_machine.specs.declared.hand.Hand.{Hand}
+use Rattle.fs_machine.specs.declared.hand.Seat.{Seat}
 use Rattle.inode_data.specs.Emptying.{beside_emptying, IsEmptying}
 use Rattle.inode_data.specs.FreeingInodes.{free_record, freeing_left, store_free}
 use Rattle.inode_table.specs.HeldInodes.{number_in, record_in as record_at}

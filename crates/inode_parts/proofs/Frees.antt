@@ -5,19 +5,19 @@ use Rattle.std.specs.Option.{MatchOption, option_map, option_map_or}
 use Rattle.atomic_programs.specs.Prog.{Ret, bind}
 use Rattle.plain_tree.specs.Tree.{put}
 use Rattle.sleep_lock.specs.SleepLock.{GuardState}
-use Rattle.fs_tables.specs.declared.inodes.Inode.{Inode}
+use Rattle.fs_machine.specs.declared.entries.Inode.{Inode}
 use Rattle.fs_machine.specs.Steps as steps
-use Rattle.hands.specs.Controls.{Goes}
-use Rattle.hands.specs.Hands.{inode_at, inode_in, no_inode}
-use Rattle.hands.specs.declared.hand.Hand.{Hand}
-use Rattle.hands.specs.declared.hand.Seat.{Seat}
-use Rattle.hands.specs.declared.hand.Seat.TheVariants.{One, Two}
+use Rattle.fs_machine.specs.Controls.{Goes}
+use Rattle.fs_machine.specs.Hands.{inode_at, inode_in, no_inode}
+use Rattle.fs_machine.specs.declared.hand.Hand.{Hand}
+use Rattle.fs_machine.specs.declared.hand.Seat.{Seat}
+use Rattle.fs_machine.specs.declared.hand.Seat.TheVariants.{One, Two}
 use Rattle.inode_data.specs.Emptying.{beside_emptying}
 use Rattle.inode_data.specs.FreeingInodes.{freeing_left, freeing_of, IsUnloadedAt}
 use Rattle.inode_table.specs.HeldInodes.{number_in, without_content}
 use Rattle.inode_data.specs.declared.free_inode.FreeInode.{FreeInode}
 use Rattle.inode_data.specs.declared.truncate.Emptying.{Emptying}
-use Rattle.hands.proofs.Goings.{goes_to, goes_with}
+use Rattle.fs_machine.proofs.Goings.{goes_to, goes_with}
 use Rattle.inode_data.proofs.Goings.{number-kept}
 use Rattle.inodes_on_blocks.specs.Lowering.{Emptied}
 use Rattle.path_walk.specs.declared.asks.Heard.TheVariants as heard

@@ -8,19 +8,19 @@ use Rattle.plain_tree.specs.Widths.{descriptor_count, root}
 use Rattle.atomic_programs.specs.Prog.{Ret}
 use Rattle.sleep_lock.specs.SleepLock.{GuardState}
 use Rattle.fs_layout.specs.declared.inode.Dinode.{Dinode}
-use Rattle.fs_tables.specs.declared.inodes.Inode.{Inode}
-use Rattle.fs_tables.specs.declared.files.NewFile.{NewFile}
-use Rattle.fs_tables.specs.declared.files.Want.TheVariants as want
+use Rattle.fs_machine.specs.declared.entries.Inode.{Inode}
+use Rattle.fs_machine.specs.declared.files.NewFile.{NewFile}
+use Rattle.fs_machine.specs.declared.files.Want.TheVariants as want
 use Rattle.fs_machine.specs.Steps as steps
-use Rattle.hands.specs.Controls.{Goes}
-use Rattle.hands.specs.Hands.{inode_at, inode_in, number_at, reference_at, with_inode, with_seated, with_txn}
-use Rattle.hands.specs.Ops.{IsAfter, IsHanded, IsJoined, IsKept, IsLent, IsOpened, answer_in, doubled_by, given_by, joined_by, number_by, refused_by, shut_by, yes_in}
-use Rattle.hands.specs.declared.hand.Hand.{Hand}
-use Rattle.hands.specs.declared.hand.Seat.{Seat}
-use Rattle.hands.specs.declared.hand.Seat.TheVariants.{One, Two}
-use Rattle.hands.specs.declared.op.Answer.{Answer}
-use Rattle.hands.specs.declared.op.Answer.TheVariants as answers
-use Rattle.hands.specs.declared.op.Op.TheVariants as ops
+use Rattle.fs_machine.specs.Controls.{Goes}
+use Rattle.fs_machine.specs.Hands.{inode_at, inode_in, number_at, reference_at, with_inode, with_seated, with_txn}
+use Rattle.fs_machine.specs.Ops.{IsAfter, IsHanded, IsJoined, IsKept, IsLent, IsOpened, answer_in, doubled_by, given_by, joined_by, number_by, refused_by, shut_by, yes_in}
+use Rattle.fs_machine.specs.declared.hand.Hand.{Hand}
+use Rattle.fs_machine.specs.declared.hand.Seat.{Seat}
+use Rattle.fs_machine.specs.declared.hand.Seat.TheVariants.{One, Two}
+use Rattle.fs_machine.specs.declared.op.Answer.{Answer}
+use Rattle.fs_machine.specs.declared.op.Answer.TheVariants as answers
+use Rattle.fs_machine.specs.declared.op.Op.TheVariants as ops
 use Rattle.inodes_on_blocks.specs.Handlers as handlers
 use Rattle.inodes_on_blocks.specs.Handlers.{cause_if, doubled_to, is_dying, is_listed, old_directory, shut_to}
 use Rattle.path_walk.specs.declared.asks.Heard.{Heard}
@@ -29,9 +29,9 @@ use Rattle.path_walk.specs.declared.asks.Joined.{Joined}
 use Rattle.path_walk.specs.declared.asks.Loan.{Loan}
 use Rattle.inode_parts.specs.Carries.{carry_in, handed, had_of, with_note}
 use Rattle.inode_parts.specs.OneSteps.{IsAlone, StepReady, joining_heard, loan_heard, step_left, still}
-use Rattle.hands.specs.Finishing.{finish_left}
-use Rattle.hands.specs.declared.finish.Finish.{Finish}
-use Rattle.hands.proofs.Goings.{goes_with}
+use Rattle.fs_machine.specs.Finishing.{finish_left}
+use Rattle.fs_machine.specs.declared.finish.Finish.{Finish}
+use Rattle.fs_machine.proofs.Goings.{goes_with}
 use Rattle.inode_parts.specs.InodeParts.{ends_with, part_left}
 use Rattle.inode_parts.specs.declared.part.InodePart.TheVariants as part
 use Rattle.inode_parts.specs.declared.note.Note.TheVariants as note

@@ -5,14 +5,14 @@ use Rattle.std.specs.Option.{option_map_or}
 use Rattle.plain_tree.specs.Tree.{put}
 use Rattle.tree_laws.proofs.Maps.{eq_is}
 use Rattle.sleep_lock.specs.SleepLock.{GuardState}
-use Rattle.fs_tables.specs.declared.inodes.Inode.{Inode}
-use Rattle.hands.specs.declared.hand.Hand.{Hand}
-use Rattle.hands.specs.declared.hand.Place.{Place}
-use Rattle.hands.specs.declared.hand.Place.TheVariants.{First, Second}
-use Rattle.hands.specs.declared.hand.Seat.{Seat}
-use Rattle.hands.specs.declared.hand.Seat.TheVariants.{One, Two}
-use Rattle.hands.specs.Hands.{inode_at, inode_in, no_inode, with_aside, with_buffer, with_inode, with_reference, with_seated, with_txn}
-use Rattle.hands.specs.Ops.{dropped_by, kept_by}
+use Rattle.fs_machine.specs.declared.entries.Inode.{Inode}
+use Rattle.fs_machine.specs.declared.hand.Hand.{Hand}
+use Rattle.fs_machine.specs.declared.hand.Place.{Place}
+use Rattle.fs_machine.specs.declared.hand.Place.TheVariants.{First, Second}
+use Rattle.fs_machine.specs.declared.hand.Seat.{Seat}
+use Rattle.fs_machine.specs.declared.hand.Seat.TheVariants.{One, Two}
+use Rattle.fs_machine.specs.Hands.{inode_at, inode_in, no_inode, with_aside, with_buffer, with_inode, with_reference, with_seated, with_txn}
+use Rattle.fs_machine.specs.Ops.{dropped_by, kept_by}
 use Rattle.inodes_on_blocks.specs.Handlers.{is_dying, is_listed}
 use Rattle.inodes_on_blocks.specs.Lowering.{Had, Apart}
 use Rattle.inode_parts.specs.Carries.{carry_in, had_at, had_of, with_note}

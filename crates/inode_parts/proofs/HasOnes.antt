@@ -1,13 +1,13 @@
 -- A part that is ready has an operation to make, and so has a call with it.
 use Rattle.std.proofs.Common.{ℕ, List}
 use Rattle.plain_tree.specs.Calls.{piece}
-use Rattle.hands.proofs.HasOnes.{HasOne, first, finish_has}
-use Rattle.hands.specs.declared.hand.Hand.{Hand}
+use Rattle.fs_machine.proofs.HasOnes.{HasOne, first, finish_has}
+use Rattle.fs_machine.specs.declared.hand.Hand.{Hand}
 use Rattle.file_table.proofs.HasOnes.{file_has, open_has}
 use Rattle.inode_data.proofs.HasOnes.{freeing_has, truncate_has, read_has, write_has}
 use Rattle.inode_table.proofs.HasOnes.{lock_has, new_has, record_has}
 use Rattle.inode_data.specs.Emptying.{truncate_left}
-use Rattle.hands.specs.Finishing.{finish_left}
+use Rattle.fs_machine.specs.Finishing.{finish_left}
 use Rattle.inode_data.specs.FreeingInodes.{freeing_left}
 use Rattle.file_table.specs.LockingFiles.{file_left, open_left}
 use Rattle.inode_table.specs.LockingInodes.{lock_left}

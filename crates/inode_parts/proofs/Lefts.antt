@@ -1,7 +1,7 @@
 -- What is left after an operation of a part, or is heard.
 use Rattle.std.proofs.Common.{◌≡◌, ℕ, List, Option, Some, None, refl}
-use Rattle.hands.specs.Controls.{left_after}
-use Rattle.hands.specs.declared.hand.Hand.{Hand}
+use Rattle.fs_machine.specs.Controls.{left_after}
+use Rattle.fs_machine.specs.declared.hand.Hand.{Hand}
 use Rattle.path_walk.specs.declared.asks.Heard.{Heard}
 use Rattle.inode_parts.specs.Carries.{handed}
 use Rattle.inode_parts.specs.FileLocks.{lock_file_left}

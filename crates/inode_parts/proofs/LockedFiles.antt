@@ -4,11 +4,11 @@ use Rattle.std.specs.Prelude.{◌==◌, if◌then◌else◌, IsSome}
 use Rattle.std.specs.Option.{MatchOption, option_map_or}
 use Rattle.plain_tree.specs.Tree.{put}
 use Rattle.sleep_lock.specs.SleepLock.{GuardState}
-use Rattle.fs_tables.specs.declared.inodes.Inode.{Inode}
-use Rattle.hands.specs.declared.hand.Hand.{Hand}
-use Rattle.hands.specs.declared.hand.Seat.{Seat}
-use Rattle.hands.specs.declared.hand.Seat.TheVariants.{One, Two}
-use Rattle.hands.specs.Hands.{inode_at, inode_in, no_inode, with_inode}
+use Rattle.fs_machine.specs.declared.entries.Inode.{Inode}
+use Rattle.fs_machine.specs.declared.hand.Hand.{Hand}
+use Rattle.fs_machine.specs.declared.hand.Seat.{Seat}
+use Rattle.fs_machine.specs.declared.hand.Seat.TheVariants.{One, Two}
+use Rattle.fs_machine.specs.Hands.{inode_at, inode_in, no_inode, with_inode}
 use Rattle.inode_data.specs.Emptying.{HasNoBuffer}
 use Rattle.inode_table.specs.HeldInodes.{IsLoadedAt}
 use Rattle.inode_data.specs.InHand.{beside_buffers}

@@ -6,18 +6,18 @@ use Rattle.plain_tree.specs.Tree.{put}
 use Rattle.sleep_lock.specs.SleepLock.{GuardState}
 use Rattle.fs_layout.specs.declared.inode.Dinode.{Dinode}
 use Rattle.atomic_programs.specs.Prog.{Ret, bind}
-use Rattle.fs_tables.specs.declared.inodes.Inode.{Inode}
+use Rattle.fs_machine.specs.declared.entries.Inode.{Inode}
 use Rattle.inode_table.specs.Programs.{record_of}
 use Rattle.fs_machine.specs.Machines.{P}
 use Rattle.fs_machine.specs.Steps as steps
-use Rattle.hands.specs.Controls.{Goes}
-use Rattle.hands.specs.Hands.{inode_at, inode_in, no_inode}
-use Rattle.hands.specs.declared.hand.Hand.{Hand}
-use Rattle.hands.specs.declared.hand.Seat.{Seat}
-use Rattle.hands.specs.declared.hand.Seat.TheVariants.{One, Two}
+use Rattle.fs_machine.specs.Controls.{Goes}
+use Rattle.fs_machine.specs.Hands.{inode_at, inode_in, no_inode}
+use Rattle.fs_machine.specs.declared.hand.Hand.{Hand}
+use Rattle.fs_machine.specs.declared.hand.Seat.{Seat}
+use Rattle.fs_machine.specs.declared.hand.Seat.TheVariants.{One, Two}
 use Rattle.inode_table.specs.HeldInodes.{number_in, record_in, IsLoadedAt}
 use Rattle.inode_table.specs.LoadingHeld.{beside_lock}
-use Rattle.hands.proofs.Goings.{goes_to, goes_with}
+use Rattle.fs_machine.proofs.Goings.{goes_to, goes_with}
 use Rattle.inodes_on_blocks.specs.Lowering.{Carry}
 use Rattle.inode_parts.specs.Carries.{carry_in, had_of, with_note}
 use Rattle.inode_parts.specs.OneSteps.{IsAlone, locks, other}

@@ -4,13 +4,13 @@ use Rattle.plain_tree.specs.declared.answer.Reply.{Reply}
 use Rattle.fs_layout.specs.declared.superblock.Super.{Super}
 use Rattle.atomic_programs.specs.Prog as progs
 use Rattle.atomic_programs.specs.Prog.{Ret, Do}
-use Rattle.layered.proofs.Below.{part_begins}
+use Rattle.atomic_programs.proofs.Below.{part_begins}
 use Rattle.fs_machine.specs.Steps as steps
 use Rattle.fs_machine.specs.Machines.{P}
-use Rattle.hands.specs.declared.hand.Hand.{Hand}
-use Rattle.hands.specs.Controls.{Goes}
-use Rattle.hands.proofs.Going.{goes_bind}
-use Rattle.hands.specs.Empty.{IsEmpty}
+use Rattle.fs_machine.specs.declared.hand.Hand.{Hand}
+use Rattle.fs_machine.specs.Controls.{Goes}
+use Rattle.fs_machine.proofs.Going.{goes_bind}
+use Rattle.fs_machine.specs.Empty.{IsEmpty}
 use Rattle.inode_machine.specs.Parts as above
 use Rattle.inode_machine.specs.Rules.{machine}
 use Rattle.inode_machine.specs.World.{Op}

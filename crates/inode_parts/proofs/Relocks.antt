@@ -5,14 +5,14 @@ use Rattle.std.specs.Option.{option_map_or, unwrap_or}
 use Rattle.sleep_lock.specs.SleepLock.{GuardState}
 use Rattle.fs_layout.specs.declared.inode.Dinode.{Dinode}
 use Rattle.fs_layout.specs.declared.superblock.Super.{Super}
-use Rattle.fs_tables.specs.declared.inodes.Inode.{Inode}
+use Rattle.fs_machine.specs.declared.entries.Inode.{Inode}
 use Rattle.atomic_programs.specs.Prog.{bind}
 use Rattle.fs_machine.specs.Machines as code
 use Rattle.inode_table.specs.Programs.{inode_block, load_unless}
-use Rattle.hands.specs.Hands.{first_in, first_listed, inode_at, inode_in, no_inode, number_at, reference_at, with_first, with_inode}
-use Rattle.hands.specs.declared.hand.Hand.{Hand}
-use Rattle.hands.specs.declared.hand.Seat.{Seat}
-use Rattle.hands.specs.declared.hand.Seat.TheVariants.{One, Two}
+use Rattle.fs_machine.specs.Hands.{first_in, first_listed, inode_at, inode_in, no_inode, number_at, reference_at, with_first, with_inode}
+use Rattle.fs_machine.specs.declared.hand.Hand.{Hand}
+use Rattle.fs_machine.specs.declared.hand.Seat.{Seat}
+use Rattle.fs_machine.specs.declared.hand.Seat.TheVariants.{One, Two}
 use Rattle.inode_data.specs.Emptying.{HasNoBuffer}
 use Rattle.inode_table.specs.HeldInodes.{number_in, HasBlock}
 use Rattle.inode_table.specs.LockingInodes.{lock_loaded}

@@ -5,10 +5,10 @@ use Rattle.std.specs.Option.{option_map, unwrap_or}
 use Rattle.tree_laws.proofs.Slots.{same_self}
 use Rattle.directory.specs.Sought.{IsSlot}
 use Rattle.directory.specs.declared.found.Found.{Found}
-use Rattle.hands.specs.Hands.{number_at}
-use Rattle.hands.specs.declared.hand.Hand.{Hand}
-use Rattle.hands.specs.declared.hand.Seat.{Seat}
-use Rattle.hands.specs.declared.hand.Seat.TheVariants.{One, Two}
+use Rattle.fs_machine.specs.Hands.{number_at}
+use Rattle.fs_machine.specs.declared.hand.Hand.{Hand}
+use Rattle.fs_machine.specs.declared.hand.Seat.{Seat}
+use Rattle.fs_machine.specs.declared.hand.Seat.TheVariants.{One, Two}
 use Rattle.inode_table.specs.LoadingHeld.{beside_lock}
 use Rattle.inode_data.specs.Locating.{Leaves as LeavesBuffers}
 use Rattle.directory.specs.Searching.{SearchReady}

@@ -4,15 +4,15 @@ use Rattle.std.specs.Prelude.{IfSome, is_some, if◌then◌else◌}
 use Rattle.std.specs.Option.{MatchOption, unwrap_or}
 use Rattle.plain_tree.specs.Widths.{descriptor_count}
 use Rattle.atomic_programs.specs.Prog.{Ret, Do}
-use Rattle.fs_tables.specs.declared.inodes.Inode.{Inode}
-use Rattle.hands.specs.Controls.{Goes}
-use Rattle.hands.specs.Hands.{inode_in, number_at, reference_at, with_inode, with_listed, with_reference, with_seated}
-use Rattle.hands.specs.Ops.{IsAfter, IsDown, IsHanded, IsJoined, IsKept, IsLent, IsOpened, answer_in, dropped_by, given_by, joined_by, kept_by, number_by, shut_by, yes_in}
-use Rattle.hands.specs.declared.hand.Hand.{Hand}
-use Rattle.hands.specs.declared.hand.Seat.{Seat}
-use Rattle.hands.specs.declared.hand.Seat.TheVariants.{One, Two}
-use Rattle.hands.specs.declared.op.Answer.{Answer}
-use Rattle.hands.specs.declared.op.Answer.TheVariants as answers
+use Rattle.fs_machine.specs.declared.entries.Inode.{Inode}
+use Rattle.fs_machine.specs.Controls.{Goes}
+use Rattle.fs_machine.specs.Hands.{inode_in, number_at, reference_at, with_inode, with_listed, with_reference, with_seated}
+use Rattle.fs_machine.specs.Ops.{IsAfter, IsDown, IsHanded, IsJoined, IsKept, IsLent, IsOpened, answer_in, dropped_by, given_by, joined_by, kept_by, number_by, shut_by, yes_in}
+use Rattle.fs_machine.specs.declared.hand.Hand.{Hand}
+use Rattle.fs_machine.specs.declared.hand.Seat.{Seat}
+use Rattle.fs_machine.specs.declared.hand.Seat.TheVariants.{One, Two}
+use Rattle.fs_machine.specs.declared.op.Answer.{Answer}
+use Rattle.fs_machine.specs.declared.op.Answer.TheVariants as answers
 use Rattle.inode_machine.specs.World as above
 use Rattle.inodes_on_blocks.specs.Handlers.{is_dying, is_listed, old_directory, shut_to}
 use Rattle.path_walk.specs.Asks.{answer_to, bool_in, joined_in, loan_in, number_in, shut_in, start_in}

@@ -6,17 +6,17 @@ use Rattle.plain_tree.specs.Tree.{put}
 use Rattle.atomic_programs.specs.Prog.{Ret, Do, bind, plain, unmarked}
 use Rattle.atomic_programs.specs.Joined.{Handover}
 use Rattle.atomic_programs.proofs.Prog.{bind-assoc}
-use Rattle.fs_tables.specs.declared.inodes.Inode.{Inode}
+use Rattle.fs_machine.specs.declared.entries.Inode.{Inode}
 use Rattle.fs_machine.specs.Machines.{P}
 use Rattle.fs_machine.specs.Programs.{fetch, read_unless}
 use Rattle.fs_machine.specs.Steps as steps
 use Rattle.inode_table.specs.Programs.{inode_block, put_inode, record_of, with_dinode, store as store_inode}
-use Rattle.hands.specs.declared.hand.Hand.{Hand}
-use Rattle.hands.specs.Controls.{Goes}
-use Rattle.hands.specs.Hands.{inode_in, with_buffer, with_record}
+use Rattle.fs_machine.specs.declared.hand.Hand.{Hand}
+use Rattle.fs_machine.specs.Controls.{Goes}
+use Rattle.fs_machine.specs.Hands.{inode_in, with_buffer, with_record}
 use Rattle.inode_table.specs.HeldInodes.{counted}
 use Rattle.inode_table.specs.StoringRecords.{record_left, record_place}
-use Rattle.hands.proofs.Goings.{goes_with}
+use Rattle.fs_machine.proofs.Goings.{goes_with}
 use Rattle.inode_machine.specs.World as above
 use Rattle.inodes_on_blocks.specs.Handlers as handlers
 use Rattle.inodes_on_blocks.specs.Handlers.{Acts}

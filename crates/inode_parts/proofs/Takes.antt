@@ -15,9 +15,9 @@ use Rattle.inode_table.specs.Programs.{inode_block, load_unless}
 use Rattle.directory.specs.Programs.{lookup}
 use Rattle.directory.specs.declared.found.Found.{Found}
 use Rattle.directory.specs.Searching.{entries}
-use Rattle.hands.specs.Hands.{inode_at, number_at, reference_at}
-use Rattle.hands.specs.declared.hand.Seat.{Seat}
-use Rattle.hands.specs.declared.hand.Hand.{Hand}
+use Rattle.fs_machine.specs.Hands.{inode_at, number_at, reference_at}
+use Rattle.fs_machine.specs.declared.hand.Seat.{Seat}
+use Rattle.fs_machine.specs.declared.hand.Hand.{Hand}
 use Rattle.inode_table.specs.LockingInodes.{lock_left, lock_loaded, lock_seat}
 use Rattle.inode_table.specs.declared.lock_inode.LockInode.{LockInode}
 use Rattle.inode_machine.specs.Inodes.{Face, Sight}

@@ -7,16 +7,16 @@ use Rattle.fs_machine.specs.Machines.{P}
 use Rattle.fs_machine.specs.Steps as steps
 use Rattle.directory.specs.Programs.{Aim}
 use Rattle.directory.specs.declared.found.Found.{Found}
-use Rattle.hands.specs.Controls.{Goes}
-use Rattle.hands.specs.Hands.{number_at}
-use Rattle.hands.specs.declared.hand.Hand.{Hand}
-use Rattle.hands.specs.declared.hand.Seat.{Seat}
-use Rattle.hands.specs.declared.hand.Seat.TheVariants.{One, Two}
+use Rattle.fs_machine.specs.Controls.{Goes}
+use Rattle.fs_machine.specs.Hands.{number_at}
+use Rattle.fs_machine.specs.declared.hand.Hand.{Hand}
+use Rattle.fs_machine.specs.declared.hand.Seat.{Seat}
+use Rattle.fs_machine.specs.declared.hand.Seat.TheVariants.{One, Two}
 use Rattle.inode_table.specs.HeldInodes.{record_in}
 use Rattle.inode_table.specs.LoadingHeld.{beside_lock}
 use Rattle.inode_data.specs.Locating.{Leaves}
 use Rattle.inode_table.specs.LockingInodes.{HasLocked}
-use Rattle.hands.proofs.Goings.{goes_to, goes_with}
+use Rattle.fs_machine.proofs.Goings.{goes_to, goes_with}
 use Rattle.directory.specs.Searching.{search_left}
 use Rattle.directory.specs.declared.search.Search.{Search}
 use Rattle.inodes_on_blocks.specs.Lowering.{Carry}

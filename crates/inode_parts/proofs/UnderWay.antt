@@ -1,8 +1,8 @@
 -- How parts of several steps go on: each is under way, or leaves what its operation does.
 use Rattle.std.proofs.Common.{◌≡◌, ℕ, List, [], Option, Some, None, refl, sym, ◌∙◌, subst}
-use Rattle.hands.specs.Hands.{with_txn}
-use Rattle.hands.specs.declared.hand.Hand.{Hand}
-use Rattle.hands.specs.declared.finish.Finish.{Finish}
+use Rattle.fs_machine.specs.Hands.{with_txn}
+use Rattle.fs_machine.specs.declared.hand.Hand.{Hand}
+use Rattle.fs_machine.specs.declared.finish.Finish.{Finish}
 use Rattle.inode_machine.specs.Inodes.{AtNothing, Query, Sort}
 use Rattle.inode_machine.specs.World as above
 use Rattle.plain_tree.specs.Tree.{Name}

@@ -6,9 +6,9 @@ use Rattle.plain_tree.specs.declared.call.Call.TheVariants as calls
 use Rattle.fs_layout.specs.declared.superblock.Super.{Super}
 use Rattle.atomic_programs.specs.Prog.{bind}
 use Rattle.fs_machine.specs.Machines.{P}
-use Rattle.hands.specs.declared.hand.Hand.{Hand}
-use Rattle.hands.specs.declared.op.Op.{Op}
-use Rattle.hands.specs.Empty.{IsEmpty}
+use Rattle.fs_machine.specs.declared.hand.Hand.{Hand}
+use Rattle.fs_machine.specs.declared.op.Op.{Op}
+use Rattle.fs_machine.specs.Empty.{IsEmpty}
 use Rattle.inode_machine.specs.Parts as programs
 use Rattle.inode_machine.specs.Programs.{program}
 use Rattle.inode_machine.specs.World as above

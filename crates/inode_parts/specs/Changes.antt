@@ -4,10 +4,10 @@ use Rattle.fs_layout.specs.declared.inode.Dinode.{Dinode}
 use Rattle.fs_layout.specs.declared.superblock.Super.{Super}
 use Rattle.atomic_programs.specs.Prog.{Ret}
 use Rattle.inode_table.specs.Programs.{inode_block}
-use Rattle.hands.specs.declared.hand.Hand.{Hand}
-use Rattle.hands.specs.declared.hand.Place.TheVariants.{First, Second}
-use Rattle.hands.specs.declared.hand.Seat.{Seat}
-use Rattle.hands.specs.Hands.{with_buffer, with_record}
+use Rattle.fs_machine.specs.declared.hand.Hand.{Hand}
+use Rattle.fs_machine.specs.declared.hand.Place.TheVariants.{First, Second}
+use Rattle.fs_machine.specs.declared.hand.Seat.{Seat}
+use Rattle.fs_machine.specs.Hands.{with_buffer, with_record}
 use Rattle.inode_data.specs.Emptying.{HasNoBuffer}
 use Rattle.inode_table.specs.HeldInodes.{unloaded, IsLoadedAt}
 use Rattle.path_walk.specs.declared.asks.Heard.{Heard}

@@ -5,8 +5,8 @@ use Rattle.atomic_programs.specs.Prog.{Ret, bind}
 use Rattle.inode_table.specs.NewInodes.{inode_blocks}
 use Rattle.inode_table.specs.declared.new_inode.Made.{Made}
 use Rattle.inode_table.specs.declared.new_inode.Made.TheVariants as made
-use Rattle.hands.specs.declared.hand.Hand.{Hand}
-use Rattle.hands.specs.declared.op.Op.{Op}
+use Rattle.fs_machine.specs.declared.hand.Hand.{Hand}
+use Rattle.fs_machine.specs.declared.op.Op.{Op}
 use Rattle.inode_data.specs.Emptying.{HasNoBuffer}
 use Rattle.inode_table.specs.Making.{beside_new, new_left, new_asked, new_seat, NewReady}
 use Rattle.inodes_on_blocks.specs.Lowering.{Carry}

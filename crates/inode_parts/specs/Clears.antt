@@ -4,9 +4,9 @@ use Rattle.plain_tree.specs.Tree.{Name, same_name}
 use Rattle.fs_layout.specs.declared.superblock.Super.{Super}
 use Rattle.atomic_programs.specs.Prog.{bind}
 use Rattle.directory.specs.Programs.{most_slots}
-use Rattle.hands.specs.declared.hand.Hand.{Hand}
-use Rattle.hands.specs.declared.op.Op.{Op}
-use Rattle.hands.specs.Hands.{inode_at}
+use Rattle.fs_machine.specs.declared.hand.Hand.{Hand}
+use Rattle.fs_machine.specs.declared.op.Op.{Op}
+use Rattle.fs_machine.specs.Hands.{inode_at}
 use Rattle.directory.specs.Clearing.{clear_left, clear_asked, ClearReady}
 use Rattle.path_walk.specs.Elements.{name_in}
 use Rattle.path_walk.specs.declared.asks.Heard.TheVariants as heard

@@ -2,9 +2,9 @@
 use Rattle.std.specs.Prelude.{ℕ, List}
 use Rattle.fs_layout.specs.declared.superblock.Super.{Super}
 use Rattle.atomic_programs.specs.Prog.{bind}
-use Rattle.hands.specs.declared.hand.Hand.{Hand}
-use Rattle.hands.specs.declared.hand.Seat.{Seat}
-use Rattle.hands.specs.declared.op.Op.{Op}
+use Rattle.fs_machine.specs.declared.hand.Hand.{Hand}
+use Rattle.fs_machine.specs.declared.hand.Seat.{Seat}
+use Rattle.fs_machine.specs.declared.op.Op.{Op}
 use Rattle.inode_data.specs.Emptying.{truncate_left, truncate_asked, emptying_of, TruncateReady}
 use Rattle.path_walk.specs.declared.asks.Heard.TheVariants as heard
 use Rattle.inode_parts.specs.Changes.{changed, IsAmid, MayChange}

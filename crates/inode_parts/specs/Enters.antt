@@ -9,9 +9,9 @@ use Rattle.atomic_programs.specs.Prog.{Ret, bind}
 use Rattle.directory.specs.Entering.{EnteredState}
 use Rattle.directory.specs.declared.enter.Room.{Room}
 use Rattle.directory.specs.declared.enter.Room.TheVariants.{There, NoBlock, NoSlot}
-use Rattle.hands.specs.declared.hand.Hand.{Hand}
-use Rattle.hands.specs.declared.hand.Seat.{Seat}
-use Rattle.hands.specs.declared.op.Op.{Op}
+use Rattle.fs_machine.specs.declared.hand.Hand.{Hand}
+use Rattle.fs_machine.specs.declared.hand.Seat.{Seat}
+use Rattle.fs_machine.specs.declared.op.Op.{Op}
 use Rattle.inode_table.specs.HeldInodes.{IsLoadedAt}
 use Rattle.directory.specs.EnterParts.{enter_left, enter_asked, EnterReady}
 use Rattle.path_walk.specs.declared.asks.Ask.{Ask}

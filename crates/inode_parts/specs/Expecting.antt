@@ -2,9 +2,9 @@
 use Rattle.std.specs.Prelude.{◌≡◌, ◌<◌, ◌^◌, ◌⊎◌, ℕ, List, None, IsSome}
 use Rattle.fs_layout.specs.Name.{IsName}
 use Rattle.plain_tree.specs.declared.call.Call.{Call}
-use Rattle.hands.specs.declared.hand.Hand.{Hand}
-use Rattle.hands.specs.Hands.{inode_at}
-use Rattle.hands.specs.Empty.{IsEmpty}
+use Rattle.fs_machine.specs.declared.hand.Hand.{Hand}
+use Rattle.fs_machine.specs.Hands.{inode_at}
+use Rattle.fs_machine.specs.Empty.{IsEmpty}
 use Rattle.inode_data.specs.Emptying.{HasNoBuffer}
 use Rattle.inode_table.specs.HeldInodes.{IsLoadedAt}
 use Rattle.inode_machine.specs.Inodes.{AtNothing}

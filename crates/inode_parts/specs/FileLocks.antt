@@ -4,11 +4,11 @@ use Rattle.plain_tree.specs.Tree.{put}
 use Rattle.fs_layout.specs.declared.inode.Dinode.{Dinode}
 use Rattle.fs_layout.specs.declared.superblock.Super.{Super}
 use Rattle.atomic_programs.specs.Prog.{Ret, bind}
-use Rattle.fs_tables.specs.Inodes.{LockedState, Refuses, Locks}
-use Rattle.fs_tables.specs.declared.files.OpenFile.{OpenFile}
-use Rattle.hands.specs.declared.hand.Hand.{Hand}
-use Rattle.hands.specs.declared.op.Op.{Op}
-use Rattle.hands.specs.Hands.{inode_at}
+use Rattle.fs_machine.specs.Inodes.{LockedState, Refuses, Locks}
+use Rattle.fs_machine.specs.declared.files.OpenFile.{OpenFile}
+use Rattle.fs_machine.specs.declared.hand.Hand.{Hand}
+use Rattle.fs_machine.specs.declared.op.Op.{Op}
+use Rattle.fs_machine.specs.Hands.{inode_at}
 use Rattle.file_table.specs.LockingFiles.{file_left, file_asked, file_seat, open_left, open_asked, open_seat, FileReady, HasInodeBlocks, OpenReady}
 use Rattle.inodes_on_blocks.specs.Handlers.{cause_of}
 use Rattle.inodes_on_blocks.specs.Lowering.{Carry}

@@ -5,11 +5,11 @@ use Rattle.atomic_programs.specs.Prog.{bind}
 use Rattle.atomic_programs.specs.Joined.{Handover}
 use Rattle.fs_machine.specs.Machines.{P}
 use Rattle.inode_data.specs.Programs.{FilledMemory}
-use Rattle.hands.specs.declared.hand.Hand.{Hand}
-use Rattle.hands.specs.declared.hand.Seat.{Seat}
-use Rattle.hands.specs.declared.op.Op.{Op}
-use Rattle.hands.specs.declared.op.Op.TheVariants as ops
-use Rattle.hands.specs.Hands.{inode_at, inode_in}
+use Rattle.fs_machine.specs.declared.hand.Hand.{Hand}
+use Rattle.fs_machine.specs.declared.hand.Seat.{Seat}
+use Rattle.fs_machine.specs.declared.op.Op.{Op}
+use Rattle.fs_machine.specs.declared.op.Op.TheVariants as ops
+use Rattle.fs_machine.specs.Hands.{inode_at, inode_in}
 use Rattle.inode_data.specs.Emptying.{HasNoBuffer}
 use Rattle.inode_table.specs.HeldInodes.{record_in, IsLoadedAt}
 use Rattle.inode_data.specs.PartReading.{filled_to, read_asked, read_count, read_left, ReadReady}

@@ -4,10 +4,10 @@ use Rattle.std.specs.Option.{option_map}
 use Rattle.plain_tree.specs.Tree.{put}
 use Rattle.fs_layout.specs.declared.inode.Dinode.{Dinode}
 use Rattle.atomic_programs.specs.Prog.{Ret, bind}
-use Rattle.fs_tables.specs.Inodes.{LockedState, Refuses, Locks}
-use Rattle.hands.specs.declared.hand.Hand.{Hand}
-use Rattle.hands.specs.declared.op.Op.{Op}
-use Rattle.hands.specs.Hands.{inode_at}
+use Rattle.fs_machine.specs.Inodes.{LockedState, Refuses, Locks}
+use Rattle.fs_machine.specs.declared.hand.Hand.{Hand}
+use Rattle.fs_machine.specs.declared.op.Op.{Op}
+use Rattle.fs_machine.specs.Hands.{inode_at}
 use Rattle.file_table.specs.LockingFiles.{file_left, file_asked, file_seat, FileReady}
 use Rattle.inodes_on_blocks.specs.Lowering.{Carry}
 use Rattle.path_walk.specs.declared.asks.Face.{Face}

@@ -8,11 +8,11 @@ use Rattle.atomic_programs.specs.Prog.{Ret, Do, bind, unmarked}
 use Rattle.fs_machine.specs.Steps as steps
 use Rattle.inode_table.specs.Programs.{inode_block}
 use Rattle.inode_data.specs.Writing.{WriteResult}
-use Rattle.hands.specs.declared.hand.Hand.{Hand}
-use Rattle.hands.specs.declared.hand.Seat.{Seat}
-use Rattle.hands.specs.declared.op.Op.{Op}
-use Rattle.hands.specs.declared.op.Op.TheVariants as ops
-use Rattle.hands.specs.Hands.{inode_at, inode_in}
+use Rattle.fs_machine.specs.declared.hand.Hand.{Hand}
+use Rattle.fs_machine.specs.declared.hand.Seat.{Seat}
+use Rattle.fs_machine.specs.declared.op.Op.{Op}
+use Rattle.fs_machine.specs.declared.op.Op.TheVariants as ops
+use Rattle.fs_machine.specs.Hands.{inode_at, inode_in}
 use Rattle.inode_data.specs.Emptying.{HasNoBuffer}
 use Rattle.inode_table.specs.HeldInodes.{number_in, IsLoadedAt}
 use Rattle.inode_data.specs.PartWriting.{write_asked, write_left, WriteReady}

@@ -3,10 +3,10 @@ use Rattle.std.specs.Prelude.{◌≤◌, ℕ, List, IsSome}
 use Rattle.fs_layout.specs.Widths.{bits_per_block}
 use Rattle.fs_layout.specs.declared.superblock.Super.{Super}
 use Rattle.atomic_programs.specs.Prog.{bind}
-use Rattle.hands.specs.declared.hand.Hand.{Hand}
-use Rattle.hands.specs.declared.hand.Seat.{Seat}
-use Rattle.hands.specs.declared.op.Op.{Op}
-use Rattle.hands.specs.Hands.{inode_at}
+use Rattle.fs_machine.specs.declared.hand.Hand.{Hand}
+use Rattle.fs_machine.specs.declared.hand.Seat.{Seat}
+use Rattle.fs_machine.specs.declared.op.Op.{Op}
+use Rattle.fs_machine.specs.Hands.{inode_at}
 use Rattle.directory.specs.Filling.{fill_left, fill_asked, FillReady}
 use Rattle.directory.specs.declared.fill.Filled.{Filled}
 use Rattle.path_walk.specs.declared.asks.Heard.TheVariants as heard

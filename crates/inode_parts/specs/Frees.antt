@@ -3,9 +3,9 @@ use Rattle.std.specs.Prelude.{◌≡◌, ℕ, List, IsSome}
 use Rattle.plain_tree.specs.Tree.{put}
 use Rattle.fs_layout.specs.declared.superblock.Super.{Super}
 use Rattle.atomic_programs.specs.Prog.{Ret, bind}
-use Rattle.hands.specs.declared.hand.Hand.{Hand}
-use Rattle.hands.specs.declared.op.Op.{Op}
-use Rattle.hands.specs.Hands.{inode_at}
+use Rattle.fs_machine.specs.declared.hand.Hand.{Hand}
+use Rattle.fs_machine.specs.declared.op.Op.{Op}
+use Rattle.fs_machine.specs.Hands.{inode_at}
 use Rattle.inode_data.specs.Emptying.{IsEmptying, HasNoBuffer}
 use Rattle.inode_data.specs.FreeingInodes.{freeing_left, freeing_asked, freeing_of, FreeingReady}
 use Rattle.inode_table.specs.HeldInodes.{number_in}

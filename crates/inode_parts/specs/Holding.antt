@@ -3,11 +3,11 @@ use Rattle.std.specs.Prelude.{◌≡◌, ◌<◌, ◌^◌, ℕ, List, [], ◌∷
 use Rattle.plain_tree.specs.declared.answer.Reply.{Reply}
 use Rattle.atomic_programs.specs.Prog.{Ret, Do}
 use Rattle.sleep_lock.specs.SleepLock.{GuardState}
-use Rattle.fs_tables.specs.declared.inodes.Inode.{Inode}
-use Rattle.hands.specs.declared.hand.Hand.{Hand}
-use Rattle.hands.specs.declared.hand.Seat.{Seat}
-use Rattle.hands.specs.Hands.{inode_at, with_aside, with_first, with_inode, with_listed, with_reference, with_seated, with_txn}
-use Rattle.hands.specs.Empty.{IsEmpty}
+use Rattle.fs_machine.specs.declared.entries.Inode.{Inode}
+use Rattle.fs_machine.specs.declared.hand.Hand.{Hand}
+use Rattle.fs_machine.specs.declared.hand.Seat.{Seat}
+use Rattle.fs_machine.specs.Hands.{inode_at, with_aside, with_first, with_inode, with_listed, with_reference, with_seated, with_txn}
+use Rattle.fs_machine.specs.Empty.{IsEmpty}
 use Rattle.inode_table.specs.HeldInodes.{unloaded, IsLoadedAt}
 use Rattle.inode_machine.specs.Inodes.{AtEntries, AtName, AtNothing, Face, Query, Sight}
 use Rattle.inode_machine.specs.Parts as programs

@@ -1,10 +1,10 @@
 -- Operations on whole inodes, each as a part over blocks.
 use Rattle.std.specs.Prelude.{◌≡◌, ℕ, Bool, true, false, List, [], Option, Some, None}
 use Rattle.atomic_programs.specs.Prog.{Ret, bind}
-use Rattle.hands.specs.declared.hand.Hand.{Hand}
-use Rattle.hands.specs.declared.op.Op.{Op}
-use Rattle.hands.specs.Finishing.{finish_left, finish_asked, FinishReady}
-use Rattle.hands.specs.declared.finish.Finish.TheVariants as finish
+use Rattle.fs_machine.specs.declared.hand.Hand.{Hand}
+use Rattle.fs_machine.specs.declared.op.Op.{Op}
+use Rattle.fs_machine.specs.Finishing.{finish_left, finish_asked, FinishReady}
+use Rattle.fs_machine.specs.declared.finish.Finish.TheVariants as finish
 use Rattle.inode_machine.specs.World as above
 use Rattle.path_walk.specs.declared.asks.Ask.{Ask}
 use Rattle.path_walk.specs.declared.asks.Ask.TheVariants as ask

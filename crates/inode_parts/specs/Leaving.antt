@@ -1,6 +1,6 @@
 -- How an operation goes on: it is still under way, or over.
 use Rattle.std.specs.Prelude.{◌≡◌, ℕ, List, [], Bool, true, false, Option, Some, None}
-use Rattle.hands.specs.declared.hand.Hand.{Hand}
+use Rattle.fs_machine.specs.declared.hand.Hand.{Hand}
 use Rattle.inode_machine.specs.World as above
 use Rattle.path_walk.specs.Asks.{answer_to}
 use Rattle.path_walk.specs.declared.asks.Heard.{Heard}

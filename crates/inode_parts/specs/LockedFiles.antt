@@ -1,10 +1,10 @@
 -- Files that descriptors name, whose inodes' locks are in hand.
 use Rattle.std.specs.Prelude.{◌≡◌, ℕ, List, Some, None}
 use Rattle.atomic_programs.specs.Prog.{Ret, Do, unmarked}
-use Rattle.fs_tables.specs.declared.inodes.Inode.{Inode}
+use Rattle.fs_machine.specs.declared.entries.Inode.{Inode}
 use Rattle.fs_machine.specs.Steps as steps
-use Rattle.hands.specs.declared.hand.Hand.{Hand}
-use Rattle.hands.specs.Hands.{inode_at}
+use Rattle.fs_machine.specs.declared.hand.Hand.{Hand}
+use Rattle.fs_machine.specs.Hands.{inode_at}
 use Rattle.inodes_on_blocks.specs.Lowering.{nothing}
 use Rattle.path_walk.specs.declared.asks.Heard.{Heard}
 use Rattle.inode_parts.specs.OneSteps.{other}

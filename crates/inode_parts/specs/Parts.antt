@@ -4,7 +4,7 @@ use Rattle.plain_tree.specs.declared.answer.Reply.{Reply}
 use Rattle.fs_layout.specs.declared.superblock.Super.{Super}
 use Rattle.atomic_programs.specs.Prog.{Ret, Do, unmarked}
 use Rattle.atomic_programs.specs.Joined.{Handover}
-use Rattle.layered.specs.Below as layers
+use Rattle.atomic_programs.specs.Below as layers
 use Rattle.fs_machine.specs.Steps as steps
 use Rattle.fs_machine.specs.Machines.{P}
 use Rattle.inode_machine.specs.Parts as above

@@ -1,10 +1,10 @@
 -- What is in hand of one inode, and beside it what is at the other seat.
 use Rattle.std.specs.Prelude.{◌≡◌, ℕ, List, Option, IfSome}
 use Rattle.sleep_lock.specs.SleepLock.{GuardState}
-use Rattle.fs_tables.specs.declared.inodes.Inode.{Inode}
-use Rattle.hands.specs.declared.hand.Hand.{Hand}
-use Rattle.hands.specs.declared.hand.Seat.{Seat}
-use Rattle.hands.specs.Hands.{inode_at}
+use Rattle.fs_machine.specs.declared.entries.Inode.{Inode}
+use Rattle.fs_machine.specs.declared.hand.Hand.{Hand}
+use Rattle.fs_machine.specs.declared.hand.Seat.{Seat}
+use Rattle.fs_machine.specs.Hands.{inode_at}
 use Rattle.inodes_on_blocks.specs.Lowering.{Apart, Carry}
 use Rattle.inode_parts.specs.Carries.{had_at, note_at}
 use Rattle.inode_parts.specs.OneSteps.{other}

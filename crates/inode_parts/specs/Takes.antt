@@ -9,10 +9,10 @@ use Rattle.inode_data.specs.Beginnings.{begun_of}
 use Rattle.inode_data.specs.declared.begun.Begun.{Begun}
 use Rattle.directory.specs.Programs.{Entry, Named, lookup}
 use Rattle.directory.specs.declared.found.Found.{Found}
-use Rattle.hands.specs.declared.hand.Hand.{Hand}
-use Rattle.hands.specs.declared.hand.Seat.{Seat}
-use Rattle.hands.specs.declared.op.Op.{Op}
-use Rattle.hands.specs.Hands.{inode_at, number_at}
+use Rattle.fs_machine.specs.declared.hand.Hand.{Hand}
+use Rattle.fs_machine.specs.declared.hand.Seat.{Seat}
+use Rattle.fs_machine.specs.declared.op.Op.{Op}
+use Rattle.fs_machine.specs.Hands.{inode_at, number_at}
 use Rattle.inode_data.specs.Emptying.{HasNoBuffer}
 use Rattle.inode_table.specs.HeldInodes.{number_in, record_in, IsLoadedAt}
 use Rattle.inode_table.specs.LockingInodes.{lock_left, lock_asked, lock_seat, LockReady}

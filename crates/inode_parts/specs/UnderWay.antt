@@ -1,7 +1,7 @@
 -- An operation on whole inodes under way in its part.
 use Rattle.std.specs.Prelude.{◌≡◌, ℕ, List, [], Option, Some, None}
-use Rattle.hands.specs.declared.hand.Hand.{Hand}
-use Rattle.hands.specs.Hands.{with_txn}
+use Rattle.fs_machine.specs.declared.hand.Hand.{Hand}
+use Rattle.fs_machine.specs.Hands.{with_txn}
 use Rattle.inode_machine.specs.Inodes.{AtNothing}
 use Rattle.inode_machine.specs.World as above
 use Rattle.path_walk.specs.Asks.{answer_to}

@@ -1,9 +1,9 @@
 //! A new inode.
 ghost use Rattle.std.specs.Prelude.{◌≡◌, ℕ, List, Some, IfNone};
 ghost use Rattle.atomic_programs.specs.Prog.{asks};
-ghost use Rattle.hands.specs.Ops.{op_in, answer_in, CanDo, Prepared, IsAfter};
-ghost use Rattle.hands.specs.Controls.{Goes, left_after, bare};
-ghost use Rattle.hands.specs.declared.hand.Hand.{Hand as HandState};
+ghost use Rattle.fs_machine.specs.Ops.{op_in, answer_in, CanDo, Prepared, IsAfter};
+ghost use Rattle.fs_machine.specs.Controls.{Goes, left_after, bare};
+ghost use Rattle.fs_machine.specs.declared.hand.Hand.{Hand as HandState};
 ghost use Rattle.inode_table.specs.Making.{new_value};
 ghost use Rattle.inode_machine.specs.Inodes as whole;
 ghost use Rattle.inode_machine.specs.World.Op.{Claim};
@@ -18,7 +18,7 @@ use crate::note::Notes;
 use crate::opening::kind;
 use crate::places::free_seat;
 use fs_layout::Super;
-use hands::{Answer, Hand, Op, Routine};
+use fs_machine::{Answer, Hand, Op, Routine};
 use inode_table::NewInode;
 use path_walk::{Heard, Sort};
 

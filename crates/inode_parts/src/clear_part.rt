@@ -2,9 +2,9 @@
 ghost use Rattle.std.specs.Prelude.{◌≡◌, ℕ, List, Some, None, IfNone};
 ghost use Rattle.plain_tree.specs.Tree.{Name};
 ghost use Rattle.atomic_programs.specs.Prog.{asks};
-ghost use Rattle.hands.specs.Ops.{op_in, answer_in, CanDo, Prepared, IsAfter};
-ghost use Rattle.hands.specs.Controls.{Goes, bare, left_after};
-ghost use Rattle.hands.specs.declared.hand.Hand.{Hand as HandState};
+ghost use Rattle.fs_machine.specs.Ops.{op_in, answer_in, CanDo, Prepared, IsAfter};
+ghost use Rattle.fs_machine.specs.Controls.{Goes, bare, left_after};
+ghost use Rattle.fs_machine.specs.declared.hand.Hand.{Hand as HandState};
 ghost use Rattle.inode_machine.specs.World as above;
 ghost use Rattle.inode_parts.specs.Carries.{carry_in, handed, note_at};
 ghost use Rattle.inode_parts.specs.Clears.{clear_part_left, clear_part_asked, slot_in, ClearAmid, ClearBegins, ClearPartReady, HasFound};
@@ -17,7 +17,7 @@ use crate::places::lock_seat;
 use crate::records::{change, record_at};
 use directory::{Clear, Slot};
 use fs_layout::Super;
-use hands::{Answer, Hand, Op, Routine, Seat};
+use fs_machine::{Answer, Hand, Op, Routine, Seat};
 use path_walk::Heard;
 
 /// A slot is cleared of the directory whose lock is at this seat.

@@ -2,9 +2,9 @@
 ghost use Rattle.std.specs.Prelude.{◌≡◌, ℕ, List, Some, None, IfNone};
 ghost use Rattle.plain_tree.specs.Tree.{Name};
 ghost use Rattle.atomic_programs.specs.Prog.{Ret, asks};
-ghost use Rattle.hands.specs.Ops.{op_in, answer_in, CanDo, Prepared, IsAfter};
-ghost use Rattle.hands.specs.Controls.{Goes, bare, left_after};
-ghost use Rattle.hands.specs.declared.hand.Hand.{Hand as HandState};
+ghost use Rattle.fs_machine.specs.Ops.{op_in, answer_in, CanDo, Prepared, IsAfter};
+ghost use Rattle.fs_machine.specs.Controls.{Goes, bare, left_after};
+ghost use Rattle.fs_machine.specs.declared.hand.Hand.{Hand as HandState};
 ghost use Rattle.inode_data.specs.Emptying.{HasNoBuffer};
 ghost use Rattle.inode_table.specs.HeldInodes.{IsLoadedAt};
 ghost use Rattle.directory.specs.EnterParts.{entered_as};
@@ -22,7 +22,7 @@ use crate::places::lock_seat;
 use crate::records::{change, record_at};
 use directory::{Enter, Entered, Room};
 use fs_layout::Super;
-use hands::{Answer, Hand, Op, Routine, Seat};
+use fs_machine::{Answer, Hand, Op, Routine, Seat};
 use inode_data::Begun;
 use path_walk::{Entered as Entry, Heard};
 

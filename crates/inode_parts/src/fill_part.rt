@@ -1,9 +1,9 @@
 //! The names of a new directory written, as a part.
 ghost use Rattle.std.specs.Prelude.{◌≡◌, ℕ, List, Some, None, IfNone};
 ghost use Rattle.atomic_programs.specs.Prog.{asks};
-ghost use Rattle.hands.specs.Ops.{op_in, answer_in, CanDo, Prepared, IsAfter};
-ghost use Rattle.hands.specs.Controls.{Goes, bare, left_after};
-ghost use Rattle.hands.specs.declared.hand.Hand.{Hand as HandState};
+ghost use Rattle.fs_machine.specs.Ops.{op_in, answer_in, CanDo, Prepared, IsAfter};
+ghost use Rattle.fs_machine.specs.Controls.{Goes, bare, left_after};
+ghost use Rattle.fs_machine.specs.declared.hand.Hand.{Hand as HandState};
 ghost use Rattle.inode_machine.specs.World as above;
 ghost use Rattle.inode_parts.specs.Carries.{carry_in, handed};
 ghost use Rattle.inode_parts.specs.Fills.{fill_part_left, fill_part_asked, FillAmid, FillBegins, FillPartReady};
@@ -16,7 +16,7 @@ use crate::places::lock_seat;
 use crate::records::{change, record_at};
 use directory::Fill;
 use fs_layout::Super;
-use hands::{Answer, Hand, Op, Routine, Seat};
+use fs_machine::{Answer, Hand, Op, Routine, Seat};
 use path_walk::Heard;
 
 /// "." and ".." are written in the new directory whose lock is at this seat.

@@ -1,9 +1,9 @@
 //! An inode freed.
 ghost use Rattle.std.specs.Prelude.{◌≡◌, ℕ, List, Some, IfNone};
 ghost use Rattle.atomic_programs.specs.Prog.{asks};
-ghost use Rattle.hands.specs.Ops.{op_in, answer_in, CanDo, Prepared, IsAfter};
-ghost use Rattle.hands.specs.Controls.{Goes, left_after, bare};
-ghost use Rattle.hands.specs.declared.hand.Hand.{Hand as HandState};
+ghost use Rattle.fs_machine.specs.Ops.{op_in, answer_in, CanDo, Prepared, IsAfter};
+ghost use Rattle.fs_machine.specs.Controls.{Goes, left_after, bare};
+ghost use Rattle.fs_machine.specs.declared.hand.Hand.{Hand as HandState};
 ghost use Rattle.inode_machine.specs.World.{Free};
 ghost use Rattle.inode_parts.specs.Carries.{carry_in, handed};
 ghost use Rattle.inode_parts.specs.Frees.{free_left, free_asked, FreeAmid, FreeBegins, FreeReady};
@@ -14,7 +14,7 @@ ghost use Rattle.inode_parts.specs.declared.note.Notes.{Notes as NotesState};
 use crate::note::{Note, Notes};
 use crate::places::lock_seat;
 use fs_layout::Super;
-use hands::{Answer, Hand, Op, Routine, Seat};
+use fs_machine::{Answer, Hand, Op, Routine, Seat};
 use inode_data::FreeInode;
 use path_walk::Heard;
 

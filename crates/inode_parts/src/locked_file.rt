@@ -6,7 +6,7 @@ ghost use Rattle.inode_parts.specs.declared.note.Note.TheVariants as note;
 
 use crate::note::{Note, Notes};
 use crate::places::lock_seat;
-use hands::{Hand, Seat};
+use fs_machine::{Hand, Seat};
 
 /// Where the lock is, by which descriptor it was taken, and where the open file stands.
 #[derive(Clone, Copy, Drop)]

@@ -2,7 +2,7 @@
 ghost use Rattle.std.specs.Prelude.{◌≡◌};
 ghost use Rattle.inode_parts.specs.Carries.{note_at, with_note};
 
-use hands::Seat;
+use fs_machine::Seat;
 use path_walk::Element;
 
 /// What was learned of the inode at a seat since its lock was taken.

@@ -2,10 +2,10 @@
 ghost use Rattle.std.specs.Prelude.{◌≡◌, ℕ};
 ghost use Rattle.plain_tree.specs.Steps.{has};
 ghost use Rattle.inode_machine.specs.Opening.{file_for};
-ghost use Rattle.inodes_on_tables.specs.Shown.{kind_of, new_file as told_of};
+ghost use Rattle.inodes_on_blocks.specs.ShownTables.{kind_of, new_file as told_of};
 ghost use Rattle.path_walk.specs.Asks.{sort_of};
 
-use fs_tables::NewFile;
+use fs_machine::NewFile;
 use path_walk::Sort;
 
 /// The numbers of an inode's type.

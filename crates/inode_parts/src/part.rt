@@ -1,9 +1,9 @@
 //! Operations on whole inodes, each as a part over blocks.
 ghost use Rattle.std.specs.Prelude.{◌≡◌, ◌++◌, ℕ, List, Some, None, IfSome, IfNone};
 ghost use Rattle.atomic_programs.specs.Prog.{Ret, asks};
-ghost use Rattle.hands.specs.Ops.{op_in, answer_in, CanDo, Prepared, IsAfter};
-ghost use Rattle.hands.specs.Controls.{Goes, bare};
-ghost use Rattle.hands.specs.declared.hand.Hand.{Hand as HandState};
+ghost use Rattle.fs_machine.specs.Ops.{op_in, answer_in, CanDo, Prepared, IsAfter};
+ghost use Rattle.fs_machine.specs.Controls.{Goes, bare};
+ghost use Rattle.fs_machine.specs.declared.hand.Hand.{Hand as HandState};
 ghost use Rattle.inode_machine.specs.World.{Op as OpAbove};
 ghost use Rattle.inode_machine.specs.World.Op.{Take};
 ghost use Rattle.path_walk.specs.Asks.{op_in as above_op, query_in};
@@ -40,7 +40,7 @@ use crate::store_part::StorePart;
 use crate::take_part::TakePart;
 use crate::write_file_part::WriteFilePart;
 use fs_layout::Super;
-use hands::{Answer, Control, Finish, Hand, Op};
+use fs_machine::{Answer, Control, Finish, Hand, Op};
 use path_walk::{Ask, Heard, Query};
 use whole_calls::Whole;
 

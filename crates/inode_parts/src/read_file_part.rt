@@ -2,9 +2,9 @@
 ghost use Rattle.std.specs.Prelude.{◌≡◌, ◌<◌, ◌≤◌, ◌^◌, ℕ, List, length, Some, IfNone, IfSome};
 ghost use Rattle.fs_layout.specs.declared.superblock.Super.{Super as SuperState};
 ghost use Rattle.atomic_programs.specs.Prog.{asks};
-ghost use Rattle.hands.specs.Ops.{op_in, answer_in, CanDo, Prepared, IsAfter};
-ghost use Rattle.hands.specs.Controls.{Goes, left_after};
-ghost use Rattle.hands.specs.declared.hand.Hand.{Hand as HandState};
+ghost use Rattle.fs_machine.specs.Ops.{op_in, answer_in, CanDo, Prepared, IsAfter};
+ghost use Rattle.fs_machine.specs.Controls.{Goes, left_after};
+ghost use Rattle.fs_machine.specs.declared.hand.Hand.{Hand as HandState};
 ghost use Rattle.inode_machine.specs.World.Op.{ReadFile as Reads};
 ghost use Rattle.path_walk.specs.Asks.{count_in};
 ghost use Rattle.inode_parts.specs.Carries.{carry_in, handed};
@@ -17,7 +17,7 @@ ghost use Rattle.inode_parts.specs.declared.note.Notes.{Notes as NotesState};
 use crate::locked_file::{LockedFile, locked_file};
 use crate::note::Notes;
 use crate::records::record_at;
-use hands::{Answer, Hand, Op};
+use fs_machine::{Answer, Hand, Op};
 use inode_data::{Begun, ReadPart};
 use path_walk::Heard;
 

@@ -1,10 +1,10 @@
 //! The first listed inode locked, to be freed.
 ghost use Rattle.std.specs.Prelude.{◌≡◌, ℕ, List, Some, IfNone};
 ghost use Rattle.atomic_programs.specs.Prog.{Ret, asks};
-ghost use Rattle.hands.specs.Hands.{number_at};
-ghost use Rattle.hands.specs.Ops.{op_in, answer_in, CanDo, Prepared, IsAfter};
-ghost use Rattle.hands.specs.Controls.{Goes, left_after, bare};
-ghost use Rattle.hands.specs.declared.hand.Hand.{Hand as HandState};
+ghost use Rattle.fs_machine.specs.Hands.{number_at};
+ghost use Rattle.fs_machine.specs.Ops.{op_in, answer_in, CanDo, Prepared, IsAfter};
+ghost use Rattle.fs_machine.specs.Controls.{Goes, left_after, bare};
+ghost use Rattle.fs_machine.specs.declared.hand.Hand.{Hand as HandState};
 ghost use Rattle.inode_table.specs.HeldInodes.{record_in};
 ghost use Rattle.inode_machine.specs.Inodes.{AtNothing};
 ghost use Rattle.inode_machine.specs.World.Op.{Take};
@@ -22,7 +22,7 @@ use crate::note::{Note, Notes};
 use crate::places::free_seat;
 use crate::records::record_at;
 use fs_layout::Super;
-use hands::{Answer, Hand, Op, Routine, Seat};
+use fs_machine::{Answer, Hand, Op, Routine, Seat};
 use inode_table::LockInode;
 use path_walk::{Heard, Sight};
 

@@ -1,10 +1,10 @@
 //! An inode locked, and what is looked for found in it.
 ghost use Rattle.std.specs.Prelude.{◌≡◌, ◌++◌, ℕ, List, true, not, Some, None, is_some, IfNone};
 ghost use Rattle.atomic_programs.specs.Prog.{asks};
-ghost use Rattle.hands.specs.Hands.{number_at};
-ghost use Rattle.hands.specs.Ops.{op_in, answer_in, CanDo, Prepared, IsAfter};
-ghost use Rattle.hands.specs.Controls.{Goes, left_after, bare};
-ghost use Rattle.hands.specs.declared.hand.Hand.{Hand as HandState};
+ghost use Rattle.fs_machine.specs.Hands.{number_at};
+ghost use Rattle.fs_machine.specs.Ops.{op_in, answer_in, CanDo, Prepared, IsAfter};
+ghost use Rattle.fs_machine.specs.Controls.{Goes, left_after, bare};
+ghost use Rattle.fs_machine.specs.declared.hand.Hand.{Hand as HandState};
 ghost use Rattle.inode_data.specs.Emptying.{HasNoBuffer};
 ghost use Rattle.inode_table.specs.HeldInodes.{record_in};
 ghost use Rattle.inode_data.specs.Beginnings.{IfBegun};
@@ -30,7 +30,7 @@ use crate::places::reference_seat;
 use crate::records::record_at;
 use directory::{Found, Search, Sought};
 use fs_layout::{Dinode, Super};
-use hands::{Answer, Hand, Op, Routine, Seat};
+use fs_machine::{Answer, Hand, Op, Routine, Seat};
 use inode_data::Begun;
 use inode_table::LockInode;
 use path_walk::{Element, Heard, Query, Sight};

@@ -4,14 +4,14 @@ use Rattle.std.specs.Option.{option_map, option_map_or, MatchOption}
 use Rattle.inode_table.specs.HeldInodes.{IsLoadedAt}
 use Rattle.fs_layout.specs.declared.inode.Dinode.{Dinode}
 use Rattle.std.specs.Prelude.{false, Some, IsSome, is_some}
-use Rattle.hands.specs.declared.hand.Seat.{Seat}
-use Rattle.hands.specs.declared.hand.Seat.TheVariants.{One, Two}
+use Rattle.fs_machine.specs.declared.hand.Seat.{Seat}
+use Rattle.fs_machine.specs.declared.hand.Seat.TheVariants.{One, Two}
 use Rattle.sleep_lock.specs.SleepLock.{GuardState}
-use Rattle.fs_tables.specs.declared.inodes.Inode.{Inode}
+use Rattle.fs_machine.specs.declared.entries.Inode.{Inode}
 use Rattle.inode_table.specs.Programs.{load, load_unless}
 use Rattle.fs_machine.specs.Machines.{P}
-use Rattle.hands.specs.declared.hand.Hand.{Hand}
-use Rattle.hands.specs.Hands.{inode_in, no_inode, recorded, with_record}
+use Rattle.fs_machine.specs.declared.hand.Hand.{Hand}
+use Rattle.fs_machine.specs.Hands.{inode_in, no_inode, recorded, with_record}
 
 -- a record that was set
 pub recorded-in : (k : Seat) (d : Dinode) (h : Hand) → IsLoadedAt k h → inode_in k (with_record k d h) ≡ record { number = (inode_in k h).number; content = Some d }

@@ -1,7 +1,7 @@
 -- Each part has an operation to make.
-use Rattle.hands.proofs.HasOnes.{HasOne, first, fetch_has}
-use Rattle.hands.specs.declared.hand.Hand.{Hand}
-use Rattle.hands.specs.Fetching.{fetch_left}
+use Rattle.fs_machine.proofs.HasOnes.{HasOne, first, fetch_has}
+use Rattle.fs_machine.specs.declared.hand.Hand.{Hand}
+use Rattle.fs_machine.specs.Fetching.{fetch_left}
 use Rattle.inode_table.specs.Loading.{load_left}
 use Rattle.inode_table.specs.LockingInodes.{lock_left}
 use Rattle.inode_table.specs.Making.{new_left}

@@ -5,12 +5,12 @@ use Rattle.atomic_programs.specs.Prog.{Ret, Do, bind, unmarked}
 use Rattle.fs_machine.specs.Steps as steps
 use Rattle.fs_machine.specs.Machines.{P}
 use Rattle.inode_table.specs.Programs.{give_back}
-use Rattle.hands.specs.declared.hand.Hand.{Hand}
-use Rattle.hands.specs.declared.hand.Place.{Place}
-use Rattle.hands.specs.declared.op.Op.{Op}
-use Rattle.hands.specs.declared.op.Op.TheVariants as ops
-use Rattle.hands.specs.Hands.{buffer_at, block_at}
-use Rattle.hands.specs.Fetching.{fetch_left, fetch_asked, fetch_block, fetch_place, FetchReady}
+use Rattle.fs_machine.specs.declared.hand.Hand.{Hand}
+use Rattle.fs_machine.specs.declared.hand.Place.{Place}
+use Rattle.fs_machine.specs.declared.op.Op.{Op}
+use Rattle.fs_machine.specs.declared.op.Op.TheVariants as ops
+use Rattle.fs_machine.specs.Hands.{buffer_at, block_at}
+use Rattle.fs_machine.specs.Fetching.{fetch_left, fetch_asked, fetch_block, fetch_place, FetchReady}
 use Rattle.inode_table.specs.declared.load_inode.LoadInode.{LoadInode}
 use Rattle.inode_table.specs.declared.load_inode.LoadInode.TheVariants.{Fetching, Give}
 

@@ -6,7 +6,7 @@ use Rattle.fs_layout.specs.Bytes.{overwrite}
 use Rattle.fs_layout.specs.Inode.{dinode_at, spell_dinode}
 use Rattle.fs_layout.specs.Widths.{inode_len, inodes_per_block}
 use Rattle.atomic_programs.specs.Prog.{Prog, Ret, Do, bind, unmarked}
-use Rattle.fs_tables.specs.declared.inodes.Inode.{Inode}
+use Rattle.fs_machine.specs.declared.entries.Inode.{Inode}
 use Rattle.fs_machine.specs.Steps.{Op, Answer, Put}
 use Rattle.fs_machine.specs.Programs.{fetch}
 

@@ -2,15 +2,15 @@
 ghost use Rattle.std.specs.Prelude.{◌≡◌, ◌<◌, ◌^◌, None, IfSome, IfNone};
 ghost use Rattle.fs_layout.specs.declared.inode.Dinode.{Dinode as DinodeState};
 ghost use Rattle.inode_table.specs.Programs.{inode_block, load};
-ghost use Rattle.hands.specs.Hands.{buffer_at};
-ghost use Rattle.hands.specs.Ops.{IsAfter, answer_in};
-ghost use Rattle.hands.specs.Controls.{Goes, left_after, bare};
-ghost use Rattle.hands.specs.declared.hand.Hand.{Hand as HandState};
+ghost use Rattle.fs_machine.specs.Hands.{buffer_at};
+ghost use Rattle.fs_machine.specs.Ops.{IsAfter, answer_in};
+ghost use Rattle.fs_machine.specs.Controls.{Goes, left_after, bare};
+ghost use Rattle.fs_machine.specs.declared.hand.Hand.{Hand as HandState};
 ghost use Rattle.inode_table.specs.Loading.{load_left, load_asked, load_place, LoadReady};
 
 use crate::place::{block_of, dinode_at};
 use fs_layout::Dinode;
-use hands::{Answer, Fetch, Hand, Op, Part, Place};
+use fs_machine::{Answer, Fetch, Hand, Op, Part, Place};
 
 /// Reads an inode from its block.
 #[derive(Clone, Copy, Drop)]
@@ -61,7 +61,7 @@ impl Part for LoadInode {
         }
     }
 
-    #[tactic(auto, using(hands::proofs::Going::goes_bind, hands::proofs::Goings::fetched_goes))]
+    #[tactic(auto, using(fs_machine::proofs::Going::goes_bind, fs_machine::proofs::Goings::fetched_goes))]
     fn next(&mut self, answer: &Answer, hand: &Hand) -> Option<Dinode> {
         match self {
             LoadInode::Fetching(number, fetch) => {

@@ -1,12 +1,12 @@
 // The inode whose lock is at a seat, loaded where it isn't.
 ghost use Rattle.std.specs.Prelude.{◌≡◌, None, IsSome};
 ghost use Rattle.inode_table.specs.Programs.{load_unless};
-ghost use Rattle.hands.specs.Hands.{inode_at, inode_in};
+ghost use Rattle.fs_machine.specs.Hands.{inode_at, inode_in};
 ghost use Rattle.inode_table.specs.HeldInodes.{number_in, HasBlock};
 ghost use Rattle.inode_table.specs.LoadingHeld.{begun_left, HasBegun};
 
 use crate::load_inode::LoadInode;
-use hands::{Hand, Place, Seat};
+use fs_machine::{Hand, Place, Seat};
 
 /// Begins to load it, on a disk whose inode blocks begin at block `inodestart`. None where it is loaded.
 pub fn load_held(inodestart: u32, hand: &Hand, seat: Seat) -> Option<LoadInode>

@@ -2,18 +2,18 @@
 ghost use Rattle.std.specs.Prelude.{◌≡◌, ◌<◌, ◌^◌, None, IsSome, IfSome, IfNone, MatchOption};
 ghost use Rattle.fs_layout.specs.declared.inode.Dinode.{Dinode as DinodeState};
 ghost use Rattle.inode_table.specs.Programs.{inode_block, load_unless};
-ghost use Rattle.hands.specs.Hands.{inode_at, inode_in, number_at, reference_at};
-ghost use Rattle.hands.specs.Ops.{IsAfter, answer_in};
-ghost use Rattle.hands.specs.Controls.{Goes, left_after, bare};
-ghost use Rattle.hands.specs.declared.hand.Hand.{Hand as HandState};
-ghost use Rattle.hands.specs.declared.hand.Seat.{Seat as SeatState};
+ghost use Rattle.fs_machine.specs.Hands.{inode_at, inode_in, number_at, reference_at};
+ghost use Rattle.fs_machine.specs.Ops.{IsAfter, answer_in};
+ghost use Rattle.fs_machine.specs.Controls.{Goes, left_after, bare};
+ghost use Rattle.fs_machine.specs.declared.hand.Hand.{Hand as HandState};
+ghost use Rattle.fs_machine.specs.declared.hand.Seat.{Seat as SeatState};
 ghost use Rattle.inode_table.specs.HeldInodes.{number_in, record_in, HasBlock};
 ghost use Rattle.inode_table.specs.LoadingHeld.{beside_lock};
 ghost use Rattle.inode_table.specs.LockingInodes.{held_left, lock_loaded, lock_left, lock_asked, lock_seat, HasLocked, LockReady};
 
 use crate::load_inode::LoadInode;
 use crate::loading::load_held;
-use hands::{Answer, Hand, Op, Part, Routine, Seat};
+use fs_machine::{Answer, Hand, Op, Part, Routine, Seat};
 
 /// Takes the lock of the inode to which the reference at a seat is, and loads the inode where it isn't.
 #[derive(Clone, Copy, Drop)]

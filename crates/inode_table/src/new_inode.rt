@@ -7,19 +7,19 @@ ghost use Rattle.atomic_programs.specs.Prog.{Ret};
 ghost use Rattle.fs_machine.specs.Tied.{bytes_of};
 ghost use Rattle.inode_table.specs.NewInodes.{free_in, inode_blocks, is_free_in, new_from, new_inode, new_record};
 ghost use Rattle.inode_table.specs.declared.new_inode.Made.{Made as MadeState};
-ghost use Rattle.hands.specs.Hands.{bytes_at, reference_at};
-ghost use Rattle.hands.specs.Ops.{IsAfter, answer_in};
-ghost use Rattle.hands.specs.Controls.{Goes, left_after, bare};
-ghost use Rattle.hands.specs.declared.hand.Hand.{Hand as HandState};
-ghost use Rattle.hands.specs.declared.hand.Place.TheVariants.{First};
-ghost use Rattle.hands.specs.declared.hand.Seat.{Seat as SeatState};
+ghost use Rattle.fs_machine.specs.Hands.{bytes_at, reference_at};
+ghost use Rattle.fs_machine.specs.Ops.{IsAfter, answer_in};
+ghost use Rattle.fs_machine.specs.Controls.{Goes, left_after, bare};
+ghost use Rattle.fs_machine.specs.declared.hand.Hand.{Hand as HandState};
+ghost use Rattle.fs_machine.specs.declared.hand.Place.TheVariants.{First};
+ghost use Rattle.fs_machine.specs.declared.hand.Seat.{Seat as SeatState};
 ghost use Rattle.inode_table.specs.Making.{new_left, new_value, new_asked, new_seat, beside_new, claimed_of, rest_of, HasFree, HasInodes, IsLooking, NewEnds, NewReady};
 
 use crate::place::write_dinode_at;
 use byteorder::{ByteOrder, LittleEndian};
 use fs_layout::widths::{ADDRESSES, Block, INODE_LEN, INODES_PER_BLOCK};
 use fs_layout::{Dinode, Super};
-use hands::{Answer, Fetch, Hand, Op, Part, Place, Routine, Seat};
+use fs_machine::{Answer, Fetch, Hand, Op, Part, Place, Routine, Seat};
 
 /// What a search for a new inode came to.
 #[derive(Clone, Copy, Drop)]
@@ -112,7 +112,7 @@ impl Routine for NewInode {
         }
     }
 
-    #[tactic(auto, using(hands::proofs::Going::goes_bind, hands::proofs::Goings::fetched_goes))]
+    #[tactic(auto, using(fs_machine::proofs::Going::goes_bind, fs_machine::proofs::Goings::fetched_goes))]
     fn next(&mut self, answer: &Answer, hand: &mut Hand) -> Option<Made> {
         match self {
             NewInode::Fetching(seat, looking, fetch) => {

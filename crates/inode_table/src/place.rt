@@ -4,14 +4,14 @@ ghost use Rattle.std.specs.Option.{MatchOption};
 ghost use Rattle.fs_layout.specs.Widths.{inodes_per_block};
 ghost use Rattle.fs_machine.specs.Tied.{bytes_of};
 ghost use Rattle.inode_table.specs.Programs.{inode_block, place_of, with_dinode};
-ghost use Rattle.hands.specs.Hands.{buffer_at, bytes_at, with_bytes, with_content};
+ghost use Rattle.fs_machine.specs.Hands.{buffer_at, bytes_at, with_bytes, with_content};
 ghost use Rattle.fs_layout.specs.Inode.{dinode_at};
-ghost use Rattle.hands.specs.declared.hand.Place.TheVariants.{First};
+ghost use Rattle.fs_machine.specs.declared.hand.Place.TheVariants.{First};
 
 use buffer_cache::Buffer;
 use fs_layout::widths::INODES_PER_BLOCK;
 use fs_layout::{Dinode, read_dinode, write_dinode};
-use hands::{Hand, Place};
+use fs_machine::{Hand, Place};
 use sleep_lock::Guard;
 
 // The block of an inode.

@@ -2,14 +2,14 @@
 ghost use Rattle.std.specs.Prelude.{◌≡◌, ◌<◌, ◌^◌, ℕ, None, IsSome, IfSome, IfNone};
 ghost use Rattle.inode_table.specs.Programs.{inode_block, store};
 ghost use Rattle.inode_table.specs.Storing.{store_left, store_asked, store_place, StoreReady};
-ghost use Rattle.hands.specs.Hands.{buffer_at, with_buffer};
-ghost use Rattle.hands.specs.Ops.{IsAfter, answer_in};
-ghost use Rattle.hands.specs.Controls.{Goes, left_after, bare};
-ghost use Rattle.hands.specs.declared.hand.Hand.{Hand as HandState};
+ghost use Rattle.fs_machine.specs.Hands.{buffer_at, with_buffer};
+ghost use Rattle.fs_machine.specs.Ops.{IsAfter, answer_in};
+ghost use Rattle.fs_machine.specs.Controls.{Goes, left_after, bare};
+ghost use Rattle.fs_machine.specs.declared.hand.Hand.{Hand as HandState};
 
 use crate::place::{block_of, write_dinode_at};
 use fs_layout::Dinode;
-use hands::{Answer, Fetch, Hand, Op, Part, Place};
+use fs_machine::{Answer, Fetch, Hand, Op, Part, Place};
 
 /// Records an inode in its block.
 #[derive(Drop)]
@@ -64,7 +64,7 @@ impl Part for StoreInode {
         }
     }
 
-    #[tactic(auto, using(hands::proofs::Going::goes_bind, hands::proofs::Goings::fetched_goes))]
+    #[tactic(auto, using(fs_machine::proofs::Going::goes_bind, fs_machine::proofs::Goings::fetched_goes))]
     fn next(&mut self, answer: &Answer, hand: &Hand) -> Option<()> {
         match self {
             StoreInode::Fetching(number, inode, fetch) => match fetch.next(answer, hand) {

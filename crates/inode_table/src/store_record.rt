@@ -1,18 +1,18 @@
 //! The inode at a seat stored.
 ghost use Rattle.std.specs.Prelude.{◌≡◌, ◌<◌, ◌^◌, ℕ, None, IsSome, IfSome, IfNone};
 ghost use Rattle.inode_table.specs.Programs.{inode_block, store};
-ghost use Rattle.hands.specs.Hands.{buffer_at, with_buffer, with_record};
-ghost use Rattle.hands.specs.Ops.{IsAfter, answer_in};
-ghost use Rattle.hands.specs.Controls.{Goes, left_after, bare};
-ghost use Rattle.hands.specs.declared.hand.Hand.{Hand as HandState};
-ghost use Rattle.hands.specs.declared.hand.Seat.{Seat as SeatState};
+ghost use Rattle.fs_machine.specs.Hands.{buffer_at, with_buffer, with_record};
+ghost use Rattle.fs_machine.specs.Ops.{IsAfter, answer_in};
+ghost use Rattle.fs_machine.specs.Controls.{Goes, left_after, bare};
+ghost use Rattle.fs_machine.specs.declared.hand.Hand.{Hand as HandState};
+ghost use Rattle.fs_machine.specs.declared.hand.Seat.{Seat as SeatState};
 ghost use Rattle.inode_table.specs.HeldInodes.{counted, number_in, record_in, HasBlock, IsLoadedAt};
 ghost use Rattle.inode_table.specs.StoringRecords.{record_left, record_asked, record_place, record_seat, RecordReady};
 
 use crate::held::record_at;
 use crate::place::{block_of, write_dinode_at};
 use fs_layout::Dinode;
-use hands::{Answer, Fetch, Hand, Op, Part, Place, Seat};
+use fs_machine::{Answer, Fetch, Hand, Op, Part, Place, Seat};
 
 /// Records the inode whose lock is at a seat in its block, as it is in hand.
 #[derive(Clone, Copy, Drop)]
@@ -115,7 +115,7 @@ impl Part for StoreRecord {
         }
     }
 
-    #[tactic(auto, using(hands::proofs::Going::goes_bind, hands::proofs::Goings::fetched_goes))]
+    #[tactic(auto, using(fs_machine::proofs::Going::goes_bind, fs_machine::proofs::Goings::fetched_goes))]
     fn next(&mut self, answer: &Answer, hand: &Hand) -> Option<()> {
         match self {
             StoreRecord::Fetching(seat, fetch) => {

@@ -6,8 +6,8 @@ use Rattle.fs_layout.specs.Recovered.{recovered, sizes_of, IsOutsideLog}
 use Rattle.bitmap_alloc.specs.Bytes.{with_bit, without_bit}
 use Rattle.bitmap_alloc.proofs.OneBit.{sets_one, clears_one}
 use Rattle.image_tree.specs.Checks.{is_marked}
-use Rattle.image_laws.specs.Puts.{IsPut, IsBitPut}
-use Rattle.image_laws.proofs.SeenDisks.{good_seen}
+use Rattle.inodes_on_blocks.specs.Puts.{IsPut, IsBitPut}
+use Rattle.inodes_on_blocks.proofs.SeenDisks.{good_seen}
 use Rattle.fs_machine.specs.LogPart.{LogPart}
 use Rattle.fs_machine.specs.Shown.{seen_of}
 use Rattle.inode_machine.specs.World as above

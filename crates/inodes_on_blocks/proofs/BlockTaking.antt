@@ -11,11 +11,11 @@ use Rattle.fs_layout.specs.Recovered.{IsOutsideLog, recovered, sizes_of}
 use Rattle.buffer_cache.specs.Seats.{holder_of}
 use Rattle.image_tree.specs.Checks.{IsData}
 use Rattle.image_tree.specs.Inodes.{numbers_of, indirect_numbers}
-use Rattle.image_laws.specs.Holds.{IsOwned, NamesOwned}
-use Rattle.image_laws.proofs.HeldFrames.{spare_put}
-use Rattle.image_laws.proofs.ImageNodes.{at_index}
-use Rattle.image_laws.proofs.SeenDisks.{good_seen}
-use Rattle.image_laws.specs.Puts.{IsLaidOut, IsSpare}
+use Rattle.inodes_on_blocks.specs.Holds.{IsOwned, NamesOwned}
+use Rattle.inodes_on_blocks.proofs.HeldFrames.{spare_put}
+use Rattle.inodes_on_blocks.proofs.ImageNodes.{at_index}
+use Rattle.inodes_on_blocks.proofs.SeenDisks.{good_seen}
+use Rattle.inodes_on_blocks.specs.Puts.{IsLaidOut, IsSpare}
 use Rattle.plain_tree.specs.declared.node.Node.{Node}
 use Rattle.plain_tree.specs.Widths.{hart_count}
 use Rattle.atomic_programs.specs.Prog.{Do, bind, unmarked}

@@ -5,14 +5,14 @@ use Rattle.fs_layout.specs.declared.superblock.Super.{Super}
 use Rattle.fs_layout.specs.Recovered.{recovered, sizes_of}
 use Rattle.image_tree.specs.Checks.{IsData}
 use Rattle.image_tree.specs.Inodes.{numbers_of}
-use Rattle.image_laws.specs.Holds.{HoldsAt, NamesOwned}
-use Rattle.image_laws.specs.Puts.{IsUntouched, IsLaidOut}
-use Rattle.image_laws.proofs.HeldFrames.{untouched, untouched_change}
-use Rattle.image_laws.proofs.LaidInodes.{laid_before}
-use Rattle.image_laws.proofs.SeenDisks.{good_seen}
+use Rattle.inodes_on_blocks.specs.Holds.{HoldsAt, NamesOwned}
+use Rattle.inodes_on_blocks.specs.Puts.{IsUntouched, IsLaidOut}
+use Rattle.inodes_on_blocks.proofs.HeldFrames.{untouched, untouched_change}
+use Rattle.inodes_on_blocks.proofs.LaidInodes.{laid_before}
+use Rattle.inodes_on_blocks.proofs.SeenDisks.{good_seen}
 use Rattle.plain_tree.specs.declared.node.Node.{Node}
 use Rattle.tree_laws.proofs.Maps.{either}
-use Rattle.fs_tables.specs.Tables.{holder_of as lock_holder}
+use Rattle.fs_machine.specs.Tables.{holder_of as lock_holder}
 use Rattle.fs_machine.specs.Shown.{seen_of}
 use Rattle.inode_machine.specs.World as above
 use Rattle.inode_machine.specs.Rules.{if_kept, is_hart, Idle}

@@ -12,20 +12,20 @@ use Rattle.plain_tree.specs.Tree.{put}
 use Rattle.plain_tree.specs.Widths.{hart_count}
 use Rattle.tree_laws.proofs.Maps.{same_or, eq_not, put_same, put_other}
 use Rattle.image_tree.specs.Inodes.{is_free, is_number}
-use Rattle.image_laws.specs.Holds.{HoldsAt, IsRecord}
-use Rattle.image_laws.specs.Puts.{IsInodePut}
-use Rattle.image_laws.specs.Running.{IsRunning}
-use Rattle.image_laws.proofs.HeldFrames.{untouched}
-use Rattle.image_laws.proofs.HeldPuts.{inode_is}
-use Rattle.image_laws.proofs.SeenDisks.{good_seen}
+use Rattle.inodes_on_blocks.specs.Holds.{HoldsAt, IsRecord}
+use Rattle.inodes_on_blocks.specs.Puts.{IsInodePut}
+use Rattle.inodes_on_blocks.specs.Running.{IsRunning}
+use Rattle.inodes_on_blocks.proofs.HeldFrames.{untouched}
+use Rattle.inodes_on_blocks.proofs.HeldPuts.{inode_is}
+use Rattle.inodes_on_blocks.proofs.SeenDisks.{good_seen}
 use Rattle.buffer_cache.specs.Lists.{count_of}
 use Rattle.buffer_cache.specs.Seats.{is_held_by, holder_of, kept}
 use Rattle.group_log.specs.Group.{has, HasRoom}
 use Rattle.group_log.specs.Soundness.{IsHome}
 use Rattle.fs_machine.specs.Steps.{Put}
-use Rattle.image_laws.specs.Seen.{IsGoodSeen}
+use Rattle.inodes_on_blocks.specs.Seen.{IsGoodSeen}
 use Rattle.inodes_on_blocks.specs.Owners.{Owners}
-use Rattle.fs_tables.specs.Tables.{TablesState, holder_of as lock_holder}
+use Rattle.fs_machine.specs.Tables.{TablesState, holder_of as lock_holder}
 use Rattle.fs_machine.specs.LogPart.{LogPart, put_block}
 use Rattle.fs_machine.specs.Own.{Own}
 use Rattle.fs_machine.specs.Shown.{seen_of}
@@ -39,8 +39,8 @@ use Rattle.inode_machine.specs.Rules as rules
 use Rattle.inode_machine.specs.Rules.{is_hart, if_kept, Inv, Idle}
 use Rattle.inode_machine.proofs.Frame.{one_refs}
 use Rattle.inode_machine.proofs.Rules.{opens_slots}
-use Rattle.inodes_on_tables.specs.Shown as tables
-use Rattle.inodes_on_tables.specs.Shown.{loaded, kind_of}
+use Rattle.inodes_on_blocks.specs.ShownTables as tables
+use Rattle.inodes_on_blocks.specs.ShownTables.{loaded, kind_of}
 use Rattle.inodes_on_blocks.specs.OnBlocks.{is_joined, AreOnBlocks}
 use Rattle.inodes_on_blocks.specs.Below.{World, log_of, tables_of, disk_of, inode_in, owners_of, untyped, owners_after}
 use Rattle.inodes_on_blocks.specs.Shown.{Shows, IsNew, if_joined, ghost_of, on_blocks, unless_new}

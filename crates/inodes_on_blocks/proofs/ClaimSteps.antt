@@ -15,9 +15,9 @@ use Rattle.atomic_programs.specs.Logic.{Machine, Laws, P, Wp}
 use Rattle.atomic_programs.specs.Joined.{Both, joined, Below, Handover, Lasts}
 use Rattle.atomic_programs.proofs.Joined.{Here, Silent, ToAct, to_act, acted, s-silent}
 use Rattle.atomic_programs.proofs.Sound.{Wp-more}
-use Rattle.fs_tables.specs.Tables as places
-use Rattle.fs_tables.specs.Tables.{TablesState, references_in, holder_of as lock_holder}
-use Rattle.fs_tables.specs.Inodes.{up_inode, first_free, is_unreferenced}
+use Rattle.fs_machine.specs.Tables as places
+use Rattle.fs_machine.specs.Tables.{TablesState, references_in, holder_of as lock_holder}
+use Rattle.fs_machine.specs.Inodes.{up_inode, first_free, is_unreferenced}
 use Rattle.fs_machine.specs.LogPart.{Outside, Passes}
 use Rattle.fs_machine.specs.Shown.{seen_of}
 use Rattle.fs_machine.specs.Premises as premises
@@ -35,9 +35,9 @@ use Rattle.inode_machine.specs.Exec.{claimed, counted_up, has_place, place_count
 use Rattle.inode_machine.specs.Marks.{marked, with_mark}
 use Rattle.inode_machine.specs.Rules as rules
 use Rattle.inode_machine.specs.Rules.{Idle, Inv, more}
-use Rattle.inodes_on_tables.specs.Shown as tables
-use Rattle.inodes_on_tables.specs.Shown.{loaded, kind_of}
-use Rattle.inodes_on_tables.proofs.References.{by_place}
+use Rattle.inodes_on_blocks.specs.ShownTables as tables
+use Rattle.inodes_on_blocks.specs.ShownTables.{loaded, kind_of}
+use Rattle.inodes_on_blocks.proofs.References.{by_place}
 use Rattle.inodes_on_blocks.specs.Below.{World, log_of, tables_of, inode_in, came_to, exec}
 use Rattle.inodes_on_blocks.specs.Acting.{alone, Answers, IsDone}
 use Rattle.inodes_on_blocks.specs.Holding.{in_hand, HasBuffer, SameBut}

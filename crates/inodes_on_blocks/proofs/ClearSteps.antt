@@ -14,10 +14,10 @@ use Rattle.fs_layout.specs.Recovered.{recovered}
 use Rattle.std.specs.List.{All}
 use Rattle.image_tree.specs.Checks.{IsData}
 use Rattle.image_tree.specs.Inodes.{is_free, numbers_of, block_number, content_block}
-use Rattle.image_laws.specs.Holds.{HoldsAt, IsOwned, size_in}
-use Rattle.image_laws.specs.Puts.{IsPut, IsLaidOut, Becomes, slots_with}
-use Rattle.image_laws.proofs.ImageNodes.{at_index}
-use Rattle.image_laws.proofs.SeenDisks.{good_seen}
+use Rattle.inodes_on_blocks.specs.Holds.{HoldsAt, IsOwned, size_in}
+use Rattle.inodes_on_blocks.specs.Puts.{IsPut, IsLaidOut, Becomes, slots_with}
+use Rattle.inodes_on_blocks.proofs.ImageNodes.{at_index}
+use Rattle.inodes_on_blocks.proofs.SeenDisks.{good_seen}
 use Rattle.plain_tree.specs.declared.node.Slot.{Slot}
 use Rattle.plain_tree.specs.declared.node.Node.{Node}
 use Rattle.plain_tree.specs.declared.node.Kind.{Kind}
@@ -33,7 +33,7 @@ use Rattle.atomic_programs.specs.Joined.{Both, joined, Below, Lasts, Handover}
 use Rattle.atomic_programs.proofs.Joined.{ToAct, to_act, may_act}
 use Rattle.atomic_programs.proofs.Prog.{bind-assoc}
 use Rattle.atomic_programs.proofs.Sound.{Wp-more}
-use Rattle.fs_tables.specs.Tables.{holder_of as lock_holder}
+use Rattle.fs_machine.specs.Tables.{holder_of as lock_holder}
 use Rattle.fs_machine.specs.Programs.{fetch}
 use Rattle.fs_machine.specs.Shown.{seen_of}
 use Rattle.inode_data.specs.declared.addresses.Address.TheVariants.{Direct, InTable}

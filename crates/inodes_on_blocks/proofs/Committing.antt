@@ -15,8 +15,8 @@ use Rattle.group_log.proofs.Seats.{pick}
 use Rattle.group_log.proofs.Steps.{open_of}
 use Rattle.tree_laws.proofs.Maps.{eq_not}
 use Rattle.image_tree.specs.Inodes.{inode_of}
-use Rattle.image_laws.specs.Seen.{seen_blocks}
-use Rattle.image_laws.proofs.SeenDisks.{seen_stays}
+use Rattle.inodes_on_blocks.specs.Seen.{seen_blocks}
+use Rattle.inodes_on_blocks.proofs.SeenDisks.{seen_stays}
 use Rattle.fs_machine.specs.LogPart.{LogPart}
 use Rattle.fs_machine.specs.Own.{Own, own_of, mine_of}
 use Rattle.fs_machine.specs.Shown.{seen_of}
@@ -24,7 +24,7 @@ use Rattle.fs_machine.specs.Whole.{IsWholeLog}
 use Rattle.inode_machine.specs.World as above
 use Rattle.inode_machine.specs.Rules.{if_kept, is_hart}
 use Rattle.inodes_on_blocks.specs.OnBlocks.{is_joined}
-use Rattle.inodes_on_tables.specs.Shown.{loaded}
+use Rattle.inodes_on_blocks.specs.ShownTables.{loaded}
 use Rattle.inodes_on_blocks.specs.Below.{World, log_of, disk_of, tables_of}
 use Rattle.inodes_on_blocks.specs.Shown.{Shows, CommitShows, ghost_of, on_blocks}
 use Rattle.inodes_on_blocks.specs.Lowering.{Same, commit_in, buffer_in}

@@ -11,9 +11,9 @@ use Rattle.fs_layout.specs.Widths.{block_len}
 use Rattle.image_tree.specs.Checks.{IsData}
 use Rattle.image_tree.specs.Inodes.{inode_of, is_free, numbers_of, indirect_numbers, block_number, content_block}
 use Rattle.image_tree.proofs.Nodes.{numbers_by_node}
-use Rattle.image_laws.specs.Holds.{HoldsAt, IsOwned}
-use Rattle.image_laws.proofs.ImageNodes.{at_index}
-use Rattle.image_laws.proofs.SeenDisks.{good_seen}
+use Rattle.inodes_on_blocks.specs.Holds.{HoldsAt, IsOwned}
+use Rattle.inodes_on_blocks.proofs.ImageNodes.{at_index}
+use Rattle.inodes_on_blocks.proofs.SeenDisks.{good_seen}
 use Rattle.buffer_cache.specs.Seats.{seen_in}
 use Rattle.plain_tree.specs.declared.node.Node.{Node}
 use Rattle.fs_machine.specs.Shown.{seen_of}

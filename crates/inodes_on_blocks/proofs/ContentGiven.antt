@@ -10,16 +10,16 @@ use Rattle.plain_tree.specs.Widths.{hart_count}
 use Rattle.tree_laws.proofs.Maps.{eq_is, eq_not}
 use Rattle.image_tree.specs.Checks.{IsData}
 use Rattle.image_tree.specs.Inodes.{indirect_numbers}
-use Rattle.image_laws.specs.Holds.{NamesOwned}
-use Rattle.image_laws.specs.Puts.{IsUntouched}
-use Rattle.image_laws.proofs.HeldPuts.{nothing_owed}
-use Rattle.image_laws.proofs.SeenDisks.{good_seen}
+use Rattle.inodes_on_blocks.specs.Holds.{NamesOwned}
+use Rattle.inodes_on_blocks.specs.Puts.{IsUntouched}
+use Rattle.inodes_on_blocks.proofs.HeldPuts.{nothing_owed}
+use Rattle.inodes_on_blocks.proofs.SeenDisks.{good_seen}
 use Rattle.atomic_programs.specs.Prog.{bind}
 use Rattle.atomic_programs.specs.Logic.{Machine, Laws, P, Wp}
 use Rattle.atomic_programs.specs.Joined.{Both, joined}
 use Rattle.atomic_programs.proofs.Joined.{Stable}
 use Rattle.atomic_programs.proofs.Sound.{Wp-more}
-use Rattle.fs_tables.specs.Tables.{holder_of as lock_holder}
+use Rattle.fs_machine.specs.Tables.{holder_of as lock_holder}
 use Rattle.fs_machine.specs.Programs.{fetch}
 use Rattle.fs_machine.specs.Shown.{seen_of}
 use Rattle.bitmap_alloc.specs.Programs.{free_block}

@@ -4,7 +4,7 @@ use Rattle.fs_layout.specs.declared.inode.Dinode.{Dinode}
 use Rattle.fs_layout.specs.declared.superblock.Super.{Super}
 use Rattle.fs_layout.specs.Widths.{block_len}
 use Rattle.image_tree.specs.Inodes.{is_free, content_block}
-use Rattle.image_laws.specs.Holds.{HoldsAt}
+use Rattle.inodes_on_blocks.specs.Holds.{HoldsAt}
 use Rattle.plain_tree.specs.declared.node.Node.{Node}
 use Rattle.plain_tree.specs.Widths.{hart_count}
 use Rattle.atomic_programs.specs.Prog.{Do, bind, unmarked}
@@ -12,7 +12,7 @@ use Rattle.atomic_programs.specs.Logic.{Machine, Laws, P, Wp}
 use Rattle.atomic_programs.specs.Joined.{Both, joined}
 use Rattle.atomic_programs.proofs.Joined.{Stable}
 use Rattle.atomic_programs.proofs.Prog.{bind-assoc}
-use Rattle.fs_tables.specs.Tables.{holder_of as lock_holder}
+use Rattle.fs_machine.specs.Tables.{holder_of as lock_holder}
 use Rattle.fs_machine.specs.Steps.{Put}
 use Rattle.inode_data.specs.Programs.{FetchedBlock as BlockInHand, FilledMemory, filled_with, next_block, part_of, fetch_block, read_blocks, read_part}
 use Rattle.inode_machine.specs.World as above

@@ -5,10 +5,10 @@ use Rattle.fs_layout.specs.Indirect.{numbers_in}
 use Rattle.fs_layout.specs.Recovered.{IsOutsideLog, recovered}
 use Rattle.fs_layout.specs.Widths.{block_len}
 use Rattle.image_tree.specs.Inodes.{is_free, numbers_of, numbers_by, block_number, content_block}
-use Rattle.image_laws.specs.Holds.{HoldsAt}
+use Rattle.inodes_on_blocks.specs.Holds.{HoldsAt}
 use Rattle.image_tree.proofs.Nodes.{numbers_by_node}
-use Rattle.image_laws.proofs.HeldFrames.{numbers_kept, untouched}
-use Rattle.image_laws.proofs.ImageNodes.{at_index}
+use Rattle.inodes_on_blocks.proofs.HeldFrames.{numbers_kept, untouched}
+use Rattle.inodes_on_blocks.proofs.ImageNodes.{at_index}
 use Rattle.plain_tree.specs.declared.node.Node.{Node}
 use Rattle.fs_machine.specs.Shown.{seen_of}
 use Rattle.inode_machine.specs.World as above

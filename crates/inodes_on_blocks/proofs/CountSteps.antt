@@ -9,12 +9,12 @@ use Rattle.plain_tree.specs.Tree.{put}
 use Rattle.plain_tree.specs.Widths.{hart_count, root}
 use Rattle.tree_laws.proofs.Maps.{same_or, and_true, eq_is, eq_not, put_same, put_other}
 use Rattle.tree_laws.proofs.Sums.{sum_part}
-use Rattle.image_laws.specs.Holds.{HoldsAt, IsRecord}
+use Rattle.inodes_on_blocks.specs.Holds.{HoldsAt, IsRecord}
 use Rattle.atomic_programs.specs.Prog.{Did, Waits, Ran, Stops, did_in}
 use Rattle.atomic_programs.specs.Logic.{Laws}
 use Rattle.atomic_programs.specs.Joined.{Both}
-use Rattle.fs_tables.specs.Tables.{TablesState, references_of}
-use Rattle.fs_tables.specs.Inodes.{up_inode, up_directory, directory_of, dead_of, is_positive, DroppedState, Counts, Keeps as Stays, Dies, drop_inode, drop_walked}
+use Rattle.fs_machine.specs.Tables.{TablesState, references_of}
+use Rattle.fs_machine.specs.Inodes.{up_inode, up_directory, directory_of, dead_of, is_positive, DroppedState, Counts, Keeps as Stays, Dies, drop_inode, drop_walked}
 use Rattle.fs_machine.specs.Steps as steps
 use Rattle.fs_machine.specs.Steps.{Whom, Number, Directory, Held, Walked}
 use Rattle.fs_machine.specs.Premises as premises
@@ -27,11 +27,11 @@ use Rattle.inode_machine.specs.Rules.{Inv}
 use Rattle.inode_machine.proofs.Frame.{put_elim, ours_none, ours_some, two_refs}
 use Rattle.inode_machine.proofs.Rules.{opens_slots}
 use Rattle.inode_machine.proofs.Numbers.{Number as Numbered, found_number, start_is_number}
-use Rattle.inodes_on_tables.specs.Shown as tables
-use Rattle.inodes_on_tables.specs.Shown.{loaded, BothCame}
-use Rattle.inodes_on_tables.specs.Laws.{MayDie, load_after}
-use Rattle.inodes_on_tables.proofs.References.{by_place, directories_are_starts}
-use Rattle.inodes_on_tables.proofs.Drops.{walks_drop_references, references_are_dropped}
+use Rattle.inodes_on_blocks.specs.ShownTables as tables
+use Rattle.inodes_on_blocks.specs.ShownTables.{loaded, BothCame}
+use Rattle.inodes_on_blocks.specs.TableLaws.{MayDie, load_after}
+use Rattle.inodes_on_blocks.proofs.References.{by_place, directories_are_starts}
+use Rattle.inodes_on_blocks.proofs.Drops.{walks_drop_references, references_are_dropped}
 use Rattle.inodes_on_blocks.specs.Below.{World, log_of, tables_of, disk_of, inode_in}
 use Rattle.inodes_on_blocks.specs.Shown.{Shows}
 use Rattle.inodes_on_blocks.specs.Lowering.{Had, Carry, IsLoaded, Base, Labels, labelled, Keeps, IsOpened}

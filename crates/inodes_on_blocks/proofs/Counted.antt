@@ -1,5 +1,5 @@
 -- The tables count what they have, and so an operation waits only where it may.
-use Rattle.inodes_on_tables.specs.Shown.{loaded}
+use Rattle.inodes_on_blocks.specs.ShownTables.{loaded}
 use Rattle.fs_machine.proofs.Waits.{waits_where_it_may}
 use Rattle.inodes_on_blocks.specs.Below.{tables_of}
 use Rattle.inodes_on_blocks.specs.Counted.{ReferencesAreCounted, WaitsForOthers}

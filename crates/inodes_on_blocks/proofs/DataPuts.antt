@@ -8,9 +8,9 @@ use Rattle.buffer_cache.specs.Seats.{holder_of}
 use Rattle.group_log.specs.Soundness.{IsHome}
 use Rattle.image_tree.specs.Checks.{IsData}
 use Rattle.image_tree.specs.Inodes.{numbers_of}
-use Rattle.image_laws.specs.Holds.{NamesOwned}
-use Rattle.image_laws.specs.Puts.{IsPut, IsLaidOut, Becomes}
-use Rattle.image_laws.proofs.SeenDisks.{good_seen}
+use Rattle.inodes_on_blocks.specs.Holds.{NamesOwned}
+use Rattle.inodes_on_blocks.specs.Puts.{IsPut, IsLaidOut, Becomes}
+use Rattle.inodes_on_blocks.proofs.SeenDisks.{good_seen}
 use Rattle.plain_tree.specs.declared.node.Node.{Node}
 use Rattle.plain_tree.specs.Widths.{hart_count}
 use Rattle.tree_laws.proofs.Maps.{either}

@@ -12,16 +12,16 @@ use Rattle.plain_tree.specs.declared.node.Kind.{Kind}
 use Rattle.plain_tree.specs.declared.node.Kind.TheVariants.{Directory, File, Device}
 use Rattle.plain_tree.specs.Steps.{is_file, emptied, node_or}
 use Rattle.plain_tree.specs.Widths.{hart_count}
-use Rattle.image_laws.specs.Holds.{HoldsAt, IsInode, NamesOwned, size_in, type_in}
-use Rattle.image_laws.proofs.LaidInodes.{laid_before, node_held, empty_laid, empty_named}
-use Rattle.image_laws.proofs.SeenDisks.{good_seen}
+use Rattle.inodes_on_blocks.specs.Holds.{HoldsAt, IsInode, NamesOwned, size_in, type_in}
+use Rattle.inodes_on_blocks.proofs.LaidInodes.{laid_before, node_held, empty_laid, empty_named}
+use Rattle.inodes_on_blocks.proofs.SeenDisks.{good_seen}
 use Rattle.image_tree.proofs.NumberLists.{numbers_by_free}
 use Rattle.atomic_programs.specs.Prog.{bind, once, Ran}
 use Rattle.atomic_programs.specs.Logic.{Laws, Machine, P, Wp}
 use Rattle.atomic_programs.specs.Joined.{Both, joined, Below, Lasts, Handover}
 use Rattle.atomic_programs.proofs.Joined.{ToAct, to_act, may_act, Stable}
 use Rattle.atomic_programs.proofs.Sound.{Wp-more}
-use Rattle.fs_tables.specs.Tables.{holder_of as lock_holder}
+use Rattle.fs_machine.specs.Tables.{holder_of as lock_holder}
 use Rattle.fs_machine.specs.Programs.{fetch}
 use Rattle.fs_machine.specs.Shown.{seen_of}
 use Rattle.bitmap_alloc.specs.Programs.{free_block}

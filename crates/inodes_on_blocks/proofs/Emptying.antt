@@ -5,14 +5,14 @@ use Rattle.buffer_cache.specs.Seats.{holder_of}
 use Rattle.plain_tree.specs.Widths.{hart_count}
 use Rattle.tree_laws.proofs.Maps.{either, eq_is}
 use Rattle.image_tree.specs.Checks.{IsData}
-use Rattle.image_laws.specs.Holds.{NamesOwned}
-use Rattle.image_laws.proofs.HeldPuts.{nothing_owed}
+use Rattle.inodes_on_blocks.specs.Holds.{NamesOwned}
+use Rattle.inodes_on_blocks.proofs.HeldPuts.{nothing_owed}
 use Rattle.atomic_programs.specs.Prog.{bind}
 use Rattle.atomic_programs.specs.Logic.{Machine, Laws, P, Wp}
 use Rattle.atomic_programs.specs.Joined.{Both, joined}
 use Rattle.atomic_programs.proofs.Joined.{Stable}
 use Rattle.atomic_programs.proofs.Sound.{Wp-more}
-use Rattle.fs_tables.specs.Tables.{holder_of as lock_holder}
+use Rattle.fs_machine.specs.Tables.{holder_of as lock_holder}
 use Rattle.bitmap_alloc.specs.Programs.{free_block}
 use Rattle.inode_data.specs.Freeing.{free_numbers}
 use Rattle.inode_machine.specs.World as above

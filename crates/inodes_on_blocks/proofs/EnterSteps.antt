@@ -13,8 +13,8 @@ use Rattle.fs_layout.specs.declared.superblock.Super.{Super}
 use Rattle.fs_layout.specs.Entry.{IsDirent, spell_dirent}
 use Rattle.fs_layout.proofs.Entries.{length-spell_dirent}
 use Rattle.image_tree.specs.Inodes.{is_free, content_block}
-use Rattle.image_laws.specs.Holds.{HoldsAt, size_in}
-use Rattle.image_laws.specs.Puts.{slots_with}
+use Rattle.inodes_on_blocks.specs.Holds.{HoldsAt, size_in}
+use Rattle.inodes_on_blocks.specs.Puts.{slots_with}
 use Rattle.plain_tree.specs.declared.node.Slot.{Slot}
 use Rattle.plain_tree.specs.declared.node.Node.{Node}
 use Rattle.plain_tree.specs.declared.node.Kind.{Kind}
@@ -29,7 +29,7 @@ use Rattle.atomic_programs.specs.Logic.{Laws, Machine, P, Wp}
 use Rattle.atomic_programs.specs.Joined.{Both, joined, Below, Lasts, Handover}
 use Rattle.atomic_programs.proofs.Joined.{ToAct, to_act, may_act}
 use Rattle.atomic_programs.proofs.Sound.{Wp-more}
-use Rattle.fs_tables.specs.Tables.{holder_of as lock_holder}
+use Rattle.fs_machine.specs.Tables.{holder_of as lock_holder}
 use Rattle.inode_data.specs.Programs.{blocks_between}
 use Rattle.inode_data.specs.Writing.{WriteResult, front_of, write_blocks}
 use Rattle.inode_table.specs.Programs.{inode_block}

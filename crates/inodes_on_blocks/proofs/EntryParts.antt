@@ -12,8 +12,8 @@ use Rattle.fs_layout.proofs.Entries.{length-spell_dirent}
 use Rattle.fs_layout.proofs.Overwrites.{overwrite-overwrite, length-overwrite}
 use Rattle.image_tree.specs.Checks.{largest_size}
 use Rattle.image_tree.specs.Inodes.{numbers_of, block_number}
-use Rattle.image_laws.specs.Holds.{entry_of}
-use Rattle.image_laws.specs.Puts.{IsPut, IsLaidOut, slots_with, Becomes}
+use Rattle.inodes_on_blocks.specs.Holds.{entry_of}
+use Rattle.inodes_on_blocks.specs.Puts.{IsPut, IsLaidOut, slots_with, Becomes}
 use Rattle.plain_tree.specs.declared.node.Slot.{Slot}
 use Rattle.plain_tree.specs.declared.node.Node.{Node}
 use Rattle.plain_tree.specs.declared.node.Kind.TheVariants.{Directory}

@@ -12,14 +12,14 @@ use Rattle.buffer_cache.specs.declared.got.Got.{Got}
 use Rattle.buffer_cache.specs.declared.got.Got.TheVariants as got
 use Rattle.buffer_cache.proofs.Laws.{GetLaws, get_laws}
 use Rattle.plain_tree.specs.Widths.{hart_count}
-use Rattle.image_laws.proofs.SeenDisks.{seen_stays}
+use Rattle.inodes_on_blocks.proofs.SeenDisks.{seen_stays}
 use Rattle.image_tree.specs.Inodes.{inode_of}
 use Rattle.atomic_programs.specs.Prog.{Do, bind, unmarked, Did}
 use Rattle.atomic_programs.specs.Logic.{Machine, Laws, P, Wp}
 use Rattle.atomic_programs.specs.Joined.{Both, joined}
 use Rattle.atomic_programs.proofs.Joined.{Stable, Here, Silent, s-silent}
 use Rattle.atomic_programs.proofs.Sound.{Wp-more}
-use Rattle.fs_tables.specs.Tables.{holder_of as lock_holder}
+use Rattle.fs_machine.specs.Tables.{holder_of as lock_holder}
 use Rattle.fs_machine.specs.LogPart.{LogPart, Outside, Passes, Fails, with_seats, failed, got_by}
 use Rattle.fs_machine.specs.Own.{own_of, mine_of, Own}
 use Rattle.fs_machine.specs.Programs.{fetch, read_unless}
@@ -35,7 +35,7 @@ use Rattle.fs_machine.proofs.Showing.{shows_its_puts}
 use Rattle.inode_machine.specs.World as above
 use Rattle.inode_machine.specs.Rules.{if_kept, Inv}
 use Rattle.inode_machine.proofs.Frame.{kept_is, kept_here}
-use Rattle.inodes_on_tables.specs.Shown.{loaded}
+use Rattle.inodes_on_blocks.specs.ShownTables.{loaded}
 use Rattle.inodes_on_blocks.specs.Below.{World, log_of, tables_of, disk_of, came_to, exec}
 use Rattle.inodes_on_blocks.specs.OnBlocks.{shown}
 use Rattle.inodes_on_blocks.specs.Shown.{Shows, ghost_of, on_blocks}

@@ -7,7 +7,7 @@ use Rattle.fs_layout.specs.declared.inode.Dinode.{Dinode}
 use Rattle.fs_layout.specs.declared.superblock.Super.{Super}
 use Rattle.fs_layout.specs.Entry.{spell_dirent}
 use Rattle.fs_layout.specs.declared.entry.Dirent.TheVariants.{Used}
-use Rattle.image_laws.specs.Holds.{HoldsAt, size_in}
+use Rattle.inodes_on_blocks.specs.Holds.{HoldsAt, size_in}
 use Rattle.plain_tree.specs.declared.node.Node.{Node}
 use Rattle.plain_tree.specs.Steps.{node_or}
 use Rattle.plain_tree.specs.Tree.{dot, dotdot}
@@ -17,7 +17,7 @@ use Rattle.atomic_programs.specs.Logic.{Laws, Machine, P, Wp}
 use Rattle.atomic_programs.specs.Joined.{Both, joined, Below, Lasts, Handover}
 use Rattle.atomic_programs.proofs.Joined.{ToAct, to_act, may_act}
 use Rattle.atomic_programs.proofs.Sound.{Wp-more}
-use Rattle.fs_tables.specs.Tables.{holder_of as lock_holder}
+use Rattle.fs_machine.specs.Tables.{holder_of as lock_holder}
 use Rattle.inode_data.specs.declared.addresses.Address.TheVariants.{Direct, InTable}
 use Rattle.inode_data.specs.Addresses.{table_of}
 use Rattle.inode_data.specs.Programs.{blocks_between}

@@ -9,10 +9,10 @@ use Rattle.plain_tree.specs.Widths.{hart_count}
 use Rattle.atomic_programs.specs.Prog.{Did, Waits, Ran, Stops, did_in}
 use Rattle.atomic_programs.specs.Logic.{Laws}
 use Rattle.atomic_programs.specs.Joined.{Both}
-use Rattle.fs_tables.specs.declared.inodes.Entry.{Entry}
-use Rattle.fs_tables.specs.declared.inodes.Inode.{Inode}
-use Rattle.fs_tables.specs.Tables.{TablesState, place_of}
-use Rattle.fs_tables.specs.Inodes.{DroppedState, Counts, Dies, dead_in, dying, drop_inode, drop_at, drop_dying, drop_freed, freed_at}
+use Rattle.fs_machine.specs.declared.entries.Entry.{Entry}
+use Rattle.fs_machine.specs.declared.entries.Inode.{Inode}
+use Rattle.fs_machine.specs.Tables.{TablesState, place_of}
+use Rattle.fs_machine.specs.Inodes.{DroppedState, Counts, Dies, dead_in, dying, drop_inode, drop_at, drop_dying, drop_freed, freed_at}
 use Rattle.fs_machine.specs.Steps as steps
 use Rattle.fs_machine.specs.Steps.{Freed}
 use Rattle.fs_machine.specs.Premises as premises
@@ -22,10 +22,10 @@ use Rattle.inode_machine.specs.Exec as above_exec
 use Rattle.inode_machine.specs.Exec.{is_last, down_if, counted_down}
 use Rattle.inode_machine.specs.Rules as rules
 use Rattle.inode_machine.specs.Rules.{Inv, Held as AboveHeld, own_of, view, more}
-use Rattle.inodes_on_tables.specs.Laws.{load_after}
-use Rattle.inodes_on_tables.specs.Shown as tables
-use Rattle.inodes_on_tables.specs.Shown.{BothCame, loaded, loaded_at, loaded_of}
-use Rattle.inodes_on_tables.proofs.Drops.{references_are_dropped}
+use Rattle.inodes_on_blocks.specs.TableLaws.{load_after}
+use Rattle.inodes_on_blocks.specs.ShownTables as tables
+use Rattle.inodes_on_blocks.specs.ShownTables.{BothCame, loaded, loaded_at, loaded_of}
+use Rattle.inodes_on_blocks.proofs.Drops.{references_are_dropped}
 use Rattle.inodes_on_blocks.specs.Below.{World, tables_of}
 use Rattle.inodes_on_blocks.specs.Shown.{Shows}
 use Rattle.inodes_on_blocks.specs.Lowering.{Carry, Base, Labels, labelled, Keeps}

@@ -11,8 +11,8 @@ use Rattle.fs_layout.specs.declared.entry.Dirent.TheVariants.{Used}
 use Rattle.fs_layout.specs.Bytes.{IsBytes, u16_bytes}
 use Rattle.fs_layout.specs.Entry.{IsDirent, spell_dirent}
 use Rattle.fs_layout.specs.Name as layout
-use Rattle.image_laws.specs.Holds.{entry_of}
-use Rattle.image_laws.specs.Puts.{slots_with}
+use Rattle.inodes_on_blocks.specs.Holds.{entry_of}
+use Rattle.inodes_on_blocks.specs.Puts.{slots_with}
 use Rattle.plain_tree.specs.declared.node.Slot.{Slot}
 use Rattle.plain_tree.specs.Steps.{first_free, is_used}
 use Rattle.plain_tree.specs.Tree.{Name, dot, dotdot}

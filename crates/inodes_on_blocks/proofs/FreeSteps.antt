@@ -7,14 +7,14 @@ use Rattle.fs_layout.specs.Recovered.{IsOutsideLog}
 use Rattle.group_log.specs.Group.{has, HasRoom}
 use Rattle.plain_tree.specs.declared.node.Node.{Node}
 use Rattle.plain_tree.specs.Widths.{hart_count}
-use Rattle.image_laws.proofs.LaidInodes.{freed_held}
+use Rattle.inodes_on_blocks.proofs.LaidInodes.{freed_held}
 use Rattle.atomic_programs.specs.Prog.{bind, once}
 use Rattle.atomic_programs.specs.Logic.{Laws, Machine, P, Wp}
 use Rattle.atomic_programs.specs.Joined.{Both, joined, Below, Lasts, Handover}
 use Rattle.atomic_programs.proofs.Joined.{Here, ToAct, to_act, may_act, Stable}
 use Rattle.atomic_programs.proofs.Prog.{bind-assoc}
 use Rattle.atomic_programs.proofs.Sound.{Wp-more}
-use Rattle.fs_tables.specs.Tables.{holder_of as lock_holder}
+use Rattle.fs_machine.specs.Tables.{holder_of as lock_holder}
 use Rattle.fs_machine.specs.LogPart.{LogPart, put_block}
 use Rattle.fs_machine.specs.Programs.{fetch}
 use Rattle.fs_machine.specs.Shown.{seen_of}

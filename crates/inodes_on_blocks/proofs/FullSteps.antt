@@ -9,7 +9,7 @@ use Rattle.fs_layout.specs.Recovered.{IsOutsideLog}
 use Rattle.fs_layout.specs.Widths.{block_len}
 use Rattle.buffer_cache.specs.Seats.{holder_of, given_back}
 use Rattle.image_tree.specs.Inodes.{is_free, numbers_of, block_number, content_block}
-use Rattle.image_laws.specs.Holds.{HoldsAt}
+use Rattle.inodes_on_blocks.specs.Holds.{HoldsAt}
 use Rattle.plain_tree.specs.declared.node.Node.{Node}
 use Rattle.plain_tree.specs.Widths.{hart_count}
 use Rattle.atomic_programs.specs.Prog.{Do, bind, unmarked, Ran}
@@ -18,7 +18,7 @@ use Rattle.atomic_programs.specs.Joined.{Both, joined, Lasts}
 use Rattle.atomic_programs.proofs.Joined.{ToAct, to_act, s-act}
 use Rattle.atomic_programs.proofs.Prog.{bind-assoc}
 use Rattle.atomic_programs.proofs.Sound.{Wp-more}
-use Rattle.fs_tables.specs.Tables.{holder_of as lock_holder}
+use Rattle.fs_machine.specs.Tables.{holder_of as lock_holder}
 use Rattle.fs_machine.specs.LogPart.{Passes}
 use Rattle.fs_machine.specs.Premises as premises
 use Rattle.fs_machine.specs.Steps as steps

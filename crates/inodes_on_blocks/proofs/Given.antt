@@ -3,7 +3,7 @@ use Rattle.std.proofs.Common.{◌≡◌, ℕ, ◌+◌, true, List, [], ◌∷◌
 use Rattle.fs_layout.specs.declared.superblock.Super.{Super}
 use Rattle.group_log.specs.Group.{has}
 use Rattle.tree_laws.proofs.Maps.{eq_is, eq_self}
-use Rattle.image_laws.specs.Holds.{NamesOwned}
+use Rattle.inodes_on_blocks.specs.Holds.{NamesOwned}
 use Rattle.atomic_programs.specs.Logic.{Machine, P, Wp, onto}
 use Rattle.atomic_programs.specs.Prog.{Prog, Ret, Do, bind}
 use Rattle.atomic_programs.specs.Joined.{Both, joined}

@@ -11,12 +11,12 @@ use Rattle.plain_tree.specs.declared.answer.Cause.TheVariants as causes
 use Rattle.atomic_programs.specs.Prog.{Ran}
 use Rattle.atomic_programs.specs.Logic.{Laws}
 use Rattle.atomic_programs.specs.Joined.{Both}
-use Rattle.fs_tables.specs.declared.files.OpenFile.{OpenFile}
-use Rattle.fs_tables.specs.declared.files.Refused.{Refused}
-use Rattle.fs_tables.specs.declared.files.Refused.TheVariants as refused_variants
-use Rattle.fs_tables.specs.declared.files.Want.TheVariants as want
-use Rattle.fs_tables.specs.Tables.{file_named}
-use Rattle.fs_tables.specs.Inodes.{refusal_of}
+use Rattle.fs_machine.specs.declared.files.OpenFile.{OpenFile}
+use Rattle.fs_machine.specs.declared.files.Refused.{Refused}
+use Rattle.fs_machine.specs.declared.files.Refused.TheVariants as refused_variants
+use Rattle.fs_machine.specs.declared.files.Want.TheVariants as want
+use Rattle.fs_machine.specs.Tables.{file_named}
+use Rattle.fs_machine.specs.Inodes.{refusal_of}
 use Rattle.fs_machine.specs.LogPart.{join_if}
 use Rattle.fs_machine.specs.Steps as steps
 use Rattle.fs_machine.specs.Premises as premises
@@ -29,8 +29,8 @@ use Rattle.inode_machine.specs.Exec as above_exec
 use Rattle.inode_machine.specs.Exec.{entry_of, write_refused, join_at}
 use Rattle.inode_machine.specs.Rules as rules
 use Rattle.inode_machine.specs.Rules.{Inv}
-use Rattle.inodes_on_tables.specs.Shown.{loaded, file_of, refused_as}
-use Rattle.inodes_on_tables.proofs.Named.{descriptors_name_files}
+use Rattle.inodes_on_blocks.specs.ShownTables.{loaded, file_of, refused_as}
+use Rattle.inodes_on_blocks.proofs.Named.{descriptors_name_files}
 use Rattle.inodes_on_blocks.specs.Below.{World, log_of, tables_of, came_to}
 use Rattle.inodes_on_blocks.specs.Shown.{Shows}
 use Rattle.inodes_on_blocks.specs.Lowering.{Carry, Base, Labels, labelled, Keeps}

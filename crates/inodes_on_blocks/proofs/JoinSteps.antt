@@ -25,8 +25,8 @@ use Rattle.inode_machine.specs.Exec as above_exec
 use Rattle.inode_machine.specs.Exec.{is_at}
 use Rattle.inode_machine.specs.Rules as rules
 use Rattle.inode_machine.specs.Rules.{Inv, LocksNone}
-use Rattle.inodes_on_tables.specs.Shown.{loaded}
-use Rattle.inodes_on_tables.proofs.Desks.{part_same}
+use Rattle.inodes_on_blocks.specs.ShownTables.{loaded}
+use Rattle.inodes_on_blocks.proofs.Desks.{part_same}
 use Rattle.inodes_on_blocks.specs.OnBlocks.{is_joined, Ghost, AreOnBlocks}
 use Rattle.inodes_on_blocks.specs.Below.{World, log_of, tables_of, disk_of, came_to}
 use Rattle.inodes_on_blocks.specs.Shown.{Shows, if_joined, ghost_of, on_blocks}

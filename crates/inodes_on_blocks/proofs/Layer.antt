@@ -6,18 +6,18 @@ use Rattle.fs_layout.specs.declared.superblock.Super.{Super}
 use Rattle.image_tree.specs.Checks.{IsData}
 use Rattle.image_tree.specs.Inodes.{is_free}
 use Rattle.plain_tree.specs.declared.node.Node.{Node}
-use Rattle.image_laws.specs.Holds.{HoldsAt}
-use Rattle.image_laws.specs.Puts.{IsUntouched}
-use Rattle.image_laws.proofs.HeldFrames.{untouched}
+use Rattle.inodes_on_blocks.specs.Holds.{HoldsAt}
+use Rattle.inodes_on_blocks.specs.Puts.{IsUntouched}
+use Rattle.inodes_on_blocks.proofs.HeldFrames.{untouched}
 use Rattle.atomic_programs.specs.Joined.{LowerLaws}
-use Rattle.fs_tables.specs.Tables.{TablesState, holder_of as lock_holder}
+use Rattle.fs_machine.specs.Tables.{TablesState, holder_of as lock_holder}
 use Rattle.fs_machine.specs.Shown.{seen_of}
 use Rattle.inode_machine.specs.World as above
 use Rattle.fs_machine.specs.LogPart.{LogPart}
 use Rattle.tree_laws.proofs.Maps.{eq_is, eq_self}
 use Rattle.inode_machine.specs.Rules.{Own, Held, is_hart, if_kept, own_of, view, Idle}
 use Rattle.inode_machine.proofs.Frame.{Ours, not_ours, kept_is, kept_here, has_inode}
-use Rattle.inodes_on_tables.specs.Shown as tables
+use Rattle.inodes_on_blocks.specs.ShownTables as tables
 use Rattle.inodes_on_blocks.specs.Below.{World, log_of, tables_of, disk_of, inode_in, untyped}
 use Rattle.inodes_on_blocks.specs.Lowering.{KeepsInode, commit_in, undertaken, IsThrough, Same, Kept, Had, Apart, Has, Emptied, Carry, IsKnown, IsLoaded, InHand, Base, below, Labels, labelled, Keeps, IsOpened}
 use Rattle.inodes_on_blocks.proofs.Marked.{SameCode}

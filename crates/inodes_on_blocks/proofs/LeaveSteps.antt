@@ -26,7 +26,7 @@ use Rattle.atomic_programs.specs.Prog.{Ret, bind, Did, Ran}
 use Rattle.atomic_programs.specs.Logic.{Machine, Laws, P, Wp}
 use Rattle.atomic_programs.specs.Joined.{Both, joined, Below, Lasts, Handover, holding}
 use Rattle.atomic_programs.proofs.Joined.{Silent, s-silent, Acting, s-act, acted}
-use Rattle.fs_tables.specs.Tables.{TablesState, holder_of as lock_holder}
+use Rattle.fs_machine.specs.Tables.{TablesState, holder_of as lock_holder}
 use Rattle.fs_machine.specs.LogPart.{LogPart, Outside, Passes, Fails, written, commit_if, is_open, failed}
 use Rattle.fs_machine.specs.Programs.{commits, commit_unless, after_leave}
 use Rattle.fs_machine.specs.Own.{own_of}
@@ -46,9 +46,9 @@ use Rattle.inode_machine.specs.Exec.{is_at}
 use Rattle.inode_machine.specs.Marks.{marked}
 use Rattle.inode_machine.specs.Rules as rules
 use Rattle.inode_machine.specs.Rules.{Inv, LocksNone, Own, own_of as above_own, more, if_kept, is_hart}
-use Rattle.inodes_on_tables.specs.Shown as tables
-use Rattle.inodes_on_tables.specs.Shown.{loaded, descriptor, first, lent_by, place_with}
-use Rattle.inodes_on_tables.proofs.Desks.{part_same, taken_same, lenders_set}
+use Rattle.inodes_on_blocks.specs.ShownTables as tables
+use Rattle.inodes_on_blocks.specs.ShownTables.{loaded, descriptor, first, lent_by, place_with}
+use Rattle.inodes_on_blocks.proofs.Desks.{part_same, taken_same, lenders_set}
 use Rattle.inodes_on_blocks.specs.OnBlocks.{is_joined, Ghost, AreOnBlocks}
 use Rattle.inodes_on_blocks.specs.Below.{World, log_of, tables_of, came_to, exec}
 use Rattle.inodes_on_blocks.specs.Shown.{Shows, CommitShows, if_joined, ghost_of, on_blocks}

@@ -9,11 +9,11 @@ use Rattle.tree_laws.proofs.Maps.{same_or, put_other, put_same}
 use Rattle.atomic_programs.specs.Prog.{Did, Waits, Ran}
 use Rattle.atomic_programs.specs.Logic.{Laws}
 use Rattle.atomic_programs.specs.Joined.{Both}
-use Rattle.fs_tables.specs.declared.desk.Desk as cards
-use Rattle.fs_tables.specs.declared.slots.Given.{Given}
-use Rattle.fs_tables.specs.declared.slots.Given.TheVariants as given
-use Rattle.fs_tables.specs.Lists.{next_full}
-use Rattle.fs_tables.specs.Files.{give_next, descriptors_of}
+use Rattle.fs_machine.specs.declared.desk.Desk as cards
+use Rattle.fs_machine.specs.declared.slots.Given.{Given}
+use Rattle.fs_machine.specs.declared.slots.Given.TheVariants as given
+use Rattle.fs_machine.specs.Lists.{next_full}
+use Rattle.fs_machine.specs.Files.{give_next, descriptors_of}
 use Rattle.fs_machine.specs.Steps as steps
 use Rattle.fs_machine.specs.Premises as premises
 use Rattle.inode_machine.specs.World as above
@@ -25,9 +25,9 @@ use Rattle.inode_machine.specs.Rules as rules
 use Rattle.inode_machine.specs.Rules.{Inv, Has, Serves}
 use Rattle.inode_machine.proofs.Frame.{one_refs}
 use Rattle.inode_machine.proofs.Handings.{next_is, next_past}
-use Rattle.inodes_on_tables.specs.Shown.{loaded, descriptor, first, lent_by, given_as}
-use Rattle.inodes_on_tables.proofs.Desks.{part_same}
-use Rattle.inodes_on_tables.proofs.Gives.{next_full_is, descriptors_are_given, directories_are_given, children_are_released}
+use Rattle.inodes_on_blocks.specs.ShownTables.{loaded, descriptor, first, lent_by, given_as}
+use Rattle.inodes_on_blocks.proofs.Desks.{part_same}
+use Rattle.inodes_on_blocks.proofs.Gives.{next_full_is, descriptors_are_given, directories_are_given, children_are_released}
 use Rattle.inodes_on_blocks.specs.Below.{World, tables_of}
 use Rattle.inodes_on_blocks.specs.Shown.{Shows}
 use Rattle.inodes_on_blocks.specs.Lowering.{Labels, labelled, Keeps}

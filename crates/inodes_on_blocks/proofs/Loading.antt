@@ -10,8 +10,8 @@ use Rattle.fs_layout.specs.Recovered.{IsOutsideLog, recovered}
 use Rattle.fs_layout.specs.Widths.{inodes_per_block}
 use Rattle.group_log.proofs.Whole.{seat_in}
 use Rattle.image_tree.specs.Inodes.{inode_of}
-use Rattle.image_laws.specs.Seen.{IsGoodSeen}
-use Rattle.image_laws.proofs.SeenDisks.{good_seen}
+use Rattle.inodes_on_blocks.specs.Seen.{IsGoodSeen}
+use Rattle.inodes_on_blocks.proofs.SeenDisks.{good_seen}
 use Rattle.plain_tree.specs.Widths.{hart_count}
 use Rattle.tree_laws.proofs.Maps.{eq_self, eq_not}
 use Rattle.atomic_programs.specs.Prog.{bind}
@@ -20,7 +20,7 @@ use Rattle.atomic_programs.specs.Joined.{Both, joined}
 use Rattle.atomic_programs.proofs.Joined.{Stable}
 use Rattle.atomic_programs.proofs.Prog.{bind-assoc}
 use Rattle.atomic_programs.proofs.Sound.{Wp-more}
-use Rattle.fs_tables.specs.Tables.{holder_of as lock_holder}
+use Rattle.fs_machine.specs.Tables.{holder_of as lock_holder}
 use Rattle.fs_machine.specs.Programs.{fetch}
 use Rattle.fs_machine.specs.Shown.{seen_of}
 use Rattle.inode_machine.specs.World as above

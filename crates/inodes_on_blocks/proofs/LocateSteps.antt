@@ -10,9 +10,9 @@ use Rattle.fs_layout.specs.Recovered.{IsOutsideLog, sizes_of}
 use Rattle.buffer_cache.specs.Seats.{holder_of, given_back}
 use Rattle.image_tree.specs.Checks.{IsData}
 use Rattle.image_tree.specs.Inodes.{numbers_of, block_number}
-use Rattle.image_laws.specs.Holds.{IsOwned}
-use Rattle.image_laws.proofs.ImageNodes.{at_index}
-use Rattle.image_laws.proofs.SeenDisks.{good_seen}
+use Rattle.inodes_on_blocks.specs.Holds.{IsOwned}
+use Rattle.inodes_on_blocks.proofs.ImageNodes.{at_index}
+use Rattle.inodes_on_blocks.proofs.SeenDisks.{good_seen}
 use Rattle.plain_tree.specs.declared.node.Node.{Node}
 use Rattle.plain_tree.specs.Widths.{hart_count}
 use Rattle.tree_laws.proofs.Maps.{eq_is}

@@ -13,10 +13,10 @@ use Rattle.atomic_programs.specs.Prog.{bind, Did, Waits, Ran, did_in}
 use Rattle.atomic_programs.specs.Logic.{Laws, Wp}
 use Rattle.atomic_programs.specs.Joined.{Both, joined, Below, Lasts}
 use Rattle.atomic_programs.proofs.Joined.{Acting, acted, s-act}
-use Rattle.fs_tables.specs.declared.files.Want.TheVariants as want
-use Rattle.fs_tables.specs.declared.files.OpenFile as files
-use Rattle.fs_tables.specs.Tables.{TablesState, file_named, holder_of as lock_holder}
-use Rattle.fs_tables.specs.Inodes.{LockedState, Refuses, Locks, lock_file as lock_named, lock_unless, lock_inode, with_file as with_locked}
+use Rattle.fs_machine.specs.declared.files.Want.TheVariants as want
+use Rattle.fs_machine.specs.declared.files.OpenFile as files
+use Rattle.fs_machine.specs.Tables.{TablesState, file_named, holder_of as lock_holder}
+use Rattle.fs_machine.specs.Inodes.{LockedState, Refuses, Locks, lock_file as lock_named, lock_unless, lock_inode, with_file as with_locked}
 use Rattle.fs_machine.specs.LogPart.{Outside}
 use Rattle.fs_machine.specs.Steps as steps
 use Rattle.fs_machine.specs.Steps.{lock_open as lock_opened, with_open}
@@ -29,10 +29,10 @@ use Rattle.inode_machine.specs.World.Op.{LockFile, LockOpen}
 use Rattle.inode_machine.specs.Exec.{entry_at, entry_of, slot_at, lock_at, lock_if, locked, mode_refusal, offset_of, read_refused}
 use Rattle.inode_machine.specs.Rules as rules
 use Rattle.inode_machine.specs.Rules.{Inv}
-use Rattle.inodes_on_tables.specs.Shown as tables
-use Rattle.inodes_on_tables.specs.Shown.{loaded, file_of, refused_as}
-use Rattle.inodes_on_tables.proofs.Locks.{by_lock, place_there}
-use Rattle.inodes_on_tables.proofs.Named.{names_at, file_is, descriptors_name_files}
+use Rattle.inodes_on_blocks.specs.ShownTables as tables
+use Rattle.inodes_on_blocks.specs.ShownTables.{loaded, file_of, refused_as}
+use Rattle.inodes_on_blocks.proofs.Locks.{by_lock, place_there}
+use Rattle.inodes_on_blocks.proofs.Named.{names_at, file_is, descriptors_name_files}
 use Rattle.inodes_on_blocks.specs.Below.{World, log_of, tables_of, inode_in, exec}
 use Rattle.inodes_on_blocks.specs.Shown.{Shows}
 use Rattle.inodes_on_blocks.specs.Lowering.{Opened, NothingMore, Has, Carry, HasOpen, Stands, below, Labels, labelled, Keeps}

@@ -11,8 +11,8 @@ use Rattle.fs_layout.specs.declared.inode.Dinode.{Dinode}
 use Rattle.fs_layout.specs.declared.entry.Dirent.{Dirent}
 use Rattle.fs_layout.specs.Widths.{block_len}
 use Rattle.image_tree.specs.Inodes.{inode_of, is_free, content_block, slot_at as slot_on, first_slots}
-use Rattle.image_laws.specs.Holds.{HoldsAt, HasContent, entry_of, size_in, type_in}
-use Rattle.image_laws.proofs.ImageNodes.{length_slots}
+use Rattle.inodes_on_blocks.specs.Holds.{HoldsAt, HasContent, entry_of, size_in, type_in}
+use Rattle.inodes_on_blocks.proofs.ImageNodes.{length_slots}
 use Rattle.plain_tree.specs.declared.node.Slot.{Slot}
 use Rattle.plain_tree.specs.declared.node.Node.{Node}
 use Rattle.plain_tree.specs.declared.node.Kind.{Kind}

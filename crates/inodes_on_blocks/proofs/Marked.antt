@@ -12,8 +12,8 @@ use Rattle.plain_tree.specs.Steps as plain
 use Rattle.plain_tree.specs.Steps.{creates, has_room, lowest, file_at, effect_with, refusal, refusal_with, path_of}
 use Rattle.plain_tree.specs.Widths.{hart_count}
 use Rattle.tree_laws.proofs.Maps.{any_same, either}
-use Rattle.tree_moves.specs.Moves.{Walk, Move}
-use Rattle.tree_moves.specs.Moves.Move.{Begin, Look, Quit, Own}
+use Rattle.tree_laws.specs.Moves.{Walk, Move}
+use Rattle.tree_laws.specs.Moves.Move.{Begin, Look, Quit, Own}
 use Rattle.inode_machine.specs.World.{Desk, World, Mark}
 use Rattle.inode_machine.specs.World.Mark.{Makes, Frees, Orphans, Fills, Mends, Spoils}
 use Rattle.inode_machine.specs.Inodes.{sort_of}
@@ -21,9 +21,9 @@ use Rattle.inode_machine.specs.Exec.{is_at, is_dead}
 use Rattle.inode_machine.proofs.Frame.{put_elim}
 use Rattle.inode_machine.specs.Marks as marks
 use Rattle.inode_machine.specs.Marks.{marked, made_by, with_made, with_opened, with_noted, with_left, spoiled, mended, act_all, new_id, unheld, unmoved, unopened}
-use Rattle.fs_tables.specs.Tables.{TablesState}
-use Rattle.inodes_on_tables.specs.Shown as tables
-use Rattle.inodes_on_tables.specs.Shown.{descriptor, first, lent_by, place_with, loaded}
+use Rattle.fs_machine.specs.Tables.{TablesState}
+use Rattle.inodes_on_blocks.specs.ShownTables as tables
+use Rattle.inodes_on_blocks.specs.ShownTables.{descriptor, first, lent_by, place_with, loaded}
 use Rattle.inodes_on_blocks.specs.OnBlocks.{Ghost, AreOnBlocks}
 use Rattle.inodes_on_blocks.specs.Below as below
 use Rattle.inodes_on_blocks.specs.Below.{log_of, tables_of}

@@ -20,17 +20,17 @@ use Rattle.tree_laws.proofs.Maps.{either, eq_not, same_or}
 use Rattle.image_tree.specs.Inodes.{inode_of, is_node, is_positive}
 use Rattle.image_tree.specs.Inodes as inodes
 use Rattle.image_tree.specs.Trees.{count_of, kind_of, node_of, tree_in}
-use Rattle.image_laws.proofs.HeldNamed.{image_at_rest}
-use Rattle.image_laws.proofs.Nodes.{dead_node, live_node, ninodes_are, no_node, nodes_at}
-use Rattle.image_laws.proofs.Trees.{tree_well}
+use Rattle.inodes_on_blocks.proofs.HeldNamed.{image_at_rest}
+use Rattle.inodes_on_blocks.proofs.Nodes.{dead_node, live_node, ninodes_are, no_node, nodes_at}
+use Rattle.inodes_on_blocks.proofs.Trees.{tree_well}
 use Rattle.fs_machine.specs.LogPart.{LogPart}
-use Rattle.fs_tables.specs.Fresh.{fresh}
+use Rattle.fs_machine.specs.Fresh.{fresh}
 use Rattle.inode_machine.specs.World as above
 use Rattle.inode_machine.specs.Exec.{is_dead}
 use Rattle.inode_machine.proofs.Rest.{rests, idle_at_rest}
-use Rattle.inodes_on_tables.specs.Shown as tables
-use Rattle.inodes_on_tables.specs.Shown.{loaded}
-use Rattle.inodes_on_tables.proofs.Fresh.{other_refs, fresh_tables_show, nothing_loaded, nothing_locked}
+use Rattle.inodes_on_blocks.specs.ShownTables as tables
+use Rattle.inodes_on_blocks.specs.ShownTables.{loaded}
+use Rattle.inodes_on_blocks.proofs.Fresh.{other_refs, fresh_tables_show, nothing_loaded, nothing_locked}
 use Rattle.inodes_on_blocks.specs.OnBlocks.{is_joined, Ghost, AreOnBlocks}
 use Rattle.inodes_on_blocks.specs.Below.{World, disk_of}
 use Rattle.inodes_on_blocks.specs.Shown.{Shows, LoadsShow, ghost_of}

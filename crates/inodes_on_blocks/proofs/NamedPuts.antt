@@ -13,13 +13,13 @@ use Rattle.tree_laws.proofs.Sums.{one_yes}
 use Rattle.image_tree.specs.Lists.{times}
 use Rattle.image_tree.specs.Inodes.{is_block, numbers_by, named_by, last}
 use Rattle.image_tree.specs.Checks.{IsData}
-use Rattle.image_laws.specs.Holds.{HoldsAt, owner_upto}
-use Rattle.image_laws.specs.Puts.{LeavesOthers}
-use Rattle.image_laws.proofs.HeldFrames.{untouched}
-use Rattle.image_laws.proofs.ImageBlocks.{block_true}
-use Rattle.image_laws.proofs.Lists.{times_nil, times_cons, no_hit, times_filtered}
-use Rattle.image_laws.proofs.SeenDisks.{good_seen}
-use Rattle.fs_tables.specs.Tables.{holder_of as lock_holder}
+use Rattle.inodes_on_blocks.specs.Holds.{HoldsAt, owner_upto}
+use Rattle.inodes_on_blocks.specs.Puts.{LeavesOthers}
+use Rattle.inodes_on_blocks.proofs.HeldFrames.{untouched}
+use Rattle.inodes_on_blocks.proofs.ImageBlocks.{block_true}
+use Rattle.inodes_on_blocks.proofs.Lists.{times_nil, times_cons, no_hit, times_filtered}
+use Rattle.inodes_on_blocks.proofs.SeenDisks.{good_seen}
+use Rattle.fs_machine.specs.Tables.{holder_of as lock_holder}
 use Rattle.fs_machine.specs.LogPart.{LogPart, put_block}
 use Rattle.fs_machine.specs.Shown.{seen_of}
 use Rattle.inode_table.specs.Programs.{inode_block, with_dinode}

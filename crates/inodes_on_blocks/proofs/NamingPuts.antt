@@ -6,15 +6,15 @@ use Rattle.fs_layout.specs.declared.superblock.Super.{Super}
 use Rattle.fs_layout.specs.Inode.{IsDinode}
 use Rattle.fs_layout.specs.Recovered.{sizes_of}
 use Rattle.image_tree.specs.Checks.{IsData}
-use Rattle.image_laws.specs.Holds.{HoldsAt}
-use Rattle.image_laws.specs.Puts.{IsInodePut}
-use Rattle.image_laws.proofs.HeldPuts.{inode_is}
-use Rattle.image_laws.proofs.LaidInodes.{node_held}
-use Rattle.image_laws.proofs.SeenDisks.{good_seen}
+use Rattle.inodes_on_blocks.specs.Holds.{HoldsAt}
+use Rattle.inodes_on_blocks.specs.Puts.{IsInodePut}
+use Rattle.inodes_on_blocks.proofs.HeldPuts.{inode_is}
+use Rattle.inodes_on_blocks.proofs.LaidInodes.{node_held}
+use Rattle.inodes_on_blocks.proofs.SeenDisks.{good_seen}
 use Rattle.plain_tree.specs.declared.node.Node.{Node}
 use Rattle.plain_tree.specs.Tree.{put}
 use Rattle.tree_laws.proofs.Maps.{either, same_or, put_same, put_other}
-use Rattle.fs_tables.specs.Tables.{holder_of as lock_holder}
+use Rattle.fs_machine.specs.Tables.{holder_of as lock_holder}
 use Rattle.fs_machine.specs.Shown.{seen_of}
 use Rattle.inode_table.specs.Programs.{inode_block}
 use Rattle.inode_machine.specs.World as above

@@ -10,13 +10,13 @@ use Rattle.fs_layout.specs.Widths.{addresses}
 use Rattle.image_tree.specs.Damage.{UpToLog}
 use Rattle.image_tree.specs.Inodes.{inode_of, is_free}
 use Rattle.image_tree.proofs.NumberLists.{numbers_by_free}
-use Rattle.image_laws.specs.Holds.{HoldsAt, IsInode, NamesOwned, size_in}
-use Rattle.image_laws.specs.Puts.{IsInodePut}
-use Rattle.image_laws.proofs.LaidInodes.{node_held, empty_laid, empty_named}
+use Rattle.inodes_on_blocks.specs.Holds.{HoldsAt, IsInode, NamesOwned, size_in}
+use Rattle.inodes_on_blocks.specs.Puts.{IsInodePut}
+use Rattle.inodes_on_blocks.proofs.LaidInodes.{node_held, empty_laid, empty_named}
 use Rattle.inode_table.specs.NewInodes.{is_free_in, free_among, new_record}
 use Rattle.inode_machine.specs.Exec.{blank}
 use Rattle.inode_machine.specs.Inodes.{Sort, OfDirectory, OfFile, OfDevice}
-use Rattle.inodes_on_tables.specs.Shown.{kind_of}
+use Rattle.inodes_on_blocks.specs.ShownTables.{kind_of}
 use Rattle.inodes_on_blocks.specs.Making.{IsMade}
 
 -- ---- which may be claimed

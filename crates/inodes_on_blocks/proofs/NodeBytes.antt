@@ -11,7 +11,7 @@ use Rattle.fs_layout.specs.Name.{is_name, is_zero}
 use Rattle.fs_layout.proofs.Entries.{spell-dirent_of}
 use Rattle.fs_layout.proofs.Numbers.{u16_at-lt}
 use Rattle.image_tree.specs.Inodes.{inode_of, is_free, content_block, blocks_for, front_blocks}
-use Rattle.image_laws.specs.Holds.{HoldsAt, HasContent, entry_of, size_in}
+use Rattle.inodes_on_blocks.specs.Holds.{HoldsAt, HasContent, entry_of, size_in}
 use Rattle.plain_tree.specs.declared.node.Slot.{Slot}
 use Rattle.plain_tree.specs.declared.node.Node.{Node}
 use Rattle.plain_tree.specs.declared.node.Kind.{Kind}

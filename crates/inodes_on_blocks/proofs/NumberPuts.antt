@@ -14,9 +14,9 @@ use Rattle.fs_layout.proofs.Overwrites.{length-overwrite}
 use Rattle.fs_layout.proofs.Words.{u32s_at-write}
 use Rattle.image_tree.specs.Inodes.{numbers_of, block_number, indirect_numbers}
 use Rattle.image_tree.proofs.NumberLists.{numbers_with}
-use Rattle.image_laws.specs.Holds.{NamesOwned}
-use Rattle.image_laws.specs.Puts.{IsLaidOut}
-use Rattle.image_laws.proofs.LaidNumbers.{direct_named, table_named, number_named}
+use Rattle.inodes_on_blocks.specs.Holds.{NamesOwned}
+use Rattle.inodes_on_blocks.specs.Puts.{IsLaidOut}
+use Rattle.inodes_on_blocks.proofs.LaidNumbers.{direct_named, table_named, number_named}
 use Rattle.plain_tree.specs.declared.node.Node.{Node}
 use Rattle.bitmap_alloc.specs.Bytes.{zeros}
 use Rattle.inode_data.specs.Writing.{with_address, with_number}

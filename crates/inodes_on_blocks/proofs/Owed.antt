@@ -8,13 +8,13 @@ use Rattle.plain_tree.specs.Widths.{hart_count}
 use Rattle.tree_laws.specs.WellFormed.{sum_below, one_if}
 use Rattle.tree_laws.proofs.Maps.{same_or, eq_not, eq_self}
 use Rattle.tree_laws.proofs.Sums.{one_yes, one_no}
-use Rattle.fs_tables.specs.declared.desk.Desk as cards
-use Rattle.fs_tables.specs.declared.files.FilePlace.{FilePlace}
-use Rattle.fs_tables.specs.Tables.{TablesState, owed, references_of, is_file_of, is_directory_of}
+use Rattle.fs_machine.specs.declared.desk.Desk as cards
+use Rattle.fs_machine.specs.declared.files.FilePlace.{FilePlace}
+use Rattle.fs_machine.specs.Tables.{TablesState, owed, references_of, is_file_of, is_directory_of}
 use Rattle.inode_machine.specs.World.{Entry, World}
 use Rattle.inode_machine.specs.Rules.{Inv, Spares, number_is}
-use Rattle.inodes_on_tables.specs.Shown as tables
-use Rattle.inodes_on_tables.specs.Shown.{place_with, is_taken}
+use Rattle.inodes_on_blocks.specs.ShownTables as tables
+use Rattle.inodes_on_blocks.specs.ShownTables.{place_with, is_taken}
 
 -- ---- sums
 

@@ -5,8 +5,8 @@ use Rattle.fs_layout.specs.Bytes.{IsBytes}
 use Rattle.fs_layout.specs.Recovered.{recovered, sizes_of}
 use Rattle.buffer_cache.specs.Seats.{holder_of}
 use Rattle.image_tree.specs.Checks.{IsData}
-use Rattle.image_laws.specs.Puts.{IsPut}
-use Rattle.image_laws.proofs.SeenDisks.{good_seen}
+use Rattle.inodes_on_blocks.specs.Puts.{IsPut}
+use Rattle.inodes_on_blocks.proofs.SeenDisks.{good_seen}
 use Rattle.plain_tree.specs.Widths.{hart_count}
 use Rattle.atomic_programs.specs.Prog.{Do, unmarked}
 use Rattle.atomic_programs.specs.Logic.{Machine, Laws, P, Wp}

@@ -10,10 +10,10 @@ use Rattle.tree_laws.proofs.Sums.{one_yes}
 use Rattle.image_tree.specs.Checks.{IsData}
 use Rattle.image_tree.specs.Inodes.{is_block, indirect_numbers, numbers_of}
 use Rattle.image_tree.specs.Lists.{times}
-use Rattle.image_laws.specs.Holds.{IsOwned, NamesOwned}
-use Rattle.image_laws.specs.Puts.{IsLaidOut}
-use Rattle.image_laws.proofs.ImageBlocks.{block_true, once_times}
-use Rattle.image_laws.proofs.Lists.{times_cons, times_filtered, times_nil}
+use Rattle.inodes_on_blocks.specs.Holds.{IsOwned, NamesOwned}
+use Rattle.inodes_on_blocks.specs.Puts.{IsLaidOut}
+use Rattle.inodes_on_blocks.proofs.ImageBlocks.{block_true, once_times}
+use Rattle.inodes_on_blocks.proofs.Lists.{times_cons, times_filtered, times_nil}
 use Rattle.inode_data.specs.Addresses.{table_of}
 use Rattle.inode_data.specs.Widths.{direct}
 use Rattle.inodes_on_blocks.specs.Giving.{Avoids, Owns}

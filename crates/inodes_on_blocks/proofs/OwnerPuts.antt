@@ -6,9 +6,9 @@ use Rattle.fs_layout.specs.Recovered.{sizes_of, IsOutsideLog}
 use Rattle.tree_laws.proofs.Maps.{either, same_or, eq_self, eq_not, put_same, put_other}
 use Rattle.plain_tree.specs.Tree.{put}
 use Rattle.image_tree.specs.Checks.{IsData, is_marked}
-use Rattle.image_laws.specs.Puts.{IsPut, IsBitPut, IsUntouched}
-use Rattle.image_laws.proofs.HeldPuts.{data_leaves, taken, given_back}
-use Rattle.image_laws.proofs.SeenDisks.{good_seen}
+use Rattle.inodes_on_blocks.specs.Puts.{IsPut, IsBitPut, IsUntouched}
+use Rattle.inodes_on_blocks.proofs.HeldPuts.{data_leaves, taken, given_back}
+use Rattle.inodes_on_blocks.proofs.SeenDisks.{good_seen}
 use Rattle.fs_machine.specs.LogPart.{LogPart, put_block}
 use Rattle.fs_machine.specs.Shown.{seen_of}
 use Rattle.inode_machine.specs.World as above

@@ -6,10 +6,10 @@ use Rattle.fs_layout.specs.Bytes.{IsBytes}
 use Rattle.fs_layout.proofs.Overwrites.{length-overwrite}
 use Rattle.image_tree.specs.Checks.{IsData}
 use Rattle.image_tree.specs.Inodes.{numbers_of, block_number}
-use Rattle.image_laws.specs.Holds.{IsOwned, NamesOwned}
-use Rattle.image_laws.specs.Puts.{IsLaidOut, Becomes}
-use Rattle.image_laws.proofs.ImageNodes.{at_index}
-use Rattle.image_laws.proofs.SeenDisks.{good_seen}
+use Rattle.inodes_on_blocks.specs.Holds.{IsOwned, NamesOwned}
+use Rattle.inodes_on_blocks.specs.Puts.{IsLaidOut, Becomes}
+use Rattle.inodes_on_blocks.proofs.ImageNodes.{at_index}
+use Rattle.inodes_on_blocks.proofs.SeenDisks.{good_seen}
 use Rattle.plain_tree.specs.declared.node.Node.{Node}
 use Rattle.plain_tree.specs.Widths.{hart_count}
 use Rattle.atomic_programs.specs.Prog.{bind}

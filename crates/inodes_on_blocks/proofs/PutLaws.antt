@@ -6,9 +6,9 @@ use Rattle.fs_layout.specs.declared.superblock.Super.{Super}
 use Rattle.tree_laws.proofs.Maps.{either, eq_self, eq_not}
 use Rattle.std.specs.List.{Contains}
 use Rattle.image_tree.specs.Inodes.{numbers_by}
-use Rattle.image_laws.specs.Holds.{HoldsAt}
-use Rattle.image_laws.proofs.SeenDisks.{good_seen}
-use Rattle.fs_tables.specs.Tables.{holder_of as lock_holder}
+use Rattle.inodes_on_blocks.specs.Holds.{HoldsAt}
+use Rattle.inodes_on_blocks.proofs.SeenDisks.{good_seen}
+use Rattle.fs_machine.specs.Tables.{holder_of as lock_holder}
 use Rattle.fs_machine.specs.Shown.{seen_of}
 use Rattle.fs_machine.specs.Steps as steps
 use Rattle.inode_table.specs.Programs.{inode_block}

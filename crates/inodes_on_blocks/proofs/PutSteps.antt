@@ -15,15 +15,15 @@ use Rattle.plain_tree.specs.Widths.{hart_count}
 use Rattle.plain_tree.specs.Tree.{put}
 use Rattle.tree_laws.proofs.Maps.{same_or, eq_self, put_same, put_other}
 use Rattle.image_tree.specs.Checks.{IsData}
-use Rattle.image_laws.specs.Puts.{IsBitPut, IsGivenBack}
-use Rattle.image_laws.proofs.HeldPuts.{before_bits, other_inode, given_back}
-use Rattle.image_laws.proofs.SeenDisks.{good_seen}
+use Rattle.inodes_on_blocks.specs.Puts.{IsBitPut, IsGivenBack}
+use Rattle.inodes_on_blocks.proofs.HeldPuts.{before_bits, other_inode, given_back}
+use Rattle.inodes_on_blocks.proofs.SeenDisks.{good_seen}
 use Rattle.atomic_programs.specs.Prog.{Do, bind, unmarked}
 use Rattle.atomic_programs.specs.Logic.{Machine, Laws, P, Wp}
 use Rattle.atomic_programs.specs.Joined.{Both, joined}
 use Rattle.atomic_programs.proofs.Joined.{Stable, Here, s-silent}
 use Rattle.atomic_programs.proofs.Prog.{bind-assoc}
-use Rattle.fs_tables.specs.Tables.{holder_of as lock_holder}
+use Rattle.fs_machine.specs.Tables.{holder_of as lock_holder}
 use Rattle.fs_machine.specs.LogPart.{Outside, Passes}
 use Rattle.fs_machine.specs.Programs.{fetch}
 use Rattle.fs_machine.specs.Shown.{seen_of}

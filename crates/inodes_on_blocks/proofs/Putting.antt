@@ -7,14 +7,14 @@ use Rattle.fs_layout.specs.declared.inode.Dinode.{Dinode}
 use Rattle.fs_layout.specs.Recovered.{sizes_of}
 use Rattle.tree_laws.proofs.Maps.{same_or}
 use Rattle.image_tree.specs.Inodes.{is_free}
-use Rattle.image_laws.specs.Running.{IsRunning}
-use Rattle.image_laws.proofs.SeenDisks.{good_seen}
-use Rattle.image_laws.proofs.HeldFrames.{untouched}
-use Rattle.fs_tables.specs.Tables.{TablesState, place_of, holder_of as lock_holder, holder_in, holder_at, references_in, references_at}
-use Rattle.fs_tables.proofs.Places.{Found, found}
-use Rattle.fs_tables.proofs.Locking.{slot_at}
-use Rattle.fs_tables.specs.Soundness.{InsideFits, PlaceFits}
-use Rattle.fs_tables.specs.declared.inodes.Inode.{Inode}
+use Rattle.inodes_on_blocks.specs.Running.{IsRunning}
+use Rattle.inodes_on_blocks.proofs.SeenDisks.{good_seen}
+use Rattle.inodes_on_blocks.proofs.HeldFrames.{untouched}
+use Rattle.fs_machine.specs.Tables.{TablesState, place_of, holder_of as lock_holder, holder_in, holder_at, references_in, references_at}
+use Rattle.fs_machine.proofs.Places.{Found, found}
+use Rattle.fs_machine.proofs.Locking.{slot_at}
+use Rattle.fs_machine.specs.Soundness.{InsideFits, PlaceFits}
+use Rattle.fs_machine.specs.declared.entries.Inode.{Inode}
 use Rattle.sleep_lock.specs.SleepLock.{SlotState}
 use Rattle.fs_machine.specs.LogPart.{LogPart, put_block}
 use Rattle.fs_machine.specs.Own.{Own}
@@ -22,8 +22,8 @@ use Rattle.fs_machine.specs.Shown.{seen_of}
 use Rattle.inode_machine.specs.World as above
 use Rattle.inode_machine.specs.World.{Desk}
 use Rattle.inode_machine.specs.Rules.{is_hart}
-use Rattle.inodes_on_tables.specs.Shown as tables
-use Rattle.inodes_on_tables.specs.Shown.{loaded, loaded_in, loaded_at, loaded_of}
+use Rattle.inodes_on_blocks.specs.ShownTables as tables
+use Rattle.inodes_on_blocks.specs.ShownTables.{loaded, loaded_in, loaded_at, loaded_of}
 use Rattle.inodes_on_blocks.specs.OnBlocks.{is_joined, AreOnBlocks}
 use Rattle.inodes_on_blocks.specs.Owners.{Owners}
 use Rattle.inodes_on_blocks.specs.Below.{World, log_of, tables_of, disk_of, inode_in, untyped}

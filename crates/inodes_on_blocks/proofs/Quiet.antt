@@ -16,13 +16,13 @@ use Rattle.tree_laws.proofs.Maps.{put_same}
 use Rattle.tree_laws.specs.WellFormed as trees
 use Rattle.image_tree.specs.Damage.{IsWellFormed}
 use Rattle.image_tree.specs.Trees.{node_of, tree_in}
-use Rattle.image_laws.specs.Holds.{HoldsAt, owner_in}
-use Rattle.image_laws.specs.Laws.{IsImageOf}
-use Rattle.image_laws.specs.Puts.{LeavesOthers}
-use Rattle.image_laws.specs.Running.{HasOwners, IsRunning, IsTreeOf, left_in}
-use Rattle.image_laws.specs.Seen.{seen_blocks, AreSeen, IsGoodSeen, AreSeenAlike, IsSeenPut, IsRecoveredSo}
-use Rattle.image_laws.proofs.RunningBlocks.{quiet_image, begins, node_any, ends, joins, puts_keep, image_runs, image_tree_runs}
-use Rattle.image_laws.proofs.SeenDisks.{good_seen, seen_put, seen_stays, recovered_image, image_seen}
+use Rattle.inodes_on_blocks.specs.Holds.{HoldsAt, owner_in}
+use Rattle.inodes_on_blocks.specs.ImageLaws.{IsImageOf}
+use Rattle.inodes_on_blocks.specs.Puts.{LeavesOthers}
+use Rattle.inodes_on_blocks.specs.Running.{HasOwners, IsRunning, IsTreeOf, left_in}
+use Rattle.inodes_on_blocks.specs.Seen.{seen_blocks, AreSeen, IsGoodSeen, AreSeenAlike, IsSeenPut, IsRecoveredSo}
+use Rattle.inodes_on_blocks.proofs.RunningBlocks.{quiet_image, begins, node_any, ends, joins, puts_keep, image_runs, image_tree_runs}
+use Rattle.inodes_on_blocks.proofs.SeenDisks.{good_seen, seen_put, seen_stays, recovered_image, image_seen}
 use Rattle.inodes_on_blocks.specs.OnBlocks.{is_joined, Ghost, shown, AreOnBlocks}
 
 one_joined : (k : ℕ) (members : List (Option ℕ)) → joined (Some k ∷ members) ≡ 1 + joined members

@@ -11,12 +11,12 @@ use Rattle.plain_tree.specs.Explains.{IsNamedPart}
 use Rattle.plain_tree.specs.Tree.{tree_of, is_live, is_named, settle}
 use Rattle.image_tree.specs.Trees.{tree_in}
 use Rattle.tree_laws.proofs.Nodes.{settled_well}
-use Rattle.image_laws.specs.Holds.{live_part}
-use Rattle.image_laws.specs.Laws.{IsImageOf}
-use Rattle.image_laws.specs.Running.{IsTreeOf, IsRunning}
-use Rattle.image_laws.proofs.Held.{live_none}
-use Rattle.image_laws.proofs.RunningBlocks.{quiet_image}
-use Rattle.image_laws.proofs.SeenDisks.{good_seen}
+use Rattle.inodes_on_blocks.specs.Holds.{live_part}
+use Rattle.inodes_on_blocks.specs.ImageLaws.{IsImageOf}
+use Rattle.inodes_on_blocks.specs.Running.{IsTreeOf, IsRunning}
+use Rattle.inodes_on_blocks.proofs.Held.{live_none}
+use Rattle.inodes_on_blocks.proofs.RunningBlocks.{quiet_image}
+use Rattle.inodes_on_blocks.proofs.SeenDisks.{good_seen}
 use Rattle.fs_machine.specs.Shown.{seen_of}
 use Rattle.inode_machine.specs.World as above
 use Rattle.inode_machine.specs.Rules.{Inv}

@@ -8,7 +8,7 @@ use Rattle.fs_layout.specs.Bytes.{IsBytes}
 use Rattle.fs_layout.specs.Widths.{block_len}
 use Rattle.image_tree.specs.Checks.{largest_size}
 use Rattle.image_tree.specs.Inodes.{is_free, content_block, blocks_for, numbers_of, block_number}
-use Rattle.image_laws.specs.Holds.{HoldsAt}
+use Rattle.inodes_on_blocks.specs.Holds.{HoldsAt}
 use Rattle.inode_data.specs.Programs.{blocks_between, end_of}
 use Rattle.inode_data.proofs.ContentFronts.{front}
 use Rattle.plain_tree.specs.declared.answer.Cause.TheVariants.{NoDriver}

@@ -6,7 +6,7 @@ use Rattle.std.proofs.lemmas.Option.{none-some, same_Some}
 use Rattle.fs_layout.specs.declared.inode.Dinode.{Dinode}
 use Rattle.fs_layout.specs.declared.superblock.Super.{Super}
 use Rattle.image_tree.specs.Checks.{largest_size}
-use Rattle.image_laws.specs.Holds.{HoldsAt}
+use Rattle.inodes_on_blocks.specs.Holds.{HoldsAt}
 use Rattle.plain_tree.specs.declared.node.Node.{Node}
 use Rattle.plain_tree.specs.Tree.{put}
 use Rattle.plain_tree.specs.Widths.{hart_count}
@@ -16,10 +16,10 @@ use Rattle.atomic_programs.specs.Logic.{Machine, Laws, Wp}
 use Rattle.atomic_programs.specs.Joined.{Both, Handover, joined, Below, Lasts}
 use Rattle.atomic_programs.proofs.Joined.{Acting, ToAct, to_act, may_act, s-act}
 use Rattle.atomic_programs.proofs.Sound.{Wp-more}
-use Rattle.fs_tables.specs.declared.files.OpenFile as files
-use Rattle.fs_tables.specs.declared.inodes.Inode.{Inode}
-use Rattle.fs_tables.specs.Inodes.{unlock_inode}
-use Rattle.fs_tables.specs.Tables.{TablesState, file_named, holder_of as lock_holder}
+use Rattle.fs_machine.specs.declared.files.OpenFile as files
+use Rattle.fs_machine.specs.declared.entries.Inode.{Inode}
+use Rattle.fs_machine.specs.Inodes.{unlock_inode}
+use Rattle.fs_machine.specs.Tables.{TablesState, file_named, holder_of as lock_holder}
 use Rattle.fs_machine.specs.LogPart.{Outside}
 use Rattle.fs_machine.specs.Premises as premises
 use Rattle.fs_machine.specs.Steps as steps
@@ -33,9 +33,9 @@ use Rattle.inode_machine.specs.Exec as above_exec
 use Rattle.inode_machine.specs.Exec.{entry_at, entry_moved, entry_of, offset_of, part_of, read_at, slot_at, unlocked, with_offset}
 use Rattle.inode_machine.specs.Rules as rules
 use Rattle.inode_machine.specs.Rules.{Inv}
-use Rattle.inodes_on_tables.specs.Shown as tables
-use Rattle.inodes_on_tables.specs.Shown.{loaded, file_of}
-use Rattle.inodes_on_tables.proofs.Named.{file_is, offsets_are_moved}
+use Rattle.inodes_on_blocks.specs.ShownTables as tables
+use Rattle.inodes_on_blocks.specs.ShownTables.{loaded, file_of}
+use Rattle.inodes_on_blocks.proofs.Named.{file_is, offsets_are_moved}
 use Rattle.inodes_on_blocks.specs.Acting.{ActsOnceAt}
 use Rattle.inodes_on_blocks.specs.Below.{World, log_of, tables_of, disk_of, inode_in, exec}
 use Rattle.inodes_on_blocks.specs.Files.{give_read, read_file}

@@ -9,10 +9,10 @@ use Rattle.fs_layout.specs.Recovered.{recovered, sizes_of}
 use Rattle.plain_tree.specs.declared.node.Node.{Node}
 use Rattle.tree_laws.proofs.Maps.{either, same_or, eq_not, put_other}
 use Rattle.image_tree.specs.Checks.{IsData}
-use Rattle.image_laws.specs.Puts.{IsPut, IsInodePut, LeavesOthers}
-use Rattle.image_laws.proofs.HeldPuts.{inode_leaves}
-use Rattle.image_laws.proofs.RunningBlocks.{node_any}
-use Rattle.image_laws.proofs.SeenDisks.{good_seen}
+use Rattle.inodes_on_blocks.specs.Puts.{IsPut, IsInodePut, LeavesOthers}
+use Rattle.inodes_on_blocks.proofs.HeldPuts.{inode_leaves}
+use Rattle.inodes_on_blocks.proofs.RunningBlocks.{node_any}
+use Rattle.inodes_on_blocks.proofs.SeenDisks.{good_seen}
 use Rattle.fs_machine.specs.LogPart.{LogPart, put_block}
 use Rattle.fs_machine.specs.Shown.{seen_of}
 use Rattle.inode_table.specs.Programs.{inode_block, with_dinode}
@@ -20,14 +20,14 @@ use Rattle.inode_table.proofs.Stored.{stores_one}
 use Rattle.inode_machine.specs.World as above
 use Rattle.inode_machine.specs.Exec.{with_record, is_dead}
 use Rattle.inode_machine.specs.Rules.{if_kept, is_hart}
-use Rattle.inodes_on_tables.specs.Shown as tables
-use Rattle.inodes_on_tables.specs.Shown.{loaded}
+use Rattle.inodes_on_blocks.specs.ShownTables as tables
+use Rattle.inodes_on_blocks.specs.ShownTables.{loaded}
 use Rattle.inodes_on_blocks.specs.OnBlocks.{is_joined}
 use Rattle.inodes_on_blocks.specs.Owners.{Owners, is_named, named_of, inode_put, owners_put}
 use Rattle.inodes_on_blocks.specs.Below.{World, log_of, tables_of, disk_of, owners_of}
 use Rattle.inodes_on_blocks.specs.Recording.{CanPut, PutLeaves}
 use Rattle.inodes_on_blocks.specs.Shown.{Shows, if_joined, on_blocks}
-use Rattle.image_laws.specs.Running.{IsRunning}
+use Rattle.inodes_on_blocks.specs.Running.{IsRunning}
 use Rattle.inodes_on_blocks.proofs.News.{put_node, locked_old}
 use Rattle.inodes_on_blocks.proofs.Recorded.{disk_put, put_bytes, old_bytes, seen_put_other}
 use Rattle.inodes_on_blocks.proofs.Putting.{not_loaded, lock_range}

@@ -11,12 +11,12 @@ use Rattle.plain_tree.specs.declared.node.Node.{Node}
 use Rattle.plain_tree.specs.Widths.{hart_count}
 use Rattle.image_tree.specs.Checks.{IsData, IsGoodSuper}
 use Rattle.image_tree.specs.Inodes.{inode_of}
-use Rattle.image_laws.specs.Holds.{HoldsAt, NamesOwned}
-use Rattle.image_laws.specs.Puts.{IsInodePut}
-use Rattle.image_laws.proofs.HeldFrames.{untouched}
-use Rattle.image_laws.proofs.HeldPuts.{inode_is}
-use Rattle.image_laws.proofs.SeenDisks.{good_seen}
-use Rattle.fs_tables.specs.Tables.{holder_of as lock_holder}
+use Rattle.inodes_on_blocks.specs.Holds.{HoldsAt, NamesOwned}
+use Rattle.inodes_on_blocks.specs.Puts.{IsInodePut}
+use Rattle.inodes_on_blocks.proofs.HeldFrames.{untouched}
+use Rattle.inodes_on_blocks.proofs.HeldPuts.{inode_is}
+use Rattle.inodes_on_blocks.proofs.SeenDisks.{good_seen}
+use Rattle.fs_machine.specs.Tables.{holder_of as lock_holder}
 use Rattle.fs_machine.specs.LogPart.{LogPart, put_block}
 use Rattle.fs_machine.specs.Shown.{seen_of}
 use Rattle.inode_table.specs.Programs.{inode_block, with_dinode}

@@ -8,9 +8,9 @@ use Rattle.group_log.specs.Group.{has, one_more, members_with}
 use Rattle.group_log.proofs.Seats.{seat_changed, seat_of_others}
 use Rattle.group_log.proofs.Whole.{seat_in}
 use Rattle.tree_laws.proofs.Maps.{either, same_or, eq_self, eq_not}
-use Rattle.image_laws.specs.Puts.{IsPut}
-use Rattle.image_laws.specs.Seen.{AreSeen, IsSeenPut, IsGoodSeen}
-use Rattle.image_laws.proofs.SeenDisks.{seen_put, good_seen}
+use Rattle.inodes_on_blocks.specs.Puts.{IsPut}
+use Rattle.inodes_on_blocks.specs.Seen.{AreSeen, IsSeenPut, IsGoodSeen}
+use Rattle.inodes_on_blocks.proofs.SeenDisks.{seen_put, good_seen}
 use Rattle.fs_machine.specs.LogPart.{LogPart, put_block, Passes}
 use Rattle.fs_machine.specs.Own.{own_of, mine_of}
 use Rattle.fs_machine.specs.Premises as premises

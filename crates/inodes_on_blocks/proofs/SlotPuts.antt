@@ -11,9 +11,9 @@ use Rattle.fs_layout.proofs.Entries.{length-spell_dirent}
 use Rattle.fs_layout.proofs.Overwrites.{length-overwrite}
 use Rattle.image_tree.specs.Checks.{largest_size}
 use Rattle.image_tree.specs.Inodes.{numbers_of, block_number}
-use Rattle.image_laws.specs.Holds.{entry_of}
-use Rattle.image_laws.specs.Puts.{IsPut, IsSlotPut, IsLaidOut, slots_with, Becomes}
-use Rattle.image_laws.proofs.LaidSlots.{slot_laid}
+use Rattle.inodes_on_blocks.specs.Holds.{entry_of}
+use Rattle.inodes_on_blocks.specs.Puts.{IsPut, IsSlotPut, IsLaidOut, slots_with, Becomes}
+use Rattle.inodes_on_blocks.proofs.LaidSlots.{slot_laid}
 use Rattle.plain_tree.specs.declared.node.Slot.{Slot}
 use Rattle.plain_tree.specs.declared.node.Kind.TheVariants.{Directory}
 use Rattle.plain_tree.specs.Steps.{cleared}

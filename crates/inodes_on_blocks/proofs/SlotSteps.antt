@@ -12,12 +12,12 @@ use Rattle.image_tree.specs.Checks.{largest_size}
 use Rattle.atomic_programs.specs.Prog.{Did, Waits, Ran, Stops, did_in}
 use Rattle.atomic_programs.specs.Logic.{Laws}
 use Rattle.atomic_programs.specs.Joined.{Both}
-use Rattle.fs_tables.specs.declared.files.Want.TheVariants as want
-use Rattle.fs_tables.specs.declared.slots.Doubled.{Doubled}
-use Rattle.fs_tables.specs.declared.slots.Shut as shuts
-use Rattle.fs_tables.specs.Tables.{TablesState, file_named}
-use Rattle.fs_tables.specs.Inodes.{refusal_of}
-use Rattle.fs_tables.specs.Files.{take_place, open_file, double_descriptor, shut_descriptor}
+use Rattle.fs_machine.specs.declared.files.Want.TheVariants as want
+use Rattle.fs_machine.specs.declared.slots.Doubled.{Doubled}
+use Rattle.fs_machine.specs.declared.slots.Shut as shuts
+use Rattle.fs_machine.specs.Tables.{TablesState, file_named}
+use Rattle.fs_machine.specs.Inodes.{refusal_of}
+use Rattle.fs_machine.specs.Files.{take_place, open_file, double_descriptor, shut_descriptor}
 use Rattle.fs_machine.specs.Steps as steps
 use Rattle.fs_machine.specs.Premises as premises
 use Rattle.inode_machine.specs.World as above
@@ -26,12 +26,12 @@ use Rattle.inode_machine.specs.World.Op.{Slot, Install, CheckFile, Double, Shut,
 use Rattle.inode_machine.specs.Exec as above_exec
 use Rattle.inode_machine.specs.Exec.{slot_if, install_if, first_from, file_count, is_empty_slot, double_at, double_if, slot_at, entry_of, close_at, close_if, mode_refusal, write_refused, entry_at}
 use Rattle.inode_machine.specs.Inodes.{Sort, OfDirectory, OfFile, OfDevice}
-use Rattle.inodes_on_tables.specs.Shown as tables
-use Rattle.inodes_on_tables.specs.Shown.{loaded, new_file, Runs, BothCame, doubled_as, shut_as, refused_as}
-use Rattle.inodes_on_tables.proofs.Desks.{part_same}
-use Rattle.inodes_on_tables.proofs.Slots.{places_are_taken, files_are_opened, hand_here}
-use Rattle.inodes_on_tables.proofs.Named.{descriptors_are_doubled, descriptors_name_files}
-use Rattle.inodes_on_tables.proofs.Shuts.{descriptors_are_shut}
+use Rattle.inodes_on_blocks.specs.ShownTables as tables
+use Rattle.inodes_on_blocks.specs.ShownTables.{loaded, new_file, Runs, BothCame, doubled_as, shut_as, refused_as}
+use Rattle.inodes_on_blocks.proofs.Desks.{part_same}
+use Rattle.inodes_on_blocks.proofs.Slots.{places_are_taken, files_are_opened, hand_here}
+use Rattle.inodes_on_blocks.proofs.Named.{descriptors_are_doubled, descriptors_name_files}
+use Rattle.inodes_on_blocks.proofs.Shuts.{descriptors_are_shut}
 use Rattle.inodes_on_blocks.specs.Below.{World, tables_of, came_to, commits_after, owners_of, owners_after, new_after}
 use Rattle.inodes_on_blocks.specs.Shown.{Shows, OffsetsShow}
 use Rattle.inodes_on_blocks.specs.Lowering.{Carry, Base, Labels, labelled, Keeps}

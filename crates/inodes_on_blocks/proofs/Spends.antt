@@ -10,7 +10,7 @@ use Rattle.group_log.specs.declared.log.Left.{Left}
 use Rattle.group_log.specs.declared.log.Left.TheVariants.{Free, Commits}
 use Rattle.atomic_programs.specs.Prog.{Ret, Do, bind}
 use Rattle.atomic_programs.specs.Joined.{Handover}
-use Rattle.fs_tables.specs.Inodes.{LockedState, Refuses, Locks}
+use Rattle.fs_machine.specs.Inodes.{LockedState, Refuses, Locks}
 use Rattle.fs_machine.specs.LogPart.{LogPart}
 use Rattle.fs_machine.specs.Steps.{ClaimResult, Claims, NoPlace, NoInode}
 use Rattle.fs_machine.specs.Programs.{fetch, read_unless, commit_unless, commits, most_writes, after_leave}
@@ -34,7 +34,7 @@ use Rattle.inodes_on_blocks.specs.Lowering.{Carry, Had, Apart, Has, Emptied, Not
 use Rattle.inodes_on_blocks.specs.Emptying.{give_content}
 use Rattle.inodes_on_blocks.specs.Files.{file_locked, give_read, with_file}
 use Rattle.inodes_on_blocks.specs.Reading.{learned, looked, number_found, search_entries, seen_record, stat_loaded, stat_locked}
-use Rattle.inodes_on_tables.specs.Shown.{kind_of}
+use Rattle.inodes_on_blocks.specs.ShownTables.{kind_of}
 use Rattle.inodes_on_blocks.specs.Making.{claim_at, claim_from, claim_in}
 use Rattle.inodes_on_blocks.specs.Naming.{clear, clear_in, clear_slot, put_named, slot_found, slot_of}
 use Rattle.inodes_on_blocks.specs.Storing.{put_record, record_in}

@@ -12,16 +12,16 @@ use Rattle.plain_tree.specs.Tree.{put}
 use Rattle.plain_tree.specs.Widths.{hart_count}
 use Rattle.tree_laws.proofs.Maps.{same_or, put_same, put_other}
 use Rattle.image_tree.specs.Inodes.{is_number, is_free}
-use Rattle.image_laws.specs.Holds.{IsInode, IsRecord, type_in}
+use Rattle.inodes_on_blocks.specs.Holds.{IsInode, IsRecord, type_in}
 use Rattle.atomic_programs.specs.Prog.{Did, Waits, Ran, did_in}
 use Rattle.atomic_programs.specs.Logic.{Laws, Wp}
 use Rattle.atomic_programs.specs.Joined.{Both, joined, Below, Lasts}
 use Rattle.atomic_programs.proofs.Joined.{Acting, acted, s-act}
-use Rattle.fs_tables.specs.declared.files.Want.TheVariants as want
-use Rattle.fs_tables.specs.declared.files.OpenFile as files
-use Rattle.fs_tables.specs.Tables.{TablesState, file_named, holder_of as lock_holder}
-use Rattle.fs_tables.specs.Inodes.{LockedState, Refuses, Locks, refusal_of, lock_file, lock_unless, lock_inode, with_file}
-use Rattle.fs_tables.specs.declared.files.Refused.TheVariants as refused
+use Rattle.fs_machine.specs.declared.files.Want.TheVariants as want
+use Rattle.fs_machine.specs.declared.files.OpenFile as files
+use Rattle.fs_machine.specs.Tables.{TablesState, file_named, holder_of as lock_holder}
+use Rattle.fs_machine.specs.Inodes.{LockedState, Refuses, Locks, refusal_of, lock_file, lock_unless, lock_inode, with_file}
+use Rattle.fs_machine.specs.declared.files.Refused.TheVariants as refused
 use Rattle.fs_machine.specs.LogPart.{Outside}
 use Rattle.fs_machine.specs.Steps as steps
 use Rattle.fs_machine.specs.Steps.{Lock, LockFile}
@@ -40,10 +40,10 @@ use Rattle.inode_machine.proofs.Frame.{ours_none, ours_some}
 use Rattle.inode_machine.proofs.Freeing.{lone_file}
 use Rattle.inode_machine.proofs.Rules.{opens_slots}
 use Rattle.inode_machine.proofs.Stats.{node_there}
-use Rattle.inodes_on_tables.specs.Shown as tables
-use Rattle.inodes_on_tables.specs.Shown.{loaded, file_of}
-use Rattle.inodes_on_tables.proofs.Locks.{by_lock, place_there}
-use Rattle.inodes_on_tables.proofs.Named.{names_at, file_is}
+use Rattle.inodes_on_blocks.specs.ShownTables as tables
+use Rattle.inodes_on_blocks.specs.ShownTables.{loaded, file_of}
+use Rattle.inodes_on_blocks.proofs.Locks.{by_lock, place_there}
+use Rattle.inodes_on_blocks.proofs.Named.{names_at, file_is}
 use Rattle.inodes_on_blocks.specs.Below.{World, log_of, tables_of, inode_in, exec}
 use Rattle.inodes_on_blocks.specs.Shown.{Shows}
 use Rattle.inodes_on_blocks.specs.Lowering.{NothingMore, Had, Has, Carry, IsLoaded, InHand, Base, Stands, below, Labels, labelled, Keeps, IsOpened}

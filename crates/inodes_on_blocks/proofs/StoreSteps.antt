@@ -15,15 +15,15 @@ use Rattle.plain_tree.specs.Widths.{hart_count}
 use Rattle.tree_laws.proofs.Maps.{same_or, put_same, put_other}
 use Rattle.image_tree.specs.Damage.{UpToLog}
 use Rattle.image_tree.specs.Inodes.{numbers_of}
-use Rattle.image_laws.specs.Holds.{HoldsAt, NamesOwned}
-use Rattle.image_laws.specs.Puts.{IsInodePut, IsLaidOut}
-use Rattle.image_laws.proofs.LaidInodes.{laid_before, node_held, count_laid}
-use Rattle.image_laws.proofs.SeenDisks.{good_seen}
+use Rattle.inodes_on_blocks.specs.Holds.{HoldsAt, NamesOwned}
+use Rattle.inodes_on_blocks.specs.Puts.{IsInodePut, IsLaidOut}
+use Rattle.inodes_on_blocks.proofs.LaidInodes.{laid_before, node_held, count_laid}
+use Rattle.inodes_on_blocks.proofs.SeenDisks.{good_seen}
 use Rattle.atomic_programs.specs.Prog.{Ret, bind, once, Ran}
 use Rattle.atomic_programs.specs.Logic.{Laws, Machine, Wp}
 use Rattle.atomic_programs.specs.Joined.{Both, joined, Below, Lasts, Handover}
 use Rattle.atomic_programs.proofs.Joined.{Here, ToAct, to_act, may_act, Acting, s-act}
-use Rattle.fs_tables.specs.Tables.{holder_of as lock_holder}
+use Rattle.fs_machine.specs.Tables.{holder_of as lock_holder}
 use Rattle.fs_machine.specs.LogPart.{LogPart, Outside, put_block}
 use Rattle.fs_machine.specs.Programs.{fetch}
 use Rattle.fs_machine.specs.Shown.{seen_of}

@@ -7,12 +7,12 @@ use Rattle.plain_tree.specs.declared.node.Node.{Node}
 use Rattle.plain_tree.specs.Tree.{put}
 use Rattle.plain_tree.specs.Widths.{hart_count}
 use Rattle.tree_laws.proofs.Maps.{same_or, put_same, put_other}
-use Rattle.image_laws.specs.Holds.{HoldsAt}
+use Rattle.inodes_on_blocks.specs.Holds.{HoldsAt}
 use Rattle.atomic_programs.specs.Prog.{Ran}
 use Rattle.atomic_programs.specs.Logic.{Laws}
 use Rattle.atomic_programs.specs.Joined.{Both}
-use Rattle.fs_tables.specs.Tables.{TablesState}
-use Rattle.fs_tables.specs.Inodes.{unlock_inode, settle_inode}
+use Rattle.fs_machine.specs.Tables.{TablesState}
+use Rattle.fs_machine.specs.Inodes.{unlock_inode, settle_inode}
 use Rattle.fs_machine.specs.Steps as steps
 use Rattle.fs_machine.specs.Premises as premises
 use Rattle.inode_machine.specs.World as above
@@ -20,11 +20,11 @@ use Rattle.inode_machine.specs.World.Op.{Give, UpStart, Up, WalkDown, Down, Slot
 use Rattle.inode_machine.specs.Exec as above_exec
 use Rattle.inode_machine.specs.Exec.{unlocked}
 use Rattle.inode_machine.proofs.Frame.{ours_none, ours_some}
-use Rattle.inodes_on_tables.specs.Shown as tables
-use Rattle.inodes_on_tables.specs.Shown.{loaded}
-use Rattle.inodes_on_tables.proofs.Desks.{part_same}
-use Rattle.inodes_on_tables.proofs.Locks.{locks_are_given}
-use Rattle.inodes_on_tables.proofs.Named.{directories_are_settled}
+use Rattle.inodes_on_blocks.specs.ShownTables as tables
+use Rattle.inodes_on_blocks.specs.ShownTables.{loaded}
+use Rattle.inodes_on_blocks.proofs.Desks.{part_same}
+use Rattle.inodes_on_blocks.proofs.Locks.{locks_are_given}
+use Rattle.inodes_on_blocks.proofs.Named.{directories_are_settled}
 use Rattle.inodes_on_blocks.specs.Below.{World, log_of, tables_of, disk_of, inode_in}
 use Rattle.inodes_on_blocks.specs.Shown.{Shows, OffsetsShow, on_blocks}
 use Rattle.inodes_on_blocks.specs.Lowering.{Same, Had, Apart, Has, Emptied, Carry, record_had, IsLoaded, InHand, Base, Labels, labelled, Keeps}

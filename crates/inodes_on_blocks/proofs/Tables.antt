@@ -8,14 +8,14 @@ use Rattle.fs_layout.specs.Recovered.{sizes_of}
 use Rattle.buffer_cache.specs.Seats.{seen_in}
 use Rattle.plain_tree.specs.declared.node.Node.{Node}
 use Rattle.plain_tree.specs.Widths.{hart_count}
-use Rattle.image_laws.specs.Holds.{HoldsAt}
-use Rattle.image_laws.specs.Running.{IsRunning}
-use Rattle.image_laws.proofs.SeenDisks.{good_seen}
-use Rattle.fs_tables.specs.Tables.{TablesState}
+use Rattle.inodes_on_blocks.specs.Holds.{HoldsAt}
+use Rattle.inodes_on_blocks.specs.Running.{IsRunning}
+use Rattle.inodes_on_blocks.proofs.SeenDisks.{good_seen}
+use Rattle.fs_machine.specs.Tables.{TablesState}
 use Rattle.inode_machine.specs.World as above
 use Rattle.inode_machine.specs.World.{Desk}
-use Rattle.inodes_on_tables.specs.Shown as tables
-use Rattle.inodes_on_tables.specs.Shown.{loaded}
+use Rattle.inodes_on_blocks.specs.ShownTables as tables
+use Rattle.inodes_on_blocks.specs.ShownTables.{loaded}
 use Rattle.inodes_on_blocks.specs.OnBlocks.{is_joined}
 use Rattle.inodes_on_blocks.specs.Below.{World, log_of, disk_of, inode_in, tables_of}
 use Rattle.inodes_on_blocks.specs.Shown.{Shows, LoadsShow, OffsetsShow, if_joined, on_blocks, unless_new}

@@ -11,14 +11,14 @@ use Rattle.plain_tree.specs.Tree.{Name, put, live_directory}
 use Rattle.plain_tree.specs.Widths.{hart_count}
 use Rattle.tree_laws.proofs.Maps.{same_or, put_same, put_other}
 use Rattle.image_tree.specs.Inodes.{is_free}
-use Rattle.image_laws.specs.Holds.{HoldsAt}
+use Rattle.inodes_on_blocks.specs.Holds.{HoldsAt}
 use Rattle.atomic_programs.specs.Prog.{Ret, bind, Did, Waits, Ran, did_in}
 use Rattle.atomic_programs.specs.Logic.{Machine, Laws, P, Wp}
 use Rattle.atomic_programs.specs.Joined.{Both, Handover, joined, Below, Lasts}
 use Rattle.atomic_programs.proofs.Joined.{Acting, acted, s-act}
 use Rattle.atomic_programs.proofs.Sound.{Wp-more}
-use Rattle.fs_tables.specs.Tables.{TablesState, holder_of as lock_holder}
-use Rattle.fs_tables.specs.Inodes.{lock_inode}
+use Rattle.fs_machine.specs.Tables.{TablesState, holder_of as lock_holder}
+use Rattle.fs_machine.specs.Inodes.{lock_inode}
 use Rattle.fs_machine.specs.LogPart.{Outside}
 use Rattle.fs_machine.specs.Steps as steps
 use Rattle.fs_machine.specs.Steps.{Lock}
@@ -29,9 +29,9 @@ use Rattle.inode_machine.specs.World.Op.{Take}
 use Rattle.inode_machine.specs.Exec.{lock_if, locked}
 use Rattle.inode_machine.specs.Rules.{Inv, looking_cost}
 use Rattle.inode_machine.proofs.Frame.{one_refs, two_refs}
-use Rattle.inodes_on_tables.specs.Shown as tables
-use Rattle.inodes_on_tables.specs.Shown.{loaded}
-use Rattle.inodes_on_tables.proofs.Locks.{by_lock, place_there}
+use Rattle.inodes_on_blocks.specs.ShownTables as tables
+use Rattle.inodes_on_blocks.specs.ShownTables.{loaded}
+use Rattle.inodes_on_blocks.proofs.Locks.{by_lock, place_there}
 use Rattle.inodes_on_blocks.specs.Below.{World, log_of, tables_of, disk_of, inode_in, exec}
 use Rattle.inodes_on_blocks.specs.Shown.{Shows}
 use Rattle.inodes_on_blocks.specs.Lowering.{Same, Kept, Knowledge, NothingMore, Had, Has, Carry, IsKnown, IsLoaded, InHand, Base, Stands, below, Labels, labelled, Keeps, IsOpened}

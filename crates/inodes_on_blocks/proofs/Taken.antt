@@ -5,7 +5,7 @@ use Rattle.fs_layout.specs.declared.inode.Dinode.{Dinode}
 use Rattle.fs_layout.specs.declared.superblock.Super.{Super}
 use Rattle.fs_layout.specs.Recovered.{sizes_of}
 use Rattle.image_tree.specs.Checks.{IsData}
-use Rattle.image_laws.proofs.SeenDisks.{good_seen}
+use Rattle.inodes_on_blocks.proofs.SeenDisks.{good_seen}
 use Rattle.plain_tree.specs.declared.node.Node.{Node}
 use Rattle.atomic_programs.specs.Prog.{Ret, bind}
 use Rattle.atomic_programs.specs.Logic.{Machine, P, Wp}

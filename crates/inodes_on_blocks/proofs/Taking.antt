@@ -5,14 +5,14 @@ use Rattle.fs_layout.specs.declared.superblock.Super.{Super}
 use Rattle.fs_layout.specs.Recovered.{sizes_of}
 use Rattle.image_tree.specs.Checks.{IsData, is_marked}
 use Rattle.image_tree.specs.Inodes.{numbers_of}
-use Rattle.image_laws.specs.Holds.{IsOwned, NamesOwned, MarksBlocks}
-use Rattle.image_laws.specs.Puts.{IsBitPut, IsTaken, IsLaidOut, IsSpare}
-use Rattle.image_laws.proofs.HeldFrames.{untouched_change}
-use Rattle.image_laws.proofs.HeldPuts.{taken}
+use Rattle.inodes_on_blocks.specs.Holds.{IsOwned, NamesOwned, MarksBlocks}
+use Rattle.inodes_on_blocks.specs.Puts.{IsBitPut, IsTaken, IsLaidOut, IsSpare}
+use Rattle.inodes_on_blocks.proofs.HeldFrames.{untouched_change}
+use Rattle.inodes_on_blocks.proofs.HeldPuts.{taken}
 use Rattle.plain_tree.specs.declared.node.Node.{Node}
 use Rattle.plain_tree.specs.Tree.{put}
 use Rattle.tree_laws.proofs.Maps.{either, same_or, put_same, put_other, eq_self}
-use Rattle.fs_tables.specs.Tables.{holder_of as lock_holder}
+use Rattle.fs_machine.specs.Tables.{holder_of as lock_holder}
 use Rattle.fs_machine.specs.Shown.{seen_of}
 use Rattle.bitmap_alloc.specs.Bytes.{with_bit}
 use Rattle.inode_machine.specs.World as above

@@ -9,7 +9,7 @@ use Rattle.fs_layout.specs.Recovered.{sizes_of}
 use Rattle.buffer_cache.specs.Seats.{holder_of, kept}
 use Rattle.group_log.specs.Group.{has, HasRoom}
 use Rattle.image_tree.specs.Checks.{IsData, is_marked}
-use Rattle.image_laws.proofs.SeenDisks.{good_seen}
+use Rattle.inodes_on_blocks.proofs.SeenDisks.{good_seen}
 use Rattle.plain_tree.specs.declared.node.Node.{Node}
 use Rattle.plain_tree.specs.Widths.{hart_count}
 use Rattle.atomic_programs.specs.Prog.{Do, unmarked}

@@ -9,9 +9,9 @@ use Rattle.fs_layout.specs.Bytes.{IsBytes, overwrite}
 use Rattle.fs_layout.specs.Recovered.{recovered}
 use Rattle.fs_layout.proofs.Overwrites.{overwrite-overwrite}
 use Rattle.image_tree.specs.Checks.{largest_size}
-use Rattle.image_laws.specs.Puts.{Becomes, IsBytesPut, IsPut}
-use Rattle.image_laws.proofs.LaidBytes.{bytes_laid}
-use Rattle.image_laws.proofs.SeenDisks.{good_seen}
+use Rattle.inodes_on_blocks.specs.Puts.{Becomes, IsBytesPut, IsPut}
+use Rattle.inodes_on_blocks.proofs.LaidBytes.{bytes_laid}
+use Rattle.inodes_on_blocks.proofs.SeenDisks.{good_seen}
 use Rattle.plain_tree.specs.declared.node.Node.{Node}
 use Rattle.plain_tree.specs.declared.node.Kind.TheVariants.{File}
 use Rattle.plain_tree.specs.Widths.{hart_count}

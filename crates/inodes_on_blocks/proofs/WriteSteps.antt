@@ -10,7 +10,7 @@ use Rattle.fs_layout.specs.declared.superblock.Super.{Super}
 use Rattle.fs_layout.specs.Bytes.{IsBytes, overwrite}
 use Rattle.fs_layout.specs.Inode.{IsDinode}
 use Rattle.image_tree.specs.Checks.{largest_size}
-use Rattle.image_laws.specs.Holds.{HoldsAt}
+use Rattle.inodes_on_blocks.specs.Holds.{HoldsAt}
 use Rattle.plain_tree.specs.declared.answer.Cause.{Cause}
 use Rattle.plain_tree.specs.declared.answer.Cause.TheVariants.{BadOffset, TooBig}
 use Rattle.plain_tree.specs.declared.node.Node.{Node}
@@ -24,7 +24,7 @@ use Rattle.atomic_programs.specs.Joined.{Both, Handover, joined, Below, Lasts}
 use Rattle.atomic_programs.proofs.Joined.{ToAct, to_act, may_act}
 use Rattle.atomic_programs.proofs.Prog.{bind-assoc}
 use Rattle.atomic_programs.proofs.Sound.{Wp-more}
-use Rattle.fs_tables.specs.Tables.{holder_of as lock_holder}
+use Rattle.fs_machine.specs.Tables.{holder_of as lock_holder}
 use Rattle.inode_table.specs.Programs.{inode_block, no_record, store as store_inode}
 use Rattle.inode_data.specs.declared.addresses.Address.TheVariants.{Direct, InTable}
 use Rattle.inode_data.specs.Addresses.{table_of}

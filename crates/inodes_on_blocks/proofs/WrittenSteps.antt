@@ -11,8 +11,8 @@ use Rattle.fs_layout.specs.Recovered.{IsOutsideLog}
 use Rattle.buffer_cache.specs.Seats.{holder_of, kept}
 use Rattle.group_log.specs.Group.{has, HasRoom}
 use Rattle.image_tree.specs.Checks.{largest_size}
-use Rattle.image_laws.specs.Holds.{HoldsAt}
-use Rattle.image_laws.proofs.HeldFrames.{untouched}
+use Rattle.inodes_on_blocks.specs.Holds.{HoldsAt}
+use Rattle.inodes_on_blocks.proofs.HeldFrames.{untouched}
 use Rattle.plain_tree.specs.declared.answer.Cause.{Cause}
 use Rattle.plain_tree.specs.declared.node.Node.{Node}
 use Rattle.plain_tree.specs.Steps.{node_or, write_kind}
@@ -25,10 +25,10 @@ use Rattle.atomic_programs.specs.Logic.{Machine, Laws, P, Wp}
 use Rattle.atomic_programs.specs.Joined.{Both, Handover, joined, Below, Lasts}
 use Rattle.atomic_programs.proofs.Joined.{Acting, Here, Stable, ToAct, s-act}
 use Rattle.atomic_programs.proofs.Prog.{bind-assoc}
-use Rattle.fs_tables.specs.declared.files.OpenFile as files
-use Rattle.fs_tables.specs.declared.inodes.Inode.{Inode}
-use Rattle.fs_tables.specs.Inodes.{unlock_inode}
-use Rattle.fs_tables.specs.Tables.{TablesState, file_named, holder_of as lock_holder}
+use Rattle.fs_machine.specs.declared.files.OpenFile as files
+use Rattle.fs_machine.specs.declared.entries.Inode.{Inode}
+use Rattle.fs_machine.specs.Inodes.{unlock_inode}
+use Rattle.fs_machine.specs.Tables.{TablesState, file_named, holder_of as lock_holder}
 use Rattle.fs_machine.specs.LogPart.{Outside}
 use Rattle.fs_machine.specs.Premises as premises
 use Rattle.fs_machine.specs.Programs.{fetch}
@@ -44,10 +44,10 @@ use Rattle.inode_machine.specs.Exec.{entry_at, entry_of, offset_of, slot_at, unl
 use Rattle.inode_machine.specs.Marks.{marked, with_mark}
 use Rattle.inode_machine.specs.Rules as rules
 use Rattle.inode_machine.specs.Rules.{HonestPiece, Idle, Inv}
-use Rattle.inodes_on_tables.specs.Shown as tables
-use Rattle.inodes_on_tables.specs.Shown.{loaded, file_of}
-use Rattle.inodes_on_tables.proofs.Locks.{locks_are_given}
-use Rattle.inodes_on_tables.proofs.Named.{file_is, offsets_are_moved}
+use Rattle.inodes_on_blocks.specs.ShownTables as tables
+use Rattle.inodes_on_blocks.specs.ShownTables.{loaded, file_of}
+use Rattle.inodes_on_blocks.proofs.Locks.{locks_are_given}
+use Rattle.inodes_on_blocks.proofs.Named.{file_is, offsets_are_moved}
 use Rattle.inodes_on_blocks.specs.Below.{World, log_of, tables_of, disk_of, inode_in, exec}
 use Rattle.inodes_on_blocks.specs.Giving.{KeepsRoom, world_with}
 use Rattle.inodes_on_blocks.specs.Handlers.{acts}

@@ -5,7 +5,7 @@ use Rattle.plain_tree.specs.Tree.{put}
 use Rattle.image_tree.specs.Inodes.{inode_of, is_free}
 use Rattle.group_log.specs.declared.log.Left.TheVariants.{Free, Commits}
 use Rattle.atomic_programs.specs.Prog.{Did, Waits, Ran, Stops}
-use Rattle.fs_tables.specs.Tables.{TablesState, holder_of as lock_holder}
+use Rattle.fs_machine.specs.Tables.{TablesState, holder_of as lock_holder}
 use Rattle.fs_machine.specs.LogPart.{LogPart, Outside}
 use Rattle.fs_machine.specs.Steps as steps
 use Rattle.fs_machine.specs.Steps.{State, Op, Answer, Leave, Put, Commit, Claim, Claims}

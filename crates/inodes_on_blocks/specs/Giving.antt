@@ -5,11 +5,11 @@ use Rattle.fs_layout.specs.Recovered.{recovered}
 use Rattle.buffer_cache.specs.Seats.{holder_of}
 use Rattle.plain_tree.specs.Widths.{hart_count}
 use Rattle.image_tree.specs.Checks.{IsData, is_marked}
-use Rattle.image_laws.specs.Holds.{NamesOwned}
+use Rattle.inodes_on_blocks.specs.Holds.{NamesOwned}
 use Rattle.atomic_programs.specs.Prog.{Ret}
 use Rattle.atomic_programs.specs.Logic.{Wp}
 use Rattle.atomic_programs.specs.Joined.{Both, joined}
-use Rattle.fs_tables.specs.Tables.{holder_of as lock_holder}
+use Rattle.fs_machine.specs.Tables.{holder_of as lock_holder}
 use Rattle.fs_machine.specs.Shown.{seen_of}
 use Rattle.bitmap_alloc.specs.Programs.{free_block}
 use Rattle.inode_data.specs.Freeing.{free_numbers}

@@ -8,16 +8,16 @@ use Rattle.plain_tree.specs.declared.tree.OpenFile.{OpenFile}
 use Rattle.plain_tree.specs.Tree.{put}
 use Rattle.plain_tree.specs.Widths.{root, descriptor_count}
 use Rattle.fs_layout.specs.declared.inode.Dinode.{Dinode}
-use Rattle.fs_tables.specs.declared.files.Refused.{Refused}
-use Rattle.fs_tables.specs.declared.files.Refused.TheVariants as refused
-use Rattle.fs_tables.specs.declared.files.Want.TheVariants as want
-use Rattle.fs_tables.specs.declared.slots.Doubled.{Doubled}
-use Rattle.fs_tables.specs.declared.slots.Doubled.TheVariants as doubled
-use Rattle.fs_tables.specs.declared.slots.Given.{Given}
-use Rattle.fs_tables.specs.declared.slots.Given.TheVariants as given
-use Rattle.fs_tables.specs.declared.slots.Shut as shuts
-use Rattle.fs_tables.specs.declared.slots.Shut.TheVariants as shut
-use Rattle.fs_tables.specs.Inodes.{DroppedState, Counts, Keeps, Dies}
+use Rattle.fs_machine.specs.declared.files.Refused.{Refused}
+use Rattle.fs_machine.specs.declared.files.Refused.TheVariants as refused
+use Rattle.fs_machine.specs.declared.files.Want.TheVariants as want
+use Rattle.fs_machine.specs.declared.slots.Doubled.{Doubled}
+use Rattle.fs_machine.specs.declared.slots.Doubled.TheVariants as doubled
+use Rattle.fs_machine.specs.declared.slots.Given.{Given}
+use Rattle.fs_machine.specs.declared.slots.Given.TheVariants as given
+use Rattle.fs_machine.specs.declared.slots.Shut as shuts
+use Rattle.fs_machine.specs.declared.slots.Shut.TheVariants as shut
+use Rattle.fs_machine.specs.Inodes.{DroppedState, Counts, Keeps, Dies}
 use Rattle.fs_machine.specs.Programs.{after_leave}
 use Rattle.fs_machine.specs.Steps as steps
 use Rattle.fs_machine.specs.Steps.{Whom, Number, Directory, Held, Walked, Freed}
@@ -25,7 +25,7 @@ use Rattle.inode_machine.specs.Inodes.{Sort}
 use Rattle.inode_machine.specs.World as above
 use Rattle.inode_machine.specs.World.{LoanResult, Lent, Moved}
 use Rattle.inode_machine.specs.World.Op.{Give, UpStart, Up, WalkDown, Down, Forget, Slot, Install, CheckFile, JoinFile, Double, Shut, Settle, Lend, LendDirectory, Release, Join, Leave, Say}
-use Rattle.inodes_on_tables.specs.Shown.{new_file}
+use Rattle.inodes_on_blocks.specs.ShownTables.{new_file}
 use Rattle.inodes_on_blocks.specs.Lowering.{NothingMore, Had, Apart, Has, Carry, record_had}
 
 abbrev pub Acts : Type 0

@@ -10,11 +10,11 @@ use Rattle.plain_tree.specs.Tree.{Tree, put, tree_of}
 use Rattle.tree_laws.specs.WellFormed as trees
 use Rattle.image_tree.specs.Damage.{IsWellFormed}
 use Rattle.image_tree.specs.Trees.{tree_in}
-use Rattle.image_laws.specs.Holds.{HoldsAt}
-use Rattle.image_laws.specs.Laws.{IsImageOf}
-use Rattle.image_laws.specs.Puts.{LeavesOthers}
-use Rattle.image_laws.specs.Running.{HasOwners, IsTreeOf}
-use Rattle.image_laws.specs.Seen.{AreSeenAlike, IsSeenPut, IsRecoveredSo}
+use Rattle.inodes_on_blocks.specs.Holds.{HoldsAt}
+use Rattle.inodes_on_blocks.specs.ImageLaws.{IsImageOf}
+use Rattle.inodes_on_blocks.specs.Puts.{LeavesOthers}
+use Rattle.inodes_on_blocks.specs.Running.{HasOwners, IsTreeOf}
+use Rattle.inodes_on_blocks.specs.Seen.{AreSeenAlike, IsSeenPut, IsRecoveredSo}
 use Rattle.inodes_on_blocks.specs.OnBlocks.{is_joined, Ghost, shown, AreOnBlocks}
 
 -- With no transaction outstanding the seen blocks are a well-formed image of the tree, and so is each disk that recovery would leave so. A

@@ -25,3 +25,13 @@ pub mod Taking
 pub mod Entering
 pub mod Making
 pub mod Programs
+pub mod ShownTables
+pub mod TableLaws
+pub mod Holds
+pub mod Puts
+pub mod Running
+pub mod Seen
+pub mod ImageLaws
+pub mod PutLaws
+pub mod RunningLaws
+pub mod SeenLaws

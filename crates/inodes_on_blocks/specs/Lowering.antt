@@ -11,11 +11,11 @@ use Rattle.plain_tree.specs.declared.node.Slot.{Slot as DirectorySlot}
 use Rattle.plain_tree.specs.Tree.{Name, same_name, all_slots}
 use Rattle.plain_tree.specs.Widths.{hart_count, descriptor_count}
 use Rattle.image_tree.specs.Inodes.{is_free}
-use Rattle.image_laws.specs.Holds.{HoldsAt}
-use Rattle.image_laws.specs.Puts.{IsUntouched}
+use Rattle.inodes_on_blocks.specs.Holds.{HoldsAt}
+use Rattle.inodes_on_blocks.specs.Puts.{IsUntouched}
 use Rattle.atomic_programs.specs.Logic.{Machine}
 use Rattle.atomic_programs.specs.Joined.{Lower}
-use Rattle.fs_tables.specs.Tables.{holder_of as lock_holder}
+use Rattle.fs_machine.specs.Tables.{holder_of as lock_holder}
 use Rattle.fs_machine.specs.LogPart.{LogPart, Outside}
 use Rattle.fs_machine.specs.Steps as steps
 use Rattle.fs_machine.specs.Premises as premises
@@ -26,8 +26,8 @@ use Rattle.inode_machine.specs.World.Op.{Take, Give, UpStart, Up, WalkDown, Down
 use Rattle.inode_machine.specs.Marks.{go}
 use Rattle.inode_machine.specs.Rules as rules
 use Rattle.inode_machine.specs.Rules.{if_kept, is_hart, own_of, Idle, KeepsFiles, Inv}
-use Rattle.inodes_on_tables.specs.Shown as tables
-use Rattle.inodes_on_tables.specs.Shown.{loaded}
+use Rattle.inodes_on_blocks.specs.ShownTables as tables
+use Rattle.inodes_on_blocks.specs.ShownTables.{loaded}
 use Rattle.inodes_on_blocks.specs.Below.{World, log_of, tables_of, disk_of, inode_in, exec}
 use Rattle.inodes_on_blocks.specs.Shown.{Shows}
 

@@ -11,7 +11,7 @@ use Rattle.inode_table.specs.Programs.{with_dinode}
 use Rattle.inode_machine.specs.Inodes.{Sort, OfDirectory, OfFile, OfDevice}
 use Rattle.inode_machine.specs.World as above
 use Rattle.inode_machine.specs.World.Op.{Claim}
-use Rattle.inodes_on_tables.specs.Shown.{kind_of}
+use Rattle.inodes_on_blocks.specs.ShownTables.{kind_of}
 use Rattle.inodes_on_blocks.specs.Handlers.{Acts, P, Handler, acts}
 use Rattle.inodes_on_blocks.specs.Lowering.{Carry}
 

@@ -9,9 +9,9 @@ use Rattle.group_log.specs.Soundness.{IsPlaced}
 use Rattle.plain_tree.specs.Tree.{tree_of, settle}
 use Rattle.image_tree.specs.Damage.{IsWellFormed}
 use Rattle.image_tree.specs.Trees.{tree_in}
-use Rattle.image_laws.specs.Holds.{owner_in}
-use Rattle.image_laws.specs.Running.{left_in}
-use Rattle.fs_tables.specs.Fresh.{fresh}
+use Rattle.inodes_on_blocks.specs.Holds.{owner_in}
+use Rattle.inodes_on_blocks.specs.Running.{left_in}
+use Rattle.fs_machine.specs.Fresh.{fresh}
 use Rattle.fs_machine.specs.LogPart.{LogPart}
 use Rattle.fs_machine.specs.Steps.{State}
 use Rattle.inode_machine.specs.World as above

@@ -2,9 +2,9 @@
 use Rattle.std.specs.Prelude.{ℕ, Bool, List, length, slice_index_or, Option, None, is_some}
 use Rattle.fs_layout.specs.declared.superblock.Super.{Super}
 use Rattle.buffer_cache.specs.Seats.{SeatState, seen_in}
-use Rattle.image_laws.specs.Holds.{Nodes}
-use Rattle.image_laws.specs.Running.{IsRunning}
-use Rattle.image_laws.specs.Seen.{AreSeen, seen_blocks}
+use Rattle.inodes_on_blocks.specs.Holds.{Nodes}
+use Rattle.inodes_on_blocks.specs.Running.{IsRunning}
+use Rattle.inodes_on_blocks.specs.Seen.{AreSeen, seen_blocks}
 
 -- hart h is in a transaction
 abbrev pub is_joined : List (Option ℕ) → ℕ → Bool

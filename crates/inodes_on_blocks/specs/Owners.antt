@@ -2,7 +2,7 @@
 use Rattle.std.specs.Prelude.{ℕ, List, [], Bool, false, ◌&&◌, ◌||◌, not, ◌==◌, nat_lt, if◌then◌else◌, Option, Some, None}
 use Rattle.image_tree.specs.Checks.{is_marked}
 use Rattle.image_tree.specs.Inodes.{named_by, last}
-use Rattle.image_laws.specs.Holds.{owner_upto}
+use Rattle.inodes_on_blocks.specs.Holds.{owner_upto}
 use Rattle.inode_machine.specs.Rules.{is_hart}
 
 -- by block: the inode whose it is; whether its bit is set though it is no inode's; and the hart that has set that, until an inode names

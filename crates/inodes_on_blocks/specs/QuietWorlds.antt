@@ -5,8 +5,8 @@ use Rattle.plain_tree.specs.Tree.{tree_of, settle}
 use Rattle.plain_tree.specs.Widths.{hart_count}
 use Rattle.image_tree.specs.Damage.{IsWellFormed}
 use Rattle.image_tree.specs.Trees.{tree_in}
-use Rattle.image_laws.specs.Laws.{IsImageOf}
-use Rattle.image_laws.specs.Seen.{IsRecoveredSo}
+use Rattle.inodes_on_blocks.specs.ImageLaws.{IsImageOf}
+use Rattle.inodes_on_blocks.specs.Seen.{IsRecoveredSo}
 use Rattle.fs_machine.specs.Shown.{seen_of}
 use Rattle.inode_machine.specs.World as above
 use Rattle.inode_machine.specs.Rules.{Idle, Inv}

@@ -8,8 +8,8 @@ use Rattle.fs_layout.specs.declared.superblock.Super.{Super}
 use Rattle.directory.specs.declared.found.Found.{Found}
 use Rattle.directory.specs.Programs.{Entry, is_directory, lookup, search}
 use Rattle.fs_machine.specs.Steps.{Lock, LockFile}
-use Rattle.fs_tables.specs.Inodes.{LockedState, Refuses, Locks}
-use Rattle.fs_tables.specs.declared.files.Want.TheVariants as want
+use Rattle.fs_machine.specs.Inodes.{LockedState, Refuses, Locks}
+use Rattle.fs_machine.specs.declared.files.Want.TheVariants as want
 use Rattle.image_tree.specs.Inodes.{is_number, is_free}
 use Rattle.inode_machine.specs.Inodes.{Sort, OfDirectory, OfFile, OfDevice, Face, Sight, Query, AtNothing, AtName, AtEntries}
 use Rattle.inode_machine.specs.World as above

@@ -12,9 +12,9 @@ use Rattle.group_log.specs.Soundness.{IsHome}
 use Rattle.group_log.specs.declared.phase.Phase.TheVariants.{Halted}
 use Rattle.image_tree.specs.Checks.{IsData, is_marked}
 use Rattle.image_tree.specs.Inodes.{numbers_by}
-use Rattle.image_laws.specs.Holds.{HoldsAt, MarksBlocks, MarksNoOthers}
-use Rattle.image_laws.specs.Puts.{IsBitPut, IsUntouched}
-use Rattle.image_laws.specs.Running.{HasOwners}
+use Rattle.inodes_on_blocks.specs.Holds.{HoldsAt, MarksBlocks, MarksNoOthers}
+use Rattle.inodes_on_blocks.specs.Puts.{IsBitPut, IsUntouched}
+use Rattle.inodes_on_blocks.specs.Running.{HasOwners}
 use Rattle.fs_machine.specs.LogPart.{LogPart, Outside, put_block}
 use Rattle.fs_machine.specs.Premises as premises
 use Rattle.fs_machine.specs.Shown.{seen_of}

@@ -16,8 +16,8 @@ use Rattle.fs_machine.specs.Whole.{IsWholeLog}
 use Rattle.inode_machine.specs.World as above
 use Rattle.inode_machine.specs.World.{Desk, Entry}
 use Rattle.inode_machine.specs.Exec.{is_dead}
-use Rattle.inodes_on_tables.specs.Shown as tables
-use Rattle.inodes_on_tables.specs.Shown.{loaded}
+use Rattle.inodes_on_blocks.specs.ShownTables as tables
+use Rattle.inodes_on_blocks.specs.ShownTables.{loaded}
 use Rattle.inodes_on_blocks.specs.OnBlocks.{is_joined, Ghost, AreOnBlocks}
 use Rattle.inodes_on_blocks.specs.Below.{World, log_of, tables_of, inode_in}
 

@@ -6,10 +6,10 @@ use Rattle.fs_layout.specs.Recovered.{recovered}
 use Rattle.plain_tree.specs.declared.node.Node.{Node}
 use Rattle.plain_tree.specs.Widths.{hart_count}
 use Rattle.image_tree.specs.Checks.{IsData, is_marked}
-use Rattle.image_laws.specs.Holds.{HasContent}
+use Rattle.inodes_on_blocks.specs.Holds.{HasContent}
 use Rattle.atomic_programs.specs.Logic.{Wp}
 use Rattle.atomic_programs.specs.Joined.{Both, joined}
-use Rattle.fs_tables.specs.Tables.{holder_of as lock_holder}
+use Rattle.fs_machine.specs.Tables.{holder_of as lock_holder}
 use Rattle.bitmap_alloc.specs.Bytes.{zeros}
 use Rattle.bitmap_alloc.specs.Programs.{take_block}
 use Rattle.inode_machine.specs.Budget.{Spent, size, with_contents, most_recorded}

@@ -4,8 +4,11 @@
 
 #[cfg(test)]
 mod buffers;
+pub mod by_hand;
 #[cfg(test)]
 mod disks;
+#[cfg(test)]
+mod explains;
 #[cfg(test)]
 mod images;
 #[cfg(test)]
@@ -13,10 +16,28 @@ mod locks;
 #[cfg(test)]
 mod logs;
 #[cfg(test)]
+mod made_images;
+#[cfg(test)]
+mod makes;
+#[cfg(test)]
+mod nameless;
+#[cfg(test)]
 mod plain_buffers;
 #[cfg(test)]
 mod records;
 #[cfg(test)]
+mod recoveries;
+#[cfg(test)]
+mod searches;
+#[cfg(test)]
+mod short;
+#[cfg(test)]
+mod steps;
+#[cfg(test)]
+mod story;
+#[cfg(test)]
 mod tables;
 #[cfg(test)]
 mod told;
+#[cfg(test)]
+mod told_images;

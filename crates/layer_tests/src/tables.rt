@@ -1,11 +1,11 @@
 //! The tables of inodes, open files and descriptors: who waits, what is full, and what a child is given.
 ghost use Rattle.std.specs.Prelude.{◌≡◌, Some};
-ghost use Rattle.fs_tables.specs.Locks.{IsLocked};
+ghost use Rattle.fs_machine.specs.Locks.{IsLocked};
 
 use buffer_cache::HARTS;
 use directory::Search;
 use fs_layout::Dinode;
-use fs_tables::{
+use fs_machine::{
     DESCRIPTORS, Doubled, Dropped, Given, Inode, Listed, MEMORY_INODES, NewFile, OPEN_FILES, ROOT,
     Reference, Refused, Shut, Tables, Want,
 };

@@ -8,7 +8,7 @@ use Rattle.plain_tree.specs.declared.answer.Reply.{Reply}
 use Rattle.plain_tree.specs.declared.step.Action.TheVariants as actions
 use Rattle.atomic_programs.specs.Joined.{ActOf, Handover, lowered}
 use Rattle.atomic_programs.specs.Prog.{Prog, Ret, Do, bind, plain}
-use Rattle.fs_tables.specs.Inodes.{LockedState, Refuses, Locks}
+use Rattle.fs_machine.specs.Inodes.{LockedState, Refuses, Locks}
 use Rattle.fs_machine.specs.Programs.{fetch, read_unless}
 use Rattle.fs_machine.specs.Steps.{Op, Answer, Get}
 use Rattle.inode_data.specs.declared.addresses.Address.{Address}

@@ -33,3 +33,4 @@ pub mod TreeChecks
 pub mod TreeShown
 pub mod UpToSizes
 pub mod Wanted
+

@@ -5,3 +5,4 @@ pub mod Options
 pub mod Refusals
 pub mod Stated
 pub mod Widths
+pub mod Names

@@ -4,6 +4,7 @@
 
 mod appends;
 mod command_line;
+mod images;
 mod judges;
 mod layout;
 mod made;
@@ -11,7 +12,15 @@ mod new_file;
 mod nodes;
 mod parts;
 mod refused;
+mod replacing;
 pub mod widths;
+
+ghost use Rattle.std.specs.Prelude.{◌≡◌, ◌≤◌, ◌+◌, length, IfOk};
+ghost use Rattle.mkfs.specs.Names.{shown};
+
+use std::fs::{File, Files};
+use std::io::Read;
+use std::io;
 
 pub use crate::command_line::{FILES, IMAGE, INODES, SIZE, number, options};
 pub use crate::judges::is_file_name;
@@ -19,3 +28,25 @@ pub use crate::layout::data_start;
 pub use crate::made::{made_blocks, made_front, made_inodes, make};
 pub use crate::new_file::NewFile;
 pub use crate::refused::MakeRefused;
+pub use crate::images::{ImageFile, ImageRefused, read_image};
+pub use crate::replacing::{SaveRefused, save, try_to_save};
+
+/// A file's name as a message has it: of none its quotation marks.
+pub fn shown(name: &str) -> &str
+    ensures { result.now ≡ shown name.now }
+{
+    if name.is_empty() { "\"\"" } else { name }
+}
+
+/// The file's bytes; of a longer one the first `most` and one more, so that a device that never ends is left there.
+pub fn read_at_most<R: Files + Alloc>(rt: &R, path: &str, most: usize) -> io::Result<Vec<u8, R::A>>
+    ensures { IfOk result (λ bytes. length bytes.items ≤ most + 1) }
+{
+    let mut bytes = Vec::new(rt.alloc());
+    let limit = most.saturating_add(1);
+    File::open(rt, path)?
+        .take(limit as u64)
+        .read_to_end(&mut bytes)?;
+    bytes.truncate(limit);
+    Ok(bytes)
+}

@@ -7,7 +7,7 @@
 
 use clap::ArgMatches;
 use clap::error::ErrorKind;
-use image_files::{SaveRefused, read_at_most, save, shown};
+use mkfs::{SaveRefused, read_at_most, save, shown};
 use mkfs::widths::{INODE_START, LARGEST_SIZE, LOG_BLOCKS};
 use mkfs::{
     FILES, IMAGE, INODES, MakeRefused, NewFile, SIZE, data_start, is_file_name, make, number,

@@ -12,7 +12,7 @@ use Rattle.plain_tree.specs.declared.call.Call.{Call}
 use Rattle.atomic_programs.specs.Prog.{Ret, Do}
 use Rattle.path_walk.specs.Elements.{name_in, IsElement, IsInOne}
 use Rattle.inode_machine.specs.Inodes as whole
-use Rattle.tree_moves.specs.Moves as moves
+use Rattle.tree_laws.specs.Moves as moves
 use Rattle.inode_machine.specs.World as world
 use Rattle.inode_machine.specs.World.{Op, Answer}
 use Rattle.inode_machine.specs.Parts.{P}

@@ -16,7 +16,7 @@ use Rattle.group_log.specs.declared.log.Left.TheVariants as left
 use Rattle.bitmap_alloc.specs.First.{first_below, first_clear_below}
 use Rattle.bitmap_alloc.specs.Programs.{clear_bit, free_block, take_first, zero_found}
 use Rattle.bitmap_alloc.proofs.First.{FirstIs, first_is}
-use Rattle.fs_tables.specs.Inodes.{LockedState, Refuses, Locks}
+use Rattle.fs_machine.specs.Inodes.{LockedState, Refuses, Locks}
 use Rattle.fs_machine.specs.Programs.{after_leave, commit_unless, commits, fetch, read_unless}
 use Rattle.fs_machine.specs.Steps as steps
 use Rattle.inode_table.specs.NewInodes.{inode_blocks}

@@ -6,7 +6,7 @@ use Rattle.plain_tree.specs.declared.answer.Reply.{Reply}
 use Rattle.atomic_programs.specs.Explained.{In}
 use Rattle.atomic_programs.specs.Logic.{Wp, onto}
 use Rattle.atomic_programs.specs.Prog.{Ret, Do}
-use Rattle.tree_moves.specs.Moves.{Step as MoveStep}
+use Rattle.tree_laws.specs.Moves.{Step as MoveStep}
 use Rattle.inode_machine.specs.Exec.{counted_down}
 use Rattle.inode_machine.specs.Parts.{P}
 use Rattle.inode_machine.specs.Rules.{Inv, machine}

@@ -9,20 +9,20 @@ use Rattle.plain_tree.specs.Explains.{Chain, Explains, IsNamedPart, Rises, Shown
 use Rattle.plain_tree.specs.Tree.{Tree, tree_of}
 use Rattle.group_log.specs.Stories.{IsMarked, RisesBy}
 use Rattle.group_log.proofs.Stories.{beginning}
-use Rattle.tree_moves.specs.Laws.{before}
-use Rattle.tree_moves.proofs.History.{Apart}
+use Rattle.tree_laws.specs.MoveLaws.{before}
+use Rattle.tree_laws.proofs.History.{Apart}
 use Rattle.atomic_programs.specs.Calls.{Theory, Event, Sound, State, AllHonest, fresh, makes, next, run}
 use Rattle.atomic_programs.proofs.Reached.{run-append, sound_run}
 use Rattle.fs_machine.specs.LogPart.{Outside}
 use Rattle.inode_machine.specs.MoveCalls.{MoveMachine, IsMoving, RunsFrom, shown_by, shows, theory_of}
-use Rattle.kept_history.specs.Kept.{IsTheHistory, history_of}
-use Rattle.kept_history.proofs.Kept.{clean_before, history_grows}
+use Rattle.inode_machine.specs.Kept.{IsTheHistory, history_of}
+use Rattle.inode_machine.proofs.Kept.{clean_before, history_grows}
 use Rattle.calls_on_blocks.specs.History.{RunsOn, block_moves, first}
 use Rattle.calls_on_blocks.specs.Theory.{block_calls}
 use Rattle.calls_on_blocks.proofs.History.{moving, runs_from}
-use Rattle.stops_on_blocks.specs.Stops.{disk_after, marks_at, state_after}
-use Rattle.stops_on_blocks.proofs.Following.{event_of}
-use Rattle.stops_on_blocks.proofs.Stops.{first_sound}
+use Rattle.calls_on_blocks.specs.Stops.{disk_after, marks_at, state_after}
+use Rattle.calls_on_blocks.proofs.Following.{event_of}
+use Rattle.calls_on_blocks.proofs.Stops.{first_sound}
 use Rattle.hart_core.proofs.Calming.{AllStarted}
 use Rattle.run_laws.proofs.Left.{HasTreeOf, Leaves, honest_first, left}
 use Rattle.run_laws.proofs.Listed.{kept_explains}

@@ -15,7 +15,7 @@ use Rattle.fs_machine.specs.Steps as steps
 use Rattle.syscalls.specs.Machines.{Running, running_of}
 use Rattle.inode_machine.specs.Rules.{Held, Idle, Inv, if_kept, view}
 use Rattle.inode_machine.specs.World as above
-use Rattle.inodes_on_tables.specs.Shown.{Shows, loaded}
+use Rattle.inodes_on_blocks.specs.ShownTables.{Shows, loaded}
 use Rattle.inodes_on_blocks.specs.Mounted.{IsMountable, ShowsItsTree}
 use Rattle.inodes_on_blocks.proofs.Mounted.{mounts_show_their_trees}
 use Rattle.inodes_on_blocks.proofs.QuietWorlds.{quiet_worlds_are_images}

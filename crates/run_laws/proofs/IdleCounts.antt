@@ -9,14 +9,14 @@ use Rattle.plain_tree.specs.Widths.{hart_count}
 use Rattle.tree_laws.specs.WellFormed.{sum_below, one_if}
 use Rattle.tree_laws.proofs.Maps.{none_any}
 use Rattle.tree_laws.proofs.Sums.{one_yes, one_no, sum_same}
-use Rattle.fs_tables.specs.declared.desk.Desk as cards
-use Rattle.fs_tables.specs.declared.files.FilePlace.{FilePlace}
-use Rattle.fs_tables.specs.declared.files.FilePlace.TheVariants.{Taken}
-use Rattle.fs_tables.specs.Tables.{TablesState, owed, references_of, is_file_of, is_directory_of}
+use Rattle.fs_machine.specs.declared.desk.Desk as cards
+use Rattle.fs_machine.specs.declared.files.FilePlace.{FilePlace}
+use Rattle.fs_machine.specs.declared.files.FilePlace.TheVariants.{Taken}
+use Rattle.fs_machine.specs.Tables.{TablesState, owed, references_of, is_file_of, is_directory_of}
 use Rattle.inode_machine.specs.Exec.{file_count, is_at}
 use Rattle.inode_machine.specs.World.{Entry, World}
 use Rattle.inode_machine.specs.Rules.{Inv, number_is}
-use Rattle.inodes_on_tables.specs.Shown.{Shows, is_taken, place_with}
+use Rattle.inodes_on_blocks.specs.ShownTables.{Shows, is_taken, place_with}
 
 -- ---- sums
 

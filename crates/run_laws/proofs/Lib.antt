@@ -54,3 +54,7 @@ pub mod LeavingCalls
 pub mod Standing
 pub mod Untold
 pub mod Written
+pub mod Limits
+pub mod Counts
+pub mod Bounds
+pub mod Runs

@@ -5,19 +5,19 @@ use Rattle.plain_tree.specs.declared.trace.Placed.{Placed}
 use Rattle.plain_tree.specs.Explains.{Shown, Chain, Explains, trace_of}
 use Rattle.plain_tree.specs.Tree.{Tree, tree_of}
 use Rattle.plain_tree.specs.TreeData.{TreeData}
-use Rattle.tree_moves.specs.History.{History}
-use Rattle.tree_moves.specs.Moves.{Stage}
-use Rattle.tree_moves.specs.Runs.{World as Told, Event as Turn, Runs as Goings, opened, shown_of}
-use Rattle.tree_moves.specs.Runs.Event.{Starts, Steps, Nothing}
-use Rattle.tree_moves.proofs.Appended.{runs_more, runs_none}
-use Rattle.tree_moves.proofs.History.{AllMayStart, Apart, opened_ok, run_explained, run_ok}
+use Rattle.tree_laws.specs.History.{History}
+use Rattle.tree_laws.specs.Moves.{Stage}
+use Rattle.tree_laws.specs.Runs.{World as Told, Event as Turn, Runs as Goings, opened, shown_of}
+use Rattle.tree_laws.specs.Runs.Event.{Starts, Steps, Nothing}
+use Rattle.tree_laws.proofs.Appended.{runs_more, runs_none}
+use Rattle.tree_laws.proofs.History.{AllMayStart, Apart, opened_ok, run_explained, run_ok}
 use Rattle.atomic_programs.specs.Calls.{Theory, Event, Sound, State, AllHonest, fresh, makes, next, run}
 use Rattle.atomic_programs.proofs.Beginnings.{append_nil}
 use Rattle.atomic_programs.proofs.Explains.{sound_keeps}
 use Rattle.atomic_programs.proofs.Reached.{sound_fresh, sound_run}
 use Rattle.inode_machine.specs.MoveCalls.{MoveMachine, IsMoving, RunsFrom, shows, theory_of}
-use Rattle.kept_history.specs.Kept.{IsTheHistory, history_of, kept, kept_by, kept_on, nothing_yet, placed, told_of}
-use Rattle.kept_history.proofs.Kept.{Beside, clean_before, event_turns}
+use Rattle.inode_machine.specs.Kept.{IsTheHistory, history_of, kept, kept_by, kept_on, nothing_yet, placed, told_of}
+use Rattle.inode_machine.proofs.Kept.{Beside, clean_before, event_turns}
 use Rattle.hart_core.proofs.Calming.{AllStarted}
 
 -- no other calls were started

@@ -6,7 +6,7 @@ use Rattle.std.proofs.lemmas.List.Elements.{filter-append}
 use Rattle.plain_tree.specs.declared.step.Action.TheVariants.{Bump}
 use Rattle.plain_tree.specs.declared.step.StepAnswer.TheVariants.{Done}
 use Rattle.plain_tree.specs.declared.trace.Placed.{Placed}
-use Rattle.tree_moves.specs.Laws.{before}
+use Rattle.tree_laws.specs.MoveLaws.{before}
 
 abbrev pub entry : ℕ → Placed
 entry n = record { event = n; call = 0; step = record { hart = 0; new = 0; action = Bump }; answer = Done }

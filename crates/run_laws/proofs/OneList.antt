@@ -12,8 +12,8 @@ use Rattle.plain_tree.specs.Calls.{call_climbs}
 use Rattle.plain_tree.specs.Explains.{Chain, Explains, IsNamedPart, Shown, trace_of}
 use Rattle.plain_tree.specs.Tree.{tree_of}
 use Rattle.plain_tree.specs.TreeData.{TreeData}
-use Rattle.tree_moves.specs.Laws.{before}
-use Rattle.tree_moves.proofs.History.{IsHart, NeverClimbs, apart_alone, apart_calm}
+use Rattle.tree_laws.specs.MoveLaws.{before}
+use Rattle.tree_laws.proofs.History.{IsHart, NeverClimbs, apart_alone, apart_calm}
 use Rattle.atomic_programs.specs.Calls.{Theory, Event as EventOf, State, fresh, run}
 use Rattle.atomic_programs.specs.Plain.{Code, Plain, plain_run}
 use Rattle.atomic_programs.proofs.Erased.{erase-run}
@@ -22,7 +22,7 @@ use Rattle.inode_machine.specs.MoveCalls.{MoveMachine, shows}
 use Rattle.calls_on_blocks.specs.History.{RunsOn, block_moves, first}
 use Rattle.calls_on_blocks.specs.Theory.{block_calls, block_code}
 use Rattle.calls_on_blocks.proofs.Lawful.{is_code}
-use Rattle.stops_on_blocks.specs.Stops.{disk_after as disk_left}
+use Rattle.calls_on_blocks.specs.Stops.{disk_after as disk_left}
 use Rattle.hart_core.specs.declared.events.Came.{Came}
 use Rattle.hart_core.specs.declared.events.Event.{Event}
 use Rattle.hart_core.specs.Harts.{HartsOf}

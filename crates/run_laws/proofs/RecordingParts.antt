@@ -11,7 +11,7 @@ use Rattle.group_log.specs.declared.log.Left.{Left}
 use Rattle.group_log.specs.declared.log.Left.TheVariants.{Free, Commits}
 use Rattle.atomic_programs.specs.Prog.{Ret, bind}
 use Rattle.atomic_programs.specs.Joined.{Handover}
-use Rattle.fs_tables.specs.Inodes.{LockedState, Refuses, Locks}
+use Rattle.fs_machine.specs.Inodes.{LockedState, Refuses, Locks}
 use Rattle.fs_machine.specs.Steps.{ClaimResult, Claims, NoPlace, NoInode}
 use Rattle.fs_machine.specs.Programs.{fetch, read_unless, commit_unless, commits, most_writes, after_leave}
 use Rattle.bitmap_alloc.specs.Programs.{free_block, clear_bit}
@@ -42,7 +42,7 @@ use Rattle.inodes_on_blocks.specs.Storing.{put_record, record_in, store}
 use Rattle.inodes_on_blocks.specs.Spending.{NoMore}
 use Rattle.inodes_on_blocks.proofs.Spends.{bitmap_no_more, record_no_more}
 use Rattle.inodes_on_blocks.proofs.SpentRoom.{record_spent}
-use Rattle.inodes_on_tables.specs.Shown.{kind_of}
+use Rattle.inodes_on_blocks.specs.ShownTables.{kind_of}
 use Rattle.run_laws.proofs.Recording.{Within, either_way, ended, ended_with, from, quiet, records, records_one, then_}
 
 one_more : (s : Spent) → NoMore s (with_contents 1 s)

@@ -5,7 +5,7 @@ use Rattle.plain_tree.specs.declared.tree.OpenFile.{OpenFile}
 use Rattle.plain_tree.specs.Steps.{has_room, node_or, write_kind}
 use Rattle.plain_tree.specs.Tree.{Name, Tree, put}
 use Rattle.tree_laws.proofs.Maps.{put_is}
-use Rattle.tree_moves.specs.Moves.{Walk}
+use Rattle.tree_laws.specs.Moves.{Walk}
 use Rattle.atomic_programs.specs.Prog.{Did, Waits, Ran, Stops}
 use Rattle.inode_machine.specs.Exec.{changed_record, claim_if, claimed, close_at, close_if, counted_down, counted_up, double_at, double_if, down_if, enter_if, enter_in, entry_of, exec, file_count, fill_if, first_from, has_place, install_if, is_empty_slot, is_full_directory, is_last, join_at, lend_if, lend_last, lock_at, lock_if, locked, moved_in, next_used, offset_of, part_of, place_count, read_at, read_refused, referenced, slot_at, slot_if, start_if, start_number, stat_at, unlocked, up_if, walk_down_if, with_bytes, with_found, with_lent, with_offset, with_refs, write_at, write_if, write_in, write_refused, wrote_in}
 use Rattle.inode_machine.specs.Inodes.{Sort, face_of, face_or, seen_in}

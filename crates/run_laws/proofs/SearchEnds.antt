@@ -18,8 +18,8 @@ use Rattle.tree_laws.proofs.Maps.{eq_self, same_or}
 use Rattle.atomic_programs.specs.Explained.{In}
 use Rattle.atomic_programs.specs.Joined.{Handover}
 use Rattle.atomic_programs.specs.Prog.{Ret, Did, Ran, Stops, Waits, bind}
-use Rattle.fs_tables.specs.Inodes.{first_free, is_unreferenced, up_inode}
-use Rattle.fs_tables.specs.Tables.{place_of as place_in_memory}
+use Rattle.fs_machine.specs.Inodes.{first_free, is_unreferenced, up_inode}
+use Rattle.fs_machine.specs.Tables.{place_of as place_in_memory}
 use Rattle.fs_machine.specs.Programs.{fetch}
 use Rattle.fs_machine.specs.Steps as steps
 use Rattle.fs_machine.specs.Steps.{Answer, Op, State, claim_first, claims, exec, in_tables}
@@ -41,7 +41,7 @@ use Rattle.inodes_on_blocks.specs.Naming.{put_named}
 use Rattle.inodes_on_blocks.specs.Programs.{handlers}
 use Rattle.inodes_on_blocks.specs.Storing.{record_in}
 use Rattle.inodes_on_blocks.specs.Writing.{give_written, refused_in, write_unless}
-use Rattle.inodes_on_tables.specs.Shown.{kind_of}
+use Rattle.inodes_on_blocks.specs.ShownTables.{kind_of}
 use Rattle.directory.specs.Entering.{slot_for}
 use Rattle.directory.specs.Programs.{most_slots}
 use Rattle.run_laws.specs.Searches.{AnsweredStep, ClaimsFindReferences, ComesTo, HasRead, SawInUse, SawNoBlock, SawNoInode, SawNone}

@@ -20,7 +20,7 @@ use Rattle.fs_machine.specs.LogPart.{Outside}
 use Rattle.fs_machine.specs.Steps as steps
 use Rattle.fs_machine.specs.Steps.{Answer, Claim, NoInode, Op}
 use Rattle.fs_layout.specs.Inode.{dinode_at}
-use Rattle.fs_tables.specs.Tables.{place_of as place_in_memory}
+use Rattle.fs_machine.specs.Tables.{place_of as place_in_memory}
 use Rattle.inode_table.specs.NewInodes.{is_zero}
 use Rattle.inode_table.specs.Programs.{inode_block, place_of}
 use Rattle.inode_machine.specs.Programs.{program}

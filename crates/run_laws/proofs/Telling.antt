@@ -12,8 +12,8 @@ use Rattle.inode_machine.specs.Opening.{entered_file, installs, mends_unless_new
 use Rattle.inode_machine.specs.Parts.{begins_unless_full, looks_if, looks_or_quits, looks_where, makes, mends_if_full, own_step, quits_unless}
 use Rattle.inode_machine.specs.World.{ClaimResult, EntryResult, InPlace, JoinResult, Joined, Lent, LoanResult, LockResult, LocksIt, Mark, Moved, New, NoBlock, NoInode, NoPlace, NoSlot, NotJoined, NotLocked, Refused, Short, Whole, Wrote}
 use Rattle.inode_machine.specs.World.Mark.{Fills, Frees, Makes, Mends, Orphans, Spoils}
-use Rattle.tree_moves.specs.Moves.{Move}
-use Rattle.tree_moves.specs.Moves.Move.{Look, Quit}
+use Rattle.tree_laws.specs.Moves.{Move}
+use Rattle.tree_laws.specs.Moves.Move.{Look, Quit}
 use Rattle.run_laws.specs.Rooms.{is_no_descriptor, is_no_entry, is_no_inode, is_short}
 
 -- no room was found, by the mark

@@ -29,7 +29,7 @@ use Rattle.inode_machine.specs.World.Op.{CheckFile, Claim, Clear, Double, Down, 
 use Rattle.inode_machine.specs.World.Op.{JoinFile, Leave, Lend, LendDirectory, LockFile, LockOpen, ReadFile, Release}
 use Rattle.inode_machine.specs.World.Op.{Say, Settle, Shut, Slot}
 use Rattle.inode_machine.specs.World.Op.{StatFile, Store, Take, Up, UpStart, WalkDown, WriteFile}
-use Rattle.tree_moves.specs.Moves.Move.{Own}
+use Rattle.tree_laws.specs.Moves.Move.{Own}
 use Rattle.run_laws.specs.Changes.{Change, ChangesAreTold, Claimed, Cleared, Emptied, Entered, Filled, Freed, GaveBack, HasNoName}
 use Rattle.run_laws.specs.Changes.{Moved, TookPlace, Wrote, by_count, by_free, changed_by}
 

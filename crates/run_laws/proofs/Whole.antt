@@ -9,7 +9,7 @@ use Rattle.atomic_programs.specs.Logic.{P, own, onto, oldest_first, placed_with,
 use Rattle.atomic_programs.specs.Calls.{Begun, Ends, Lawful}
 use Rattle.atomic_programs.proofs.Operations.{onto_rest, own_one}
 use Rattle.atomic_programs.proofs.Sound.{Wp-weaker}
-use Rattle.tree_moves.specs.Moves.{Step as MoveStep}
+use Rattle.tree_laws.specs.Moves.{Step as MoveStep}
 use Rattle.inode_machine.specs.Exec.{exec}
 use Rattle.inode_machine.specs.Marks.{go, marked, places, with_mark}
 use Rattle.inode_machine.specs.Programs.{limit, program}

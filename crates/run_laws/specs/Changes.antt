@@ -4,8 +4,8 @@ use Rattle.std.specs.Prelude.{Option, Some, None}
 use Rattle.plain_tree.specs.declared.step.Action.TheVariants.{Bump, Unbump}
 use Rattle.plain_tree.specs.Steps.{node_or}
 use Rattle.plain_tree.specs.Tree.{Name, look}
-use Rattle.tree_moves.specs.Moves.{Deed}
-use Rattle.tree_moves.specs.Moves.Move.{Own}
+use Rattle.tree_laws.specs.Moves.{Deed}
+use Rattle.tree_laws.specs.Moves.Move.{Own}
 use Rattle.inode_machine.specs.Exec.{entry_moved, entry_of, with_bytes}
 use Rattle.inode_machine.specs.Inodes.{face_or}
 use Rattle.inode_machine.specs.World.{Answer, ClaimResult, Entry, EntryResult, InPlace, Mark, New, NoBlock, NoInode, NoPlace, NoSlot, Op}

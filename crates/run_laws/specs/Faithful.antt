@@ -15,7 +15,7 @@ use Rattle.inode_machine.specs.Programs.{program}
 use Rattle.inode_machine.specs.World.{Answer, Mark, Op}
 use Rattle.inodes_on_blocks.specs.Lowering.{nothing}
 use Rattle.inodes_on_blocks.specs.Programs.{handlers}
-use Rattle.tree_moves.specs.Moves.{Deed}
+use Rattle.tree_laws.specs.Moves.{Deed}
 use Rattle.calls_on_blocks.specs.History.{first}
 use Rattle.calls_on_blocks.specs.Layer.{layer}
 use Rattle.hart_core.specs.declared.events.Came.{Came}

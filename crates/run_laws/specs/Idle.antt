@@ -4,13 +4,13 @@ use Rattle.plain_tree.specs.declared.call.Call.{Call}
 use Rattle.plain_tree.specs.Widths.{hart_count}
 use Rattle.tree_laws.specs.WellFormed.{one_if, sum_below}
 use Rattle.atomic_programs.specs.Calls.{Event as EventOf, fresh, run}
-use Rattle.fs_tables.specs.declared.files.FilePlace.TheVariants.{Taken}
-use Rattle.fs_tables.specs.Tables.{TablesState, is_file_of, owed, references_of}
+use Rattle.fs_machine.specs.declared.files.FilePlace.TheVariants.{Taken}
+use Rattle.fs_machine.specs.Tables.{TablesState, is_file_of, owed, references_of}
 use Rattle.fs_machine.specs.LogPart.{Outside}
 use Rattle.fs_machine.specs.Steps.{State}
 use Rattle.inode_machine.specs.Rules.{reference_limit}
 use Rattle.inode_machine.specs.World.{World}
-use Rattle.inodes_on_tables.specs.Shown.{Shows, loaded}
+use Rattle.inodes_on_blocks.specs.ShownTables.{Shows, loaded}
 use Rattle.calls_on_blocks.specs.History.{first}
 use Rattle.calls_on_blocks.specs.Theory.{block_calls}
 use Rattle.hart_core.specs.declared.events.Came.{Came}

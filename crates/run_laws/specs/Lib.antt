@@ -14,3 +14,5 @@ pub mod Transactions
 pub mod Answered
 pub mod Changes
 pub mod Standing
+pub mod Steps
+pub mod StepBounds

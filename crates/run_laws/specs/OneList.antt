@@ -7,10 +7,10 @@ use Rattle.plain_tree.specs.Explains.{Chain, Explains, IsNamedPart}
 use Rattle.plain_tree.specs.Tree.{Tree, tree_of}
 use Rattle.plain_tree.specs.TreeData.{TreeData}
 use Rattle.group_log.specs.Stories.{IsMarked}
-use Rattle.tree_moves.specs.Laws.{before}
+use Rattle.tree_laws.specs.MoveLaws.{before}
 use Rattle.atomic_programs.specs.Calls.{Event as EventOf}
 use Rattle.fs_machine.specs.LogPart.{Outside}
-use Rattle.kept_history.specs.Kept.{history_of}
+use Rattle.inode_machine.specs.Kept.{history_of}
 use Rattle.calls_on_blocks.specs.History.{block_moves, first}
 use Rattle.hart_core.specs.declared.events.Came.{Came}
 use Rattle.hart_core.specs.declared.events.Event.{Event}

@@ -9,7 +9,7 @@ use Rattle.plain_tree.specs.Widths.{name_len}
 use Rattle.atomic_programs.specs.Explained.{In}
 use Rattle.atomic_programs.specs.Joined.{Handover}
 use Rattle.atomic_programs.specs.Prog.{Prog, Ret, Do, Ran}
-use Rattle.fs_tables.specs.Tables.{place_of as place_in_memory}
+use Rattle.fs_machine.specs.Tables.{place_of as place_in_memory}
 use Rattle.fs_machine.specs.LogPart.{Outside}
 use Rattle.fs_machine.specs.Steps.{Answer, Claim, Get, NoInode, Op, Read, State, exec}
 use Rattle.inode_table.specs.NewInodes.{is_zero}

@@ -10,7 +10,7 @@ use Rattle.atomic_programs.specs.Explained.{In}
 use Rattle.atomic_programs.specs.Joined.{Both}
 use Rattle.atomic_programs.specs.Logic.{P}
 use Rattle.atomic_programs.specs.Prog.{Ret, Do, Did, Ran, Stops, Waits}
-use Rattle.fs_tables.specs.Tables.{place_of as place_in_memory}
+use Rattle.fs_machine.specs.Tables.{place_of as place_in_memory}
 use Rattle.fs_machine.specs.LogPart.{Outside}
 use Rattle.fs_machine.specs.Steps as steps
 use Rattle.fs_machine.specs.Steps.{Answer, Claim, NoInode, Op}

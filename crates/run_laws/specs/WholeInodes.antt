@@ -18,7 +18,7 @@ use Rattle.inode_machine.specs.Rules as rules
 use Rattle.inode_machine.specs.Rules.{Honest, Inv, May}
 use Rattle.inode_machine.specs.World.{Answer, Desk, Mark, Op, Outside, World}
 use Rattle.inode_machine.specs.World.Mark.{Fills, Frees, Makes, Mends, Orphans, Spoils}
-use Rattle.tree_moves.specs.Moves.{Deed}
+use Rattle.tree_laws.specs.Moves.{Deed}
 use Rattle.inodes_on_blocks.specs.Lowering.{Labels, labelled}
 use Rattle.inodes_on_blocks.specs.Programs.{handlers}
 use Rattle.calls_on_blocks.specs.Layer.{layer}

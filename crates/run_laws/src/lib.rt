@@ -17,8 +17,11 @@ ghost use Rattle.run_laws.specs.Standing.{CallsWithoutRoomTakeBack};
 ghost use Rattle.run_laws.specs.Transactions.{TransactionsRecordAtMostTen};
 ghost use Rattle.run_laws.specs.Wants.{NoRoomOnlyWhereThereIsNone};
 ghost use Rattle.run_laws.specs.Worlds.{WorldsRefineWholeInodes};
+ghost use Rattle.run_laws.specs.StepBounds.{CallsTakeFewSteps, RunsTakeFewSteps};
 
 use block_device::Device;
+use block_device::Device;
+use hart_core::World;
 use hart_core::World;
 
 /// Of every list of events of any harts on a mounted disk, with a device that fails at any moment or never: whole operations on inodes,
@@ -136,6 +139,20 @@ pub fn runs_have_one_list<D: Device>(world: &World<D>)
 /// files and current directories have, no place is left taken for a file, and the blocks are a well-formed image.
 pub fn idle_harts_have_begun_nothing<D: Device>(world: &World<D>)
     ensures { IdleHartsHaveBegunNothing D.contents D.failures world.now }
+{
+    let _ = world;
+}
+
+/// Of every list of events of any harts on a mounted disk, with a device that fails at any moment or never: no call that they begin
+/// takes more steps that ran than its own limit, and no call's limit is above 1,000,000. A step that waits doesn't count; that a call
+/// goes on is not said.
+pub fn calls_take_few_steps()
+    ensures { CallsTakeFewSteps }
+{}
+
+/// So in each run of a world as it was mounted, by the events and the outcomes that `run` answers.
+pub fn runs_take_few_steps<D: Device>(world: &World<D>)
+    ensures { RunsTakeFewSteps D.contents D.failures world.now }
 {
     let _ = world;
 }

@@ -5,7 +5,11 @@
 #[cfg(test)]
 mod asks;
 #[cfg(test)]
+mod commits;
+#[cfg(test)]
 mod differences;
+#[cfg(test)]
+mod faults;
 #[cfg(test)]
 mod handed;
 #[cfg(test)]
@@ -13,17 +17,28 @@ mod kernels;
 #[cfg(test)]
 mod meeting;
 #[cfg(test)]
+mod parts;
+#[cfg(test)]
 mod plan;
 #[cfg(test)]
+mod prompts;
+#[cfg(test)]
 mod runs;
+#[cfg(test)]
+mod scripts;
 #[cfg(test)]
 mod seats;
 #[cfg(test)]
 mod short;
 #[cfg(test)]
+mod short_scripts;
+#[cfg(test)]
 mod turns;
 #[cfg(test)]
 mod work;
+
+// `rt test` runs the tests, and nothing else is here to be run.
+fn main() {}
 
 // `rt test` runs the tests, and nothing else is here to be run.
 fn main() {}

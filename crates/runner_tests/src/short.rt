@@ -5,7 +5,7 @@ ghost use Rattle.std.specs.Prelude.{◌≡◌};
 use crate::kernels::{all_of, called, came_of, closed, copied, first_two, image, mkdir, no_kernel};
 use crate::runs::{Left, are_same, left_by};
 use console::ConsoleFault;
-use console_parts::{Mode, Schedule};
+use script::{Mode, Schedule};
 use console_threads::{ThreadsFault, run_threads, status};
 use hart_runner::{CallFault, Gate, Kernel, NoGate, Seat};
 use image_tree::MountFault;

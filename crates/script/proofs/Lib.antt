@@ -5,3 +5,6 @@ mod Prompting
 mod Saying
 mod Scripts
 mod Standing
+pub mod Appending
+pub mod Reading
+pub mod Tailing

@@ -4,3 +4,8 @@ pub mod Grammar
 pub mod Reading
 pub mod Said
 pub mod Words
+pub mod Entries
+pub mod Modes
+pub mod Options
+pub mod Tails
+pub mod Text

@@ -1,7 +1,7 @@
 -- A call that is under way has an operation to make.
 use Rattle.std.proofs.Common.{ℕ}
 use Rattle.fs_machine.specs.Steps.{State}
-use Rattle.hands.proofs.HasOnes.{HasOne}
+use Rattle.fs_machine.proofs.HasOnes.{HasOne}
 use Rattle.inode_parts.proofs.HasOnes.{lowered_has}
 use Rattle.syscalls.specs.Machines.{Running, running_of, RunningFits}
 

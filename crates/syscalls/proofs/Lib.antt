@@ -1,3 +1,15 @@
 pub mod HasOnes
 pub mod Places
 pub mod Staying
+pub mod Seats
+pub mod Holdings
+pub mod Running
+pub mod Closing
+pub mod Names
+pub mod Walking
+pub mod Changing
+pub mod Unlinking
+pub mod Describing
+pub mod Making
+pub mod Opening
+pub mod Linking

@@ -3,7 +3,7 @@ use Rattle.std.proofs.Common.{◌≢◌, ℕ, sym, ◌∙◌}
 use Rattle.fs_machine.specs.Stays.{LeavesAll}
 use Rattle.fs_machine.specs.Steps.{State}
 use Rattle.fs_machine.specs.Tied.{IsOwn, IsOwnInode, LeavesTied}
-use Rattle.hands.proofs.Fits.{hand-stays}
+use Rattle.fs_machine.proofs.Fits.{hand-stays}
 use Rattle.syscalls.specs.Machines.{Running, RunningFits}
 
 -- hart g steps from s to t, and hart h is another one

@@ -3,8 +3,8 @@ use Rattle.plain_tree.specs.declared.answer.Reply.{Reply}
 use Rattle.std.specs.Prelude.{ℕ}
 use Rattle.fs_machine.specs.Steps.{State}
 use Rattle.fs_machine.specs.Machines.{P}
-use Rattle.hands.specs.Hands.{HandFits}
-use Rattle.hands.specs.declared.control.Machine.{Machine}
+use Rattle.fs_machine.specs.Hands.{HandFits}
+use Rattle.fs_machine.specs.declared.control.Machine.{Machine}
 use Rattle.inode_parts.specs.Calls.{lowered_left, LoweredReady}
 use Rattle.inode_parts.specs.declared.lowered.Lowered.{Lowered}
 

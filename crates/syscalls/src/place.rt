@@ -4,7 +4,7 @@ ghost use Rattle.std.specs.Option.{MatchOption};
 ghost use Rattle.fs_machine.specs.Steps.{state_of};
 ghost use Rattle.fs_machine.specs.Machines.{MayNext};
 ghost use Rattle.whole_calls.specs.Wholes.{IsCall};
-ghost use Rattle.hands.specs.Empty.{IsEmpty};
+ghost use Rattle.fs_machine.specs.Empty.{IsEmpty};
 ghost use Rattle.inode_parts.specs.Sizes.{IsSized};
 ghost use Rattle.syscalls.specs.Machines.{running_of, RunningFits};
 ghost use Rattle.syscalls.specs.Places.{with_reply, HasBegun, IsReplied, StepsAt};
@@ -12,10 +12,10 @@ ghost use Rattle.syscalls.specs.Places.{with_reply, HasBegun, IsReplied, StepsAt
 use atomic_programs::machines::{Came, put};
 use block_device::Device;
 use buffer_cache::HARTS;
-use call_hands::calls_run_by_parts;
+use crate::calls_run_by_parts;
 use fs_layout::Super;
 use fs_machine::{Core, Kind, RetiredCore};
-use hands::{Answer, Hand, Machine};
+use fs_machine::{Answer, Hand, Machine};
 use inode_parts::Lowered;
 use path_walk::Heard;
 use plain_tree::{Call, Reply};
@@ -35,7 +35,7 @@ pub struct CallPlace {
 
 impl Model for CallPlace {
     ghost use Rattle.std.specs.Prelude.{◌≡◌, false, Option};
-    ghost use Rattle.hands.specs.Empty.{IsEmpty};
+    ghost use Rattle.fs_machine.specs.Empty.{IsEmpty};
     ghost use Rattle.syscalls.specs.Machines.{Running};
     ghost use Rattle.syscalls.specs.Places.{call_at};
 

@@ -14,3 +14,15 @@ pub mod Frames
 pub mod FreshTree
 pub mod Reached
 pub mod Actions
+pub mod Lists
+pub mod Book
+pub mod Walked
+pub mod Moved
+pub mod History
+pub mod Told
+pub mod Cut
+pub mod Serial
+pub mod Played
+pub mod Finished
+pub mod Removed
+pub mod Appended

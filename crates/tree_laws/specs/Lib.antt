@@ -2,3 +2,8 @@ pub mod WellFormed
 pub mod Leaves
 pub mod Actions
 pub mod Laws
+pub mod Moves
+pub mod History
+pub mod Runs
+pub mod MoveLaws
+pub mod Examples

@@ -2,7 +2,7 @@
 use crate::images::tree_in;
 use crate::trees::is_same_tree;
 use block_device::MemoryDisk;
-use history_search::find_history;
+use tree_histories::find_history;
 use plain_tree::{Placed, Trace, Tree, check};
 use std::alloc::Global;
 use std::process::Abort;

@@ -17,6 +17,8 @@ mod everywhere;
 #[cfg(test)]
 mod histories;
 #[cfg(test)]
+mod history_rows;
+#[cfg(test)]
 mod images;
 #[cfg(test)]
 mod inherits;
@@ -29,11 +31,15 @@ mod memory;
 #[cfg(test)]
 mod opens;
 #[cfg(test)]
+mod play;
+#[cfg(test)]
 mod rows;
 #[cfg(test)]
 mod runs;
 #[cfg(test)]
 mod short;
+#[cfg(test)]
+mod short_histories;
 #[cfg(test)]
 mod stops;
 #[cfg(test)]
@@ -44,6 +50,9 @@ mod unlinks;
 mod worked;
 #[cfg(test)]
 mod writes;
+
+// `rt test` runs the tests, and nothing else is here to be run.
+fn main() {}
 
 // `rt test` runs the tests, and nothing else is here to be run.
 fn main() {}

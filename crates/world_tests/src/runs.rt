@@ -9,7 +9,7 @@ use crate::rows::Says::{Done, Failed, Idle, Refused};
 use crate::rows::{Ask, LONG, READ, READ_AND_WRITE, TRUNCATE, call, owned};
 use fs_machine::Kind;
 use hart_core::{Came, Event, Outcome, Run, StartRefused};
-use history_search::find_history;
+use tree_histories::find_history;
 use plain_tree::{
     Action, Answer, Call, Cause, Placed, Reply, StepAnswer, Trace, TracedCall, TreeStep,
 };

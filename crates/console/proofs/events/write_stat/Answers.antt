@@ -3,8 +3,8 @@ use Rattle.std.proofs.lemmas.List.{append_assoc}
 use Rattle.std.specs.Prelude.{codes, decimal, OnOk}
 use Rattle.std.specs.Io.KnownBytes.{Appends}
 use Rattle.plain_tree.specs.Numbers.{type_number}
-use Rattle.console_parts.specs.Text.{stat_text}
-use Rattle.console_parts.proofs.Appending.{tells_both}
+use Rattle.script.specs.Text.{stat_text}
+use Rattle.script.proofs.Appending.{tells_both}
 use Rattle.console.proofs.events.write_stat.Goals as goal
 
 pub returns : goal.returns

@@ -2,7 +2,7 @@ use Rattle.std.proofs.Common.{rules, subst, ◌≡◌}
 use Rattle.std.specs.Io.KnownBytes.{Appends}
 use Rattle.block_device.specs.Blocks.{blocks_of}
 use Rattle.image_tree.specs.Shape.{shape_of}
-use Rattle.console_parts.specs.Text.{shape_line}
+use Rattle.script.specs.Text.{shape_line}
 use Rattle.console.proofs.run.check.Goals as goal
 
 pub returns-clause-tells : goal.returns-clause-tells

@@ -1,5 +1,5 @@
 use Rattle.std.proofs.Common.{rules, ◌≡◌, ◌∙◌, Ok, ap, map, sym}
-use Rattle.console_parts.specs.declared.mode.Schedule.TheVariants.{Round}
+use Rattle.script.specs.declared.mode.Schedule.TheVariants.{Round}
 use Rattle.console.specs.Lines.{called, course, course_in, script_course}
 use Rattle.console_threads.proofs.Asking.{queues_called}
 use Rattle.console_threads.proofs.asked.asked_in.Goals as goal

@@ -3,7 +3,7 @@ use Rattle.std.specs.Vec.Iter.{into_iter_items}
 use Rattle.std.proofs.lemmas.Grind.{common_steps}
 use Rattle.fs_layout.specs.declared.superblock.Super.{Super}
 use Rattle.atomic_programs.specs.Calls.{with_answer}
-use Rattle.stops_on_blocks.specs.Marks.{marks_told}
+use Rattle.calls_on_blocks.specs.Marks.{marks_told}
 use Rattle.hart_core.specs.declared.events.Event.{Event}
 use Rattle.hart_core.specs.Events.{event_of, came_of, said_of}
 use Rattle.hart_core.specs.Harts.{shared_of}

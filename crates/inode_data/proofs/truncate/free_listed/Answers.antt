@@ -5,8 +5,8 @@ use Rattle.fs_machine.specs.Machines.{P}
 use Rattle.bitmap_alloc.specs.Programs.{free_block}
 use Rattle.inode_data.specs.Freeing.{free_table}
 use Rattle.inode_data.proofs.NextFree.{none_next, some_next}
-use Rattle.hands.specs.declared.hand.Place.TheVariants.{Second}
-use Rattle.hands.specs.Hands.{block_at, bytes_at, inode_in}
+use Rattle.fs_machine.specs.declared.hand.Place.TheVariants.{Second}
+use Rattle.fs_machine.specs.Hands.{block_at, bytes_at, inode_in}
 use Rattle.inode_data.specs.Emptying.{listed_rest, record_rest}
 use Rattle.inode_data.proofs.truncate.free_listed.Goals as goal
 

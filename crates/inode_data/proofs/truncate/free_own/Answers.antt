@@ -8,7 +8,7 @@ use Rattle.inode_table.specs.Programs.{record_of}
 use Rattle.inode_data.specs.Numbers.{IsNext}
 use Rattle.inode_data.specs.Widths.{direct}
 use Rattle.inode_data.proofs.NextFree.{none_next, some_next}
-use Rattle.hands.specs.Hands.{inode_in}
+use Rattle.fs_machine.specs.Hands.{inode_in}
 use Rattle.inode_data.specs.Emptying.{own_rest, indirect_rest}
 use Rattle.inode_data.proofs.truncate.free_own.Goals as goal
 

@@ -4,7 +4,7 @@ use Rattle.atomic_programs.specs.Prog.{Ret, bind}
 use Rattle.fs_machine.specs.Machines.{P}
 use Rattle.inode_table.specs.Programs.{record_of, store as store_at}
 use Rattle.inode_data.specs.Freeing.{without_content}
-use Rattle.hands.specs.Hands.{inode_in}
+use Rattle.fs_machine.specs.Hands.{inode_in}
 use Rattle.inode_table.specs.HeldInodes.{record_in}
 use Rattle.inode_data.proofs.truncate.store.Goals as goal
 

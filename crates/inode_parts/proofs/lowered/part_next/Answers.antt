@@ -1,7 +1,7 @@
 use Rattle.std.proofs.Common.{◌≡◌, ℕ, List, ◌++◌, length, take, drop, sym, ap, subst, ◌∙◌, arith}
 use Rattle.std.proofs.lemmas.List.{append-nil, drop_all, take_all}
-use Rattle.hands.specs.Controls.{Goes, left_after}
-use Rattle.hands.specs.Ops.{answer_in}
+use Rattle.fs_machine.specs.Controls.{Goes, left_after}
+use Rattle.fs_machine.specs.Ops.{answer_in}
 use Rattle.whole_calls.specs.Wholes.{text_in}
 use Rattle.inode_parts.specs.Carries.{handed}
 use Rattle.inode_parts.specs.FileReads.{read_file_asked, read_file_left}

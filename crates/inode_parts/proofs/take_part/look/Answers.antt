@@ -6,7 +6,7 @@ use Rattle.fs_machine.specs.Machines.{P}
 use Rattle.directory.specs.Programs.{lookup}
 use Rattle.directory.specs.declared.found.Found.{Found}
 use Rattle.directory.specs.Searching.{entries}
-use Rattle.hands.specs.Hands.{number_at}
+use Rattle.fs_machine.specs.Hands.{number_at}
 use Rattle.inode_table.specs.HeldInodes.{record_in}
 use Rattle.inodes_on_blocks.specs.Reading.{number_found}
 use Rattle.path_walk.specs.Elements.{name_in}

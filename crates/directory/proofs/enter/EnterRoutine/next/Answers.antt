@@ -3,9 +3,9 @@ use Rattle.atomic_programs.specs.Prog.{Ret, bind}
 use Rattle.fs_machine.specs.Machines.{P}
 use Rattle.directory.specs.Programs.{Unused}
 use Rattle.directory.specs.Entering.{EnteredState, enter_at}
-use Rattle.hands.specs.Ops.{answer_in}
-use Rattle.hands.specs.Controls.{Goes}
-use Rattle.hands.proofs.Going.{goes_bind}
+use Rattle.fs_machine.specs.Ops.{answer_in}
+use Rattle.fs_machine.specs.Controls.{Goes}
+use Rattle.fs_machine.proofs.Going.{goes_bind}
 use Rattle.directory.specs.Searching.{search_left, search_asked}
 use Rattle.directory.proofs.enter.EnterRoutine.next.Goals as goal
 

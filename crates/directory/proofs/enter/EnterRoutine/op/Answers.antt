@@ -1,5 +1,5 @@
 use Rattle.directory.specs.Entering.{entered_by}
-use Rattle.hands.specs.Ops.{op_in}
+use Rattle.fs_machine.specs.Ops.{op_in}
 use Rattle.inode_data.specs.PartWriting.{write_left}
 use Rattle.inode_data.proofs.Asking.{asks_bind}
 use Rattle.directory.proofs.enter.EnterRoutine.op.Goals as goal

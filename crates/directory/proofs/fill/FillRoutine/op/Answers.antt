@@ -1,4 +1,4 @@
-use Rattle.hands.specs.Ops.{op_in}
+use Rattle.fs_machine.specs.Ops.{op_in}
 use Rattle.inode_data.specs.PartWriting.{write_left}
 use Rattle.directory.specs.Filling.{filled_by}
 use Rattle.inode_data.proofs.Asking.{asks_bind}

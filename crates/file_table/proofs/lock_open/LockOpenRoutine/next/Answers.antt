@@ -1,14 +1,14 @@
 use Rattle.std.proofs.Common.{◌≡◌, ◌∙◌, sym, ap, ℕ}
 use Rattle.fs_layout.specs.declared.inode.Dinode.{Dinode}
 use Rattle.atomic_programs.specs.Prog.{bind}
-use Rattle.fs_tables.specs.declared.inodes.Inode.{Inode}
+use Rattle.fs_machine.specs.declared.entries.Inode.{Inode}
 use Rattle.fs_machine.specs.Machines.{P}
 use Rattle.inode_table.specs.Programs.{load_unless}
-use Rattle.hands.specs.Hands.{inode_in}
-use Rattle.hands.specs.Ops.{answer_in}
+use Rattle.fs_machine.specs.Hands.{inode_in}
+use Rattle.fs_machine.specs.Ops.{answer_in}
 use Rattle.inode_table.specs.HeldInodes.{number_in}
 use Rattle.file_table.specs.LockingFiles.{opens}
-use Rattle.hands.proofs.Goings.{inode-there}
+use Rattle.fs_machine.proofs.Goings.{inode-there}
 use Rattle.file_table.proofs.lock_open.LockOpenRoutine.next.Goals as goal
 
 pub returns-in-None-clause-goes : goal.returns-in-None-clause-goes

@@ -1,6 +1,6 @@
 use Rattle.std.proofs.Common.{ap, sym, ◌∙◌, Some, None}
 use Rattle.atomic_programs.specs.Prog.{Did}
-use Rattle.fs_tables.specs.Tables.{file_named}
+use Rattle.fs_machine.specs.Tables.{file_named}
 use Rattle.fs_machine.specs.LogPart.{LogPart}
 use Rattle.fs_machine.specs.Steps.{State, exec, in_log, joins, state_of}
 use Rattle.fs_machine.proofs.Held.{join_tried, join_refused}

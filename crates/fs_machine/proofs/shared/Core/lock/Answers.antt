@@ -1,9 +1,9 @@
 use Rattle.std.proofs.Common.{◌≡◌, ap, ◌∙◌, subst}
 use Rattle.std.specs.Prelude.{IfSome}
 use Rattle.atomic_programs.specs.Prog.{did_in}
-use Rattle.fs_tables.specs.Tables.{TablesState}
-use Rattle.fs_tables.specs.Inodes.{lock_inode}
-use Rattle.fs_tables.specs.Results.{locked_as}
+use Rattle.fs_machine.specs.Tables.{TablesState}
+use Rattle.fs_machine.specs.Inodes.{lock_inode}
+use Rattle.fs_machine.specs.Results.{locked_as}
 use Rattle.fs_machine.specs.Tied.{IsOwnInode}
 use Rattle.fs_machine.specs.LogPart.{part_of}
 use Rattle.fs_machine.specs.Steps.{State, exec}

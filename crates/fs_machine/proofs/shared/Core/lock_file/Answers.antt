@@ -1,7 +1,7 @@
 use Rattle.std.proofs.Common.{ap, sym, ◌∙◌}
 use Rattle.atomic_programs.specs.Prog.{did_in}
-use Rattle.fs_tables.specs.Tables.{TablesState}
-use Rattle.fs_tables.specs.Inodes.{with_file}
+use Rattle.fs_machine.specs.Tables.{TablesState}
+use Rattle.fs_machine.specs.Inodes.{with_file}
 use Rattle.fs_machine.specs.LogPart.{part_of}
 use Rattle.fs_machine.specs.Steps.{State, exec}
 use Rattle.fs_machine.proofs.Held.{file_refused, file_tried}

@@ -1,6 +1,6 @@
 use Rattle.std.proofs.Common.{ap}
 use Rattle.atomic_programs.specs.Prog.{did_in}
-use Rattle.fs_tables.specs.Tables.{TablesState}
+use Rattle.fs_machine.specs.Tables.{TablesState}
 use Rattle.fs_machine.specs.LogPart.{part_of}
 use Rattle.fs_machine.specs.Steps.{State, exec}
 use Rattle.fs_machine.specs.Premises.{May}

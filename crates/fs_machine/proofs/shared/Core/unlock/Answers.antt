@@ -1,6 +1,6 @@
 use Rattle.std.proofs.Common.{ap, sym}
 use Rattle.atomic_programs.specs.Prog.{Ran}
-use Rattle.fs_tables.specs.Tables.{TablesState}
+use Rattle.fs_machine.specs.Tables.{TablesState}
 use Rattle.fs_machine.specs.LogPart.{part_of}
 use Rattle.fs_machine.specs.Steps.{exec}
 use Rattle.fs_machine.proofs.shared.Core.unlock.Goals as goal

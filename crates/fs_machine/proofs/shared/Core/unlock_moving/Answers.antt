@@ -1,9 +1,9 @@
 use Rattle.std.proofs.Common.{◌≡◌, ◌∙◌, ap, sym, Some, None}
-use Rattle.fs_tables.specs.Tables.{TablesState}
+use Rattle.fs_machine.specs.Tables.{TablesState}
 use Rattle.fs_machine.specs.LogPart.{part_of}
 use Rattle.fs_machine.specs.Steps.{State, exec}
 use Rattle.atomic_programs.specs.Prog.{Ran}
-use Rattle.fs_tables.specs.Inodes.{unlock_inode}
+use Rattle.fs_machine.specs.Inodes.{unlock_inode}
 use Rattle.fs_machine.proofs.shared.Core.unlock_moving.Goals as goal
 
 pub move_offset-requires : goal.move_offset-requires

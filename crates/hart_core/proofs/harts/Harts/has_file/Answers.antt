@@ -1,6 +1,6 @@
 use Rattle.std.proofs.Common.{◌≡◌, true, false, refl, sym, ◌∙◌, ap, subst}
 use Rattle.std.specs.Prelude.{is_some}
-use Rattle.fs_tables.specs.Tables.{file_named}
+use Rattle.fs_machine.specs.Tables.{file_named}
 use Rattle.plain_tree.specs.Tree.{any_below}
 use Rattle.plain_tree.proofs.ReadLemmas.{below_true, below_more}
 use Rattle.hart_core.specs.Harts.{HartsOf}

@@ -2,9 +2,9 @@ use Rattle.std.proofs.Common.{refl, sym, subst, ◌∙◌}
 use Rattle.atomic_programs.specs.Prog.{Ret, bind}
 use Rattle.fs_machine.specs.Machines.{P}
 use Rattle.inode_data.specs.Writing.{WriteResult}
-use Rattle.hands.specs.Ops.{answer_in}
-use Rattle.hands.specs.Controls.{Goes}
-use Rattle.hands.proofs.Going.{goes_bind}
+use Rattle.fs_machine.specs.Ops.{answer_in}
+use Rattle.fs_machine.specs.Controls.{Goes}
+use Rattle.fs_machine.proofs.Going.{goes_bind}
 use Rattle.inode_data.specs.Locating.{locate_left, locate_asked}
 use Rattle.inode_data.specs.PartWriting.{after_location}
 use Rattle.inode_data.proofs.PartWritings.{past_so}

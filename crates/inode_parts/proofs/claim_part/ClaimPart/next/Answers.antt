@@ -1,7 +1,7 @@
 use Rattle.std.proofs.Common.{◌≡◌, ◌∙◌, ap, refl, subst, sym}
 use Rattle.path_walk.specs.declared.asks.Heard.TheVariants as heard
-use Rattle.hands.specs.Ops.{answer_in}
-use Rattle.hands.specs.declared.hand.Seat.{Seat}
+use Rattle.fs_machine.specs.Ops.{answer_in}
+use Rattle.fs_machine.specs.declared.hand.Seat.{Seat}
 use Rattle.inode_table.specs.Making.{beside_new, new_asked, new_left, new_seat, new_value}
 use Rattle.inode_parts.proofs.Claims.{claim_leaves, claim_on, claim_over}
 use Rattle.inode_parts.proofs.claim_part.ClaimPart.next.Goals as goal

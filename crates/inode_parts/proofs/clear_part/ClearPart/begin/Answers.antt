@@ -3,7 +3,7 @@ use Rattle.fs_layout.specs.declared.entry.Dirent.TheVariants.{Free}
 use Rattle.fs_layout.specs.declared.inode.Dinode.{Dinode}
 use Rattle.fs_machine.specs.Machines.{P}
 use Rattle.directory.specs.Programs.{put_entry}
-use Rattle.hands.specs.declared.hand.Seat.{Seat}
+use Rattle.fs_machine.specs.declared.hand.Seat.{Seat}
 use Rattle.inode_table.specs.HeldInodes.{record_in}
 use Rattle.inode_parts.specs.Carries.{note_at}
 use Rattle.inode_parts.specs.Clears.{slot_in}

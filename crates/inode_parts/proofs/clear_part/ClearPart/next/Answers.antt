@@ -1,5 +1,5 @@
 use Rattle.std.proofs.Common.{refl}
-use Rattle.hands.specs.Ops.{answer_in}
+use Rattle.fs_machine.specs.Ops.{answer_in}
 use Rattle.inode_parts.specs.Clears.{clear_part_asked}
 use Rattle.inode_parts.proofs.Clears.{clear_on}
 use Rattle.inode_parts.specs.declared.note.Note.TheVariants as note

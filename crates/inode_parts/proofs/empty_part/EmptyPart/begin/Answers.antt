@@ -1,6 +1,6 @@
 use Rattle.std.proofs.Common.{◌≡◌, sym, ap, subst, ◌∙◌}
 use Rattle.inode_data.specs.Freeing.{truncate}
-use Rattle.hands.specs.declared.hand.Seat.{Seat}
+use Rattle.fs_machine.specs.declared.hand.Seat.{Seat}
 use Rattle.inode_data.specs.Emptying.{beside_emptying, truncate_left}
 use Rattle.inode_table.specs.HeldInodes.{number_in, record_in}
 use Rattle.inode_data.specs.declared.truncate.Emptying.{Emptying}

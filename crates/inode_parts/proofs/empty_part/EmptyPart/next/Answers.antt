@@ -1,5 +1,5 @@
 use Rattle.std.proofs.Common.{refl, sym, subst}
-use Rattle.hands.specs.Ops.{answer_in}
+use Rattle.fs_machine.specs.Ops.{answer_in}
 use Rattle.inode_parts.specs.Empties.{empty_part_asked, empty_seat}
 use Rattle.inode_parts.proofs.Empties.{empty_on}
 use Rattle.inode_parts.specs.Changes.{IsAmid}

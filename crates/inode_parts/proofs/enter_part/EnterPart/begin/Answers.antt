@@ -2,7 +2,7 @@ use Rattle.std.proofs.Common.{ap, ◌∙◌}
 use Rattle.fs_layout.specs.declared.inode.Dinode.{Dinode}
 use Rattle.fs_machine.specs.Machines.{P}
 use Rattle.directory.specs.Entering.{EnteredState, enter}
-use Rattle.hands.specs.declared.hand.Seat.{Seat}
+use Rattle.fs_machine.specs.declared.hand.Seat.{Seat}
 use Rattle.inode_table.specs.HeldInodes.{record_in}
 use Rattle.directory.specs.EnterParts.{entered_as}
 use Rattle.inode_parts.proofs.Enters.{enter_is_part, never_over}

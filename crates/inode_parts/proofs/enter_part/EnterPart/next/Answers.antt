@@ -1,6 +1,6 @@
 use Rattle.std.proofs.Common.{refl}
 use Rattle.atomic_programs.specs.Prog.{Ret}
-use Rattle.hands.specs.Ops.{answer_in}
+use Rattle.fs_machine.specs.Ops.{answer_in}
 use Rattle.directory.specs.EnterParts.{entered_as}
 use Rattle.inode_parts.specs.Carries.{handed}
 use Rattle.inode_parts.specs.Enters.{enter_part_asked}

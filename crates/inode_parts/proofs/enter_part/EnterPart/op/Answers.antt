@@ -1,4 +1,4 @@
-use Rattle.hands.specs.Ops.{op_in}
+use Rattle.fs_machine.specs.Ops.{op_in}
 use Rattle.inode_data.proofs.Asking.{asks_bind}
 use Rattle.directory.specs.EnterParts.{enter_left}
 use Rattle.inode_parts.specs.Enters.{entered}

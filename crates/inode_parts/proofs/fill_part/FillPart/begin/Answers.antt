@@ -1,6 +1,6 @@
 use Rattle.std.proofs.Common.{ap, ◌∙◌}
 use Rattle.fs_layout.specs.declared.inode.Dinode.{Dinode}
-use Rattle.hands.specs.declared.hand.Seat.{Seat}
+use Rattle.fs_machine.specs.declared.hand.Seat.{Seat}
 use Rattle.inode_table.specs.HeldInodes.{record_in}
 use Rattle.directory.specs.Filling.{fill}
 use Rattle.inode_parts.proofs.Fills.{fill_is_part}

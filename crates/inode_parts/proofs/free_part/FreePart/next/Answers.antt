@@ -1,8 +1,8 @@
 use Rattle.std.proofs.Common.{◌≡◌, [], refl, subst}
-use Rattle.hands.specs.Ops.{answer_in}
+use Rattle.fs_machine.specs.Ops.{answer_in}
 use Rattle.inode_data.specs.FreeingInodes.{freeing_asked}
 use Rattle.inode_parts.proofs.Frees.{free_on, free_over, free_stays}
-use Rattle.hands.specs.declared.hand.Seat.{Seat}
+use Rattle.fs_machine.specs.declared.hand.Seat.{Seat}
 use Rattle.inode_parts.specs.Changes.{beside_inode}
 use Rattle.inode_parts.specs.declared.note.Note.TheVariants as note
 use Rattle.inode_parts.proofs.Amid.{reloads, stands, still_amid}

@@ -1,4 +1,4 @@
-use Rattle.hands.specs.Ops.{op_in}
+use Rattle.fs_machine.specs.Ops.{op_in}
 use Rattle.inode_data.specs.FreeingInodes.{freeing_left}
 use Rattle.inode_table.specs.HeldInodes.{number_in}
 use Rattle.inode_parts.specs.Frees.{free_ends}

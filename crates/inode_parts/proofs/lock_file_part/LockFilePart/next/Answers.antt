@@ -1,10 +1,10 @@
 use Rattle.std.proofs.Common.{subst, Some, refl}
 use Rattle.atomic_programs.specs.Prog.{Ret}
-use Rattle.hands.specs.Controls.{Goes}
+use Rattle.fs_machine.specs.Controls.{Goes}
 use Rattle.file_table.specs.declared.lock_file.FileLocked.{FileLocked}
-use Rattle.fs_tables.specs.Inodes.{Refuses, Locks}
+use Rattle.fs_machine.specs.Inodes.{Refuses, Locks}
 use Rattle.inode_table.specs.HeldInodes.{record_in}
-use Rattle.hands.specs.Ops.{answer_in}
+use Rattle.fs_machine.specs.Ops.{answer_in}
 use Rattle.file_table.specs.LockingFiles.{file_left, file_asked, file_seat, file_value, FileEnds}
 use Rattle.inode_parts.specs.FileLocks.{file_ends}
 use Rattle.inode_parts.proofs.Locking.{lock_on, lock_over, other_free}

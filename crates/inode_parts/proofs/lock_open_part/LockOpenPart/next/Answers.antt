@@ -1,6 +1,6 @@
 use Rattle.std.proofs.Common.{refl}
 use Rattle.inode_table.specs.HeldInodes.{record_in}
-use Rattle.hands.specs.Ops.{answer_in}
+use Rattle.fs_machine.specs.Ops.{answer_in}
 use Rattle.file_table.specs.LockingFiles.{open_left, open_asked, open_seat}
 use Rattle.inode_parts.specs.FileLocks.{open_ends}
 use Rattle.inode_parts.proofs.Locking.{lock_on, lock_over, other_free}

@@ -2,8 +2,8 @@ use Rattle.std.proofs.Common.{◌≡◌, ℕ, Bool, List, [], ◌++◌, Option, 
 use Rattle.std.specs.Prelude.{IfNone, IfSome}
 use Rattle.atomic_programs.specs.Prog.{Ret}
 use Rattle.plain_tree.specs.declared.answer.Reply.{Reply}
-use Rattle.hands.specs.Controls.{Goes}
-use Rattle.hands.specs.Ops.{answer_in}
+use Rattle.fs_machine.specs.Controls.{Goes}
+use Rattle.fs_machine.specs.Ops.{answer_in}
 use Rattle.inode_machine.specs.Parts as programs
 use Rattle.inode_machine.specs.World as above
 use Rattle.path_walk.specs.Asks.{answer_to, asks, hears, op_in, reply_to, stepped}

@@ -1,6 +1,6 @@
 use Rattle.std.proofs.Common.{◌≡◌, ℕ, List, Some, refl, subst}
 use Rattle.atomic_programs.specs.Prog.{asks}
-use Rattle.hands.specs.Ops.{op_in}
+use Rattle.fs_machine.specs.Ops.{op_in}
 use Rattle.whole_calls.specs.Wholes.{first_in, second_in, text_in}
 use Rattle.inode_parts.specs.Calls.{whole_with}
 use Rattle.inode_parts.specs.InodeParts.{part_left}

@@ -1,7 +1,7 @@
 use Rattle.std.proofs.Common.{◌≡◌, ◌++◌, ℕ, List, [], Option, Some, None, refl, sym, subst, ◌∙◌}
 use Rattle.std.specs.Prelude.{IfNone}
-use Rattle.hands.specs.Controls.{Goes}
-use Rattle.hands.specs.Ops.{answer_in}
+use Rattle.fs_machine.specs.Controls.{Goes}
+use Rattle.fs_machine.specs.Ops.{answer_in}
 use Rattle.inode_parts.specs.FileLocks.{lock_file_left, lock_file_asked}
 use Rattle.inode_parts.specs.FileStats.{stat_left, stat_asked}
 use Rattle.inode_parts.specs.FileWrites.{write_file_left, write_file_asked, WriteFileTold}

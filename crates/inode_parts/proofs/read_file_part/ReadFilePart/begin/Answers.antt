@@ -3,8 +3,8 @@ use Rattle.std.specs.Prelude.{◌<◌, ◌^◌, None, replicate}
 use Rattle.std.proofs.Math.ListN.{length-replicate}
 use Rattle.atomic_programs.specs.Prog.{Ret}
 use Rattle.fs_layout.specs.declared.inode.Dinode.{Dinode}
-use Rattle.hands.specs.Hands.{inode_at}
-use Rattle.hands.specs.declared.hand.Seat.{Seat}
+use Rattle.fs_machine.specs.Hands.{inode_at}
+use Rattle.fs_machine.specs.declared.hand.Seat.{Seat}
 use Rattle.inode_table.specs.HeldInodes.{IsLoadedAt}
 use Rattle.inode_data.specs.PartReading.{filled_to, read_left}
 use Rattle.inode_parts.specs.OneSteps.{other}

@@ -1,7 +1,7 @@
 use Rattle.std.proofs.Common.{subst}
 use Rattle.fs_layout.specs.declared.inode.Dinode.{Dinode}
-use Rattle.hands.specs.Controls.{Goes}
-use Rattle.hands.specs.Ops.{answer_in}
+use Rattle.fs_machine.specs.Controls.{Goes}
+use Rattle.fs_machine.specs.Ops.{answer_in}
 use Rattle.inode_data.specs.PartReading.{read_asked, read_left}
 use Rattle.inode_parts.specs.FileReads.{ReadFileTold}
 use Rattle.inode_parts.specs.declared.read_file_part.ReadFilePart.{ReadFilePart}

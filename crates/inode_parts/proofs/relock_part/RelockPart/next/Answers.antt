@@ -1,8 +1,8 @@
 use Rattle.std.proofs.Common.{refl, sym, subst, ◌∙◌}
 use Rattle.atomic_programs.specs.Prog.{Ret, bind}
-use Rattle.hands.specs.Hands.{number_at, with_first}
-use Rattle.hands.specs.Ops.{IsAfter, answer_in}
-use Rattle.hands.specs.declared.hand.Seat.{Seat}
+use Rattle.fs_machine.specs.Hands.{number_at, with_first}
+use Rattle.fs_machine.specs.Ops.{IsAfter, answer_in}
+use Rattle.fs_machine.specs.declared.hand.Seat.{Seat}
 use Rattle.inode_table.specs.HeldInodes.{record_in}
 use Rattle.inode_table.specs.LockingInodes.{lock_left, lock_asked, lock_seat}
 use Rattle.path_walk.specs.declared.asks.Query.TheVariants as query

@@ -1,8 +1,8 @@
 use Rattle.std.proofs.Common.{Some, ap, refl, subst, ◌∙◌}
 use Rattle.atomic_programs.specs.Prog.{Ret}
-use Rattle.fs_tables.specs.Inodes.{Refuses, Locks}
-use Rattle.hands.specs.Controls.{Goes}
-use Rattle.hands.specs.Ops.{answer_in}
+use Rattle.fs_machine.specs.Inodes.{Refuses, Locks}
+use Rattle.fs_machine.specs.Controls.{Goes}
+use Rattle.fs_machine.specs.Ops.{answer_in}
 use Rattle.inode_table.specs.HeldInodes.{record_in}
 use Rattle.file_table.specs.LockingFiles.{file_left, file_asked, file_seat, file_value, FileEnds}
 use Rattle.file_table.specs.declared.lock_file.FileLocked.{FileLocked}

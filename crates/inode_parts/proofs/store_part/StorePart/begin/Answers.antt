@@ -1,7 +1,7 @@
 use Rattle.std.proofs.Common.{◌≡◌, ap, subst, ◌∙◌}
 use Rattle.inode_table.specs.Programs.{store}
-use Rattle.hands.specs.declared.hand.Seat.{Seat}
-use Rattle.hands.specs.Hands.{with_record}
+use Rattle.fs_machine.specs.declared.hand.Seat.{Seat}
+use Rattle.fs_machine.specs.Hands.{with_record}
 use Rattle.inode_table.specs.HeldInodes.{counted, number_in, record_in}
 use Rattle.inode_table.specs.StoringRecords.{record_left}
 use Rattle.inode_parts.proofs.Stores.{store_is_part}

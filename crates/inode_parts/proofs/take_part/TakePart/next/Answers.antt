@@ -2,8 +2,8 @@ use Rattle.std.proofs.Common.{◌++◌, ℕ, List, true, None, ap, refl, sym, su
 use Rattle.std.specs.Prelude.{is_some, not}
 use Rattle.atomic_programs.specs.Prog.{Ret}
 use Rattle.directory.specs.Programs.{Entry, Named}
-use Rattle.hands.specs.Controls.{Goes}
-use Rattle.hands.specs.Ops.{answer_in}
+use Rattle.fs_machine.specs.Controls.{Goes}
+use Rattle.fs_machine.specs.Ops.{answer_in}
 use Rattle.inode_table.specs.LockingInodes.{lock_left, lock_asked, lock_seat}
 use Rattle.directory.specs.Searching.{search_left, search_asked}
 use Rattle.inodes_on_blocks.specs.Reading.{number_found}

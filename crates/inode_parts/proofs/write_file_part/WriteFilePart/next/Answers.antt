@@ -1,6 +1,6 @@
 use Rattle.std.proofs.Common.{ℕ, List, ap, subst, ◌∙◌}
-use Rattle.hands.specs.Controls.{Goes}
-use Rattle.hands.specs.Ops.{answer_in, IsAfter}
+use Rattle.fs_machine.specs.Controls.{Goes}
+use Rattle.fs_machine.specs.Ops.{answer_in, IsAfter}
 use Rattle.inode_data.specs.InHand.{beside_buffers}
 use Rattle.inode_data.specs.PartWriting.{write_asked, write_left}
 use Rattle.inode_parts.specs.FileWrites.{write_file_asked, WriteFileReady, WriteFileTold}

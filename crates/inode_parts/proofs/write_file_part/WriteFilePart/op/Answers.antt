@@ -1,7 +1,7 @@
 use Rattle.std.proofs.Common.{◌≡◌, ℕ, List, Some, subst}
 use Rattle.plain_tree.specs.Calls.{piece}
 use Rattle.atomic_programs.specs.Prog.{asks}
-use Rattle.hands.specs.Ops.{op_in}
+use Rattle.fs_machine.specs.Ops.{op_in}
 use Rattle.inode_table.specs.HeldInodes.{number_in}
 use Rattle.inode_data.proofs.Asking.{asks_bind}
 use Rattle.inode_data.specs.PartWriting.{write_left}

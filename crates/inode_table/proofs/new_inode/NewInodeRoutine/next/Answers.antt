@@ -7,12 +7,12 @@ use Rattle.inode_table.specs.NewInodes.{make_in, new_from}
 use Rattle.inode_table.specs.Making.{rest_of}
 use Rattle.inode_table.specs.declared.new_inode.Looking.{Looking}
 use Rattle.inode_table.specs.declared.new_inode.Made.{Made}
-use Rattle.hands.specs.declared.hand.Hand.{Hand}
-use Rattle.hands.specs.Hands.{reference_at}
-use Rattle.hands.specs.Ops.{answer_in, claimed_by}
-use Rattle.hands.specs.declared.op.Answer.TheVariants.{Is}
-use Rattle.hands.specs.Fetching.{block_in, bytes_in}
-use Rattle.hands.proofs.Goings.{first-beside, reference-beside, no-place}
+use Rattle.fs_machine.specs.declared.hand.Hand.{Hand}
+use Rattle.fs_machine.specs.Hands.{reference_at}
+use Rattle.fs_machine.specs.Ops.{answer_in, claimed_by}
+use Rattle.fs_machine.specs.declared.op.Answer.TheVariants.{Is}
+use Rattle.fs_machine.specs.Fetching.{block_in, bytes_in}
+use Rattle.fs_machine.proofs.Goings.{first-beside, reference-beside, no-place}
 use Rattle.inode_table.proofs.new_inode.NewInodeRoutine.next.Goals as goal
 
 -- what follows a claim, by the buffer

@@ -1,7 +1,7 @@
 use Rattle.std.proofs.Common.{ap, ◌∙◌}
-use Rattle.fs_tables.specs.declared.inodes.Inode.{Inode}
+use Rattle.fs_machine.specs.declared.entries.Inode.{Inode}
 use Rattle.inode_table.specs.Programs.{record_of, store}
-use Rattle.hands.specs.Hands.{inode_in}
+use Rattle.fs_machine.specs.Hands.{inode_in}
 use Rattle.inode_table.proofs.Goings.{recorded-in}
 use Rattle.inode_table.proofs.store_record.StoreRecord.with.Goals as goal
 

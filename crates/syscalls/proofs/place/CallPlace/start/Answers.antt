@@ -1,6 +1,6 @@
 use Rattle.std.proofs.Common.{sym, subst}
-use Rattle.hands.specs.Empty.{IsEmpty}
-use Rattle.hands.proofs.Stepping.{bare-fits}
+use Rattle.fs_machine.specs.Empty.{IsEmpty}
+use Rattle.fs_machine.proofs.Stepping.{bare-fits}
 use Rattle.syscalls.specs.Machines.{Running, running_of}
 use Rattle.syscalls.proofs.Places.{idle_is, nothing_fits}
 use Rattle.syscalls.proofs.place.CallPlace.start.Goals as goal

@@ -1,7 +1,0 @@
-use Rattle.atomic_examples.specs.Desk.{desk}
-use Rattle.atomic_programs.proofs.Leading.{leads}
-use Rattle.atomic_examples.proofs.Serving.{lawful, places_one}
-use Rattle.atomic_examples.proofs.laws.desk_leads.Goals as goal
-
-pub returns : goal.returns
-returns c = leads desk lawful places_one

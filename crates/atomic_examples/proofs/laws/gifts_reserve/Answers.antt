@@ -1,7 +1,0 @@
-use Rattle.std.proofs.Common.{refl}
-use Rattle.atomic_examples.specs.Whole.{put}
-use Rattle.atomic_examples.proofs.laws.gifts_reserve.Goals as goal
-
-pub returns : goal.returns
-unfolding put
-returns c = record { outcomes = refl; history = refl }

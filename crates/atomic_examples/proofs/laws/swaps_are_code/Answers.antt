@@ -1,6 +1,0 @@
-use Rattle.std.proofs.Common.{refl}
-use Rattle.atomic_examples.proofs.Done.{swaps_are_code, above_is_code}
-use Rattle.atomic_examples.proofs.laws.swaps_are_code.Goals as goal
-
-pub returns : goal.returns
-returns c = record { swaps = swaps_are_code; above = above_is_code; programs = λ s. refl }

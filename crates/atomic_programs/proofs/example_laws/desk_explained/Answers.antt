@@ -1,0 +1,5 @@
+use Rattle.atomic_programs.proofs.Serving.{any_run}
+use Rattle.atomic_programs.proofs.example_laws.desk_explained.Goals as goal
+
+pub returns : goal.returns
+returns c = any_run

@@ -1,0 +1,5 @@
+use Rattle.atomic_programs.proofs.Wards.{gifts_refined}
+use Rattle.atomic_programs.proofs.example_laws.gifts_refined.Goals as goal
+
+pub returns : goal.returns
+returns c = gifts_refined

@@ -1,0 +1,7 @@
+use Rattle.std.proofs.Common.{refl}
+use Rattle.atomic_programs.specs.Whole.{put}
+use Rattle.atomic_programs.proofs.example_laws.gifts_reserve.Goals as goal
+
+pub returns : goal.returns
+unfolding put
+returns c = record { outcomes = refl; history = refl }

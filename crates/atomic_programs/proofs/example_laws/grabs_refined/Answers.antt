@@ -1,0 +1,5 @@
+use Rattle.atomic_programs.proofs.Grab.{grabs_refined}
+use Rattle.atomic_programs.proofs.example_laws.grabs_refined.Goals as goal
+
+pub returns : goal.returns
+returns c = grabs_refined

@@ -1,0 +1,7 @@
+use Rattle.std.proofs.Common.{refl}
+use Rattle.atomic_programs.specs.Whole.{put}
+use Rattle.atomic_programs.proofs.example_laws.swaps_act.Goals as goal
+
+pub returns : goal.returns
+unfolding put
+returns c = refl

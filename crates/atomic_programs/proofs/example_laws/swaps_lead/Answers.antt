@@ -1,0 +1,5 @@
+use Rattle.atomic_programs.proofs.Done.{swaps_lead}
+use Rattle.atomic_programs.proofs.example_laws.swaps_lead.Goals as goal
+
+pub returns : goal.returns
+returns c = swaps_lead

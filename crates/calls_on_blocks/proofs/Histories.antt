@@ -1,0 +1,142 @@
+-- The history of a run beside its log: a stop leaves the tree after a beginning of it.
+use Rattle.std.proofs.Common.{◌≡◌, ℕ, suc, ◌+◌, List, [], ◌∷◌, ◌++◌, map, refl, sym, ◌∙◌, ap, subst, arith}
+use Rattle.std.specs.List.{AllByRecursion}
+use Rattle.plain_tree.specs.declared.call.Call.{Call}
+use Rattle.plain_tree.specs.declared.trace.Placed.{Placed}
+use Rattle.plain_tree.specs.declared.trace.Trace.{Trace}
+use Rattle.plain_tree.specs.Explains.{Shown, Chain, Explains, Rises, noted, trace_of}
+use Rattle.plain_tree.specs.Explains.Shown.{Started, Replied, Other}
+use Rattle.plain_tree.specs.TreeData.{TreeData}
+use Rattle.plain_tree.specs.Tree.{Tree, tree_of}
+use Rattle.tree_laws.specs.WellFormed.{IsWellFormed}
+use Rattle.tree_laws.specs.Moves.{Stage}
+use Rattle.tree_laws.specs.Runs.{World as Told, Event as Turn, Happens, Runs as Goings, opened, shown_of}
+use Rattle.tree_laws.proofs.Appended.{runs_more, runs_none, runs_one}
+use Rattle.tree_laws.proofs.Book.{AllBelow}
+use Rattle.tree_laws.proofs.Cut.{AllFrom, run_grew, run_below}
+use Rattle.tree_laws.proofs.History.{AllMayStart, MayStart, Apart, happens_trace, opened_ok, run_explained, run_ok}
+use Rattle.atomic_programs.specs.Calls.{Theory, Event, State, IsHonest, fresh, makes, next, Sound}
+use Rattle.atomic_programs.proofs.Explains.{sound_keeps}
+use Rattle.inode_machine.specs.MoveCalls.{MoveMachine, IsMoving, shown_by, theory_of}
+use Rattle.inode_machine.proofs.MoveCalls.{Beside, Turns, event_turns}
+use Rattle.calls_on_blocks.proofs.Following.{event_of}
+
+-- ---- entries of an event
+
+one_numbered : (n : ℕ) (old more : List Placed) → AllFrom n more → AllBelow (suc n) (old ++ more) → AllByRecursion (λ p. event_of p ≡ n) more
+unfolding AllFrom AllBelow
+one_numbered n [] [] from below = tt
+one_numbered n [] (e ∷ es) from below = (let a = from.0 in let b = below.0 in omega (arith, a, b), one_numbered n [] es from.1 below.1)
+one_numbered n (x ∷ old) more from below = one_numbered n old more from below.1
+
+noted_events : (t : Trace) (s : Shown) → (noted t s).events ≡ t.events + 1
+noted_events t (Started h c) = refl
+noted_events t (Replied h r) = refl
+noted_events t Other = refl
+
+happens_now : (w w' : Told) (e : Turn) → Happens w e w' → w'.history.trace.events ≡ w.history.trace.events + 1
+happens_now w w' e o = ap (λ (z : Trace). z.events) (happens_trace w w' e o) ∙ noted_events w.history.trace (shown_of e)
+
+map_append : {A B : Type 0} (f : A → B) (xs ys : List A) → map f (xs ++ ys) ≡ map f xs ++ map f ys
+map_append f [] ys = refl
+map_append f (x ∷ xs) ys = ap (λ l. f x ∷ l) (map_append f xs ys)
+
+module _ (N : MoveMachine) (moving : IsMoving N) (Ok : ℕ → Call → Type 0) (apart : Apart Ok) (base : TreeData) (well : IsWellFormed (tree_of base)) where
+  abbrev pub L : Theory
+  L = theory_of N
+
+  -- The moves so far beside a state, and what was shown.
+  pub record Book (s : State L) (shown : List Shown) (list : List Placed) : Type 0 where
+    pub told : Told
+    pub turns : List Turn
+    pub runs : Goings (opened (tree_of base)) turns told
+    pub beside : Beside N moving s told
+    pub list_is : told.history.list ≡ list
+    pub events : told.history.trace.events ≡ s.now
+    pub below : AllBelow told.history.trace.events told.history.list
+    pub may : AllMayStart Ok turns
+    pub shown_is : map shown_of turns ≡ shown
+
+  -- its list leads to the tree as it stands, and explains what was shown
+  pub leads : (s : State L) (shown : List Shown) (list : List Placed) → Book s shown list → Chain (tree_of base) list (N.tree s.world).tree
+  leads s shown list b =
+      subst (λ (l : List Placed). Chain (tree_of base) l (N.tree s.world).tree) b.list_is
+      (subst (λ (z : Tree). Chain (tree_of base) b.told.history.list z) (ap (λ (z : Stage). z.tree) b.beside.stage)
+      (run_ok Ok (tree_of base) (opened (tree_of base)) b.told b.turns apart b.may (opened_ok Ok (tree_of base) well) b.runs).book.chain)
+
+  pub rises : (s : State L) (shown : List Shown) (list : List Placed) → Book s shown list → Rises 0 list
+  rises s shown list b =
+      subst (λ (l : List Placed). Rises 0 l) b.list_is
+      (run_ok Ok (tree_of base) (opened (tree_of base)) b.told b.turns apart b.may (opened_ok Ok (tree_of base) well) b.runs).book.rises
+
+  pub explains : (s : State L) (shown : List Shown) (list : List Placed) → Book s shown list → Explains base (trace_of shown) list
+  explains s shown list b =
+      subst (λ (z : List Shown). Explains base (trace_of z) list) b.shown_is
+      (subst (λ (l : List Placed). Explains base (trace_of (map shown_of b.turns)) l) b.list_is (run_explained Ok base b.told b.turns apart b.may well b.runs))
+
+  -- before the first event
+  nothing_below : AllBelow 0 []
+  unfolding AllBelow
+  nothing_below = tt
+
+  none_may : AllMayStart Ok []
+  unfolding AllMayStart
+  none_may = tt
+
+  pub first_book : (w : N.World) → (N.tree w).tree ≡ tree_of base → ((h : ℕ) → N.Idle h w) → Book (fresh L w) [] []
+  first_book w tree idle = record {
+    told = opened (tree_of base);
+    turns = [];
+    runs = runs_none (opened (tree_of base));
+    beside = record {
+      stage = λ z. record { tree = sym tree z; walk = λ h. sym (moving.rests h w (idle h)) z };
+      free = λ h q. refl;
+      busy = λ h x q. absurd cc;
+      harts = λ h x q. absurd cc;
+    };
+    list_is = refl;
+    events = refl;
+    below = nothing_below;
+    may = none_may;
+    shown_is = refl;
+  }
+
+  -- one event more
+  may_more : (turns : List Turn) (e : Turn) → AllMayStart Ok turns → MayStart Ok e → AllMayStart Ok (turns ++ e ∷ [])
+  unfolding AllMayStart
+  may_more [] e all one = (one, tt)
+  may_more (t ∷ turns) e all one = (all.0, may_more turns e all.1 one)
+
+  -- the book after an event, with the entries that the event appended
+  pub record More (e : Event Call N.Outside) (s : State L) (shown : List Shown) (list : List Placed) : Type 0 where
+    pub news : List Placed
+    pub now : AllByRecursion (λ p. event_of p ≡ s.now) news
+    pub book : Book (next L e s) (shown ++ shown_by e (makes L e s).came ∷ []) (list ++ news)
+
+  pub book_more : (OkAt : Event Call N.Outside → Type 0) → ((e : Event Call N.Outside) (s t : State L) (told : Told) (x : Turns N moving e (makes L e s).came t told) → OkAt e → MayStart Ok x.event)
+      → (e : Event Call N.Outside) (s : State L) (shown : List Shown) (list : List Placed) → Sound L s → IsHonest L e s → N.Clean (next L e s).world → (next L e s).now ≡ s.now + 1 → OkAt e → Book s shown list → More e s shown list
+  book_more OkAt starts e s shown list sound honest clean counts ok b =
+      let x = event_turns N moving (N.tree sound.first) e s b.told (sound_keeps L moving.lawful s sound) b.beside honest clean in
+      let one = runs_one b.told x.then_ x.event x.happens in
+      let g = run_grew b.told x.then_ (x.event ∷ []) one in
+      let at : x.then_.history.trace.events ≡ s.now + 1 = happens_now b.told x.then_ x.event x.happens ∙ ap (λ (k : ℕ). k + 1) b.events in
+      let low : AllBelow x.then_.history.trace.events x.then_.history.list = run_below b.told x.then_ (x.event ∷ []) one b.below in
+      let below : AllBelow (suc s.now) (b.told.history.list ++ g.more) = subst (λ (l : List Placed). AllBelow (suc s.now) l) g.is (subst (λ (k : ℕ). AllBelow k x.then_.history.list) (at ∙ add_one s.now) low) in
+      record {
+        news = g.more;
+        now = one_numbered s.now b.told.history.list g.more (subst (λ (k : ℕ). AllFrom k g.more) b.events g.later) below;
+        book = record {
+          told = x.then_;
+          turns = b.turns ++ x.event ∷ [];
+          runs = runs_more (opened (tree_of base)) b.told x.then_ b.turns x.event b.runs x.happens;
+          beside = x.beside;
+          list_is = g.is ∙ ap (λ (l : List Placed). l ++ g.more) b.list_is;
+          events = at ∙ sym counts;
+          below = low;
+          may = may_more b.turns x.event b.may (starts e s (next L e s) b.told x ok);
+          shown_is = map_append shown_of b.turns (x.event ∷ []) ∙ (λ i. b.shown_is i ++ x.shown i ∷ []);
+        };
+      }
+    where
+      add_one : (k : ℕ) → k + 1 ≡ suc k
+      add_one k = omega arith

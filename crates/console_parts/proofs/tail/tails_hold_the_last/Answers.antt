@@ -1,5 +1,0 @@
-use Rattle.console_parts.proofs.Tailing.{all_noted}
-use Rattle.console_parts.proofs.tail.tails_hold_the_last.Goals as goal
-
-pub returns : goal.returns
-returns g c = λ most events. all_noted most events

@@ -1,9 +1,0 @@
-use Rattle.std.proofs.Common.{Some, ap, sym, ◌∙◌}
-use Rattle.explain_parts.specs.Keeping.{Under, more_made, with_hart}
-use Rattle.explain_parts.proofs.Harts.{put_back_changed}
-use Rattle.explain_parts.proofs.kept.Kept.count.Goals as goal
-
-pub returns : goal.returns
-returns c =
-    put_back_changed c.args.self.now c.args.hart more_made c.in-Some.standing c.take.new.self c.put.new.self (sym c.in-Some.ensures.call) c.in-Some.ensures.rest
-    (c.put.ensures ∙ ap (λ (u : Under). with_hart c.take.new.self c.args.hart (Some u)) c.count.ensures)

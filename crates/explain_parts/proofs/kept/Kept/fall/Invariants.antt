@@ -1,5 +1,0 @@
-use Rattle.explain_parts.proofs.Falling.{Fallen}
-use Rattle.explain_parts.proofs.kept.Kept.fall.Given as goal
-
-abbrev pub invariant-loop-hart : goal.invariant-loop-hart
-invariant-loop-hart l = Fallen l.before l.fn.self l.self l.hart

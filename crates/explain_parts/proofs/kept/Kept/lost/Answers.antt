@@ -1,6 +1,0 @@
-use Rattle.explain_parts.specs.Keeping.{stage_of}
-use Rattle.explain_parts.proofs.Falling.{lost_more}
-use Rattle.explain_parts.proofs.kept.Kept.lost.Goals as goal
-
-pub loop-hart-preserved : goal.loop-hart-preserved
-loop-hart-preserved c = lost_more (stage_of c.args.self.now) c.loop-hart.lost c.loop-hart.hart c.from.result c.is_lost.result c.from.ensures c.loop-hart-test.true c.is_lost.ensures c.loop-hart.invariant

@@ -1,6 +1,0 @@
-use Rattle.std.proofs.Common.{◌≡◌, ℕ, ◌<◌, false, length, get_or}
-use Rattle.explain_parts.specs.Keeping.{is_lost, stage_of}
-use Rattle.explain_parts.proofs.kept.Kept.lost.Given as goal
-
-abbrev pub invariant-loop-hart : goal.invariant-loop-hart
-invariant-loop-hart l = (length l.lost ≡ 8) × ((h : ℕ) → h < l.hart → get_or l.lost h false ≡ is_lost (stage_of l.self) h)

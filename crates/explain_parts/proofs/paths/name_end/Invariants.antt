@@ -1,6 +1,0 @@
-use Rattle.std.proofs.Common.{◌≡◌, [], take, drop}
-use Rattle.plain_tree.specs.Tree.{pieces}
-use Rattle.explain_parts.proofs.paths.name_end.Given as goal
-
-abbrev pub invariant-loop-i : goal.invariant-loop-i
-invariant-loop-i l = pieces (take l.i l.path) (drop l.i l.path) ≡ pieces [] l.path

@@ -1,6 +1,0 @@
-use Rattle.std.proofs.Common.{◌∙◌, sym}
-use Rattle.plain_tree.proofs.PathLemmas.{no_elements}
-use Rattle.explain_parts.proofs.paths.next_element.Goals as goal
-
-pub returns : goal.returns
-returns c = sym c.loop-rest.invariant.0 ∙ no_elements c.loop-rest.rest.now (sym c.is_empty.ensures ∙ c.loop-rest-test.false)

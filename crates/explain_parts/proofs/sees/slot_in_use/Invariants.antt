@@ -1,6 +1,0 @@
-use Rattle.std.proofs.Common.{◌≡◌, drop}
-use Rattle.plain_tree.specs.Steps.{any_used}
-use Rattle.explain_parts.proofs.sees.slot_in_use.Given as goal
-
-abbrev pub invariant-loop-slot : goal.invariant-loop-slot
-invariant-loop-slot l = any_used (drop l.slot-index l.slots) ≡ any_used l.slots

@@ -1,0 +1,22 @@
+-- An inode that dies where a reference is dropped is loaded.
+use Rattle.std.proofs.Common.{◌≡◌, ℕ, Option, Some, None, refl, subst}
+use Rattle.std.specs.Prelude.{IsSome, slice_get}
+use Rattle.fs_layout.specs.declared.inode.Dinode.{Dinode}
+use Rattle.atomic_programs.specs.Prog.{Ran}
+use Rattle.fs_machine.specs.Inodes.{Dies, drop_at, drop_dying, drop_inode, dying}
+use Rattle.fs_machine.specs.Tables.{place_of}
+use Rattle.fs_machine.specs.LogPart.{Outside}
+use Rattle.fs_machine.specs.Steps as steps
+use Rattle.fs_machine.specs.Steps.{State, exec, in_tables}
+
+pub dies_loaded : (h k n : ℕ) (o : Option Dinode) (x : Outside) (s t : State) → exec h x (steps.Down (steps.Held n)) s ≡ Ran (Dies k o) t → IsSome o
+unfolding exec drop_inode
+dies_loaded h k n o x s t e = at (place_of n s.tables.entries) e
+  where
+    within : (p : ℕ) (d : Option Dinode) → in_tables s (drop_dying h n p s.tables d) ≡ Ran (Dies k o) t → IsSome o
+    within p None e = absurd (cc e)
+    within p (Some d) e = let is : Some d ≡ o = cc e in subst (λ (o : Option Dinode). IsSome o) is refl
+
+    at : (p : Option ℕ) → in_tables s (drop_at h n s.tables p) ≡ Ran (Dies k o) t → IsSome o
+    at None e = absurd (cc e)
+    at (Some p) e = within p (dying (slice_get s.tables.entries p) (slice_get s.tables.locks p)) e

@@ -1,0 +1,6 @@
+use Rattle.fs_machine.specs.Inodes.{with_directory}
+use Rattle.fs_machine.proofs.Places.{set_change}
+use Rattle.fs_machine.proofs.places.set_directory.Goals as goal
+
+pub returns : goal.returns
+returns c = set_change c.args.hart (with_directory c.args.number) c.args.desks.now _ c.requires

@@ -1,0 +1,6 @@
+use Rattle.fs_machine.specs.Files.{with_hand}
+use Rattle.fs_machine.proofs.Places.{set_change}
+use Rattle.fs_machine.proofs.places.set_hand.Goals as goal
+
+pub returns : goal.returns
+returns c = set_change c.args.hart (with_hand c.args.place) c.args.desks.now _ c.requires

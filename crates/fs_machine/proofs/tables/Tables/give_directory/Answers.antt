@@ -1,0 +1,53 @@
+use Rattle.std.proofs.Common.{◌≡◌, ◌∙◌, ap, sym, subst, List}
+use Rattle.std.specs.Prelude.{slice_get}
+use Rattle.atomic_programs.specs.Prog.{Ran}
+use Rattle.fs_machine.specs.declared.entries.Entry.{Entry}
+use Rattle.fs_machine.specs.declared.slots.Given.TheVariants as given
+use Rattle.fs_machine.specs.Inodes.{directory_of, with_directory}
+use Rattle.fs_machine.specs.Files.{given_directory}
+use Rattle.fs_machine.specs.Locks.{LeavesLocked}
+use Rattle.fs_machine.specs.Soundness.{IsSoundInodes}
+use Rattle.fs_machine.specs.Tables.{TablesState, place_of}
+use Rattle.fs_machine.proofs.Places.{found}
+use Rattle.fs_machine.proofs.Counting.{counted_good, counted_locked}
+use Rattle.fs_machine.proofs.Opening.{desks_changed}
+use Rattle.fs_machine.proofs.GivenDirectory.{given_nowhere, given_there}
+use Rattle.fs_machine.proofs.tables.Tables.give_directory.Goals as goal
+
+pub invariant_of-self : goal.invariant_of-self
+invariant_of-self c =
+    let t : TablesState = record { entries = c.self.inside.entries; locks = c.self.inside.locks; files = c.self.inside.files; desks = c.self.inside.desks } in
+    let n = c.directory_at-number.result in
+    let f = found n t.entries c.in-Some.place (sym c.place_of.ensures ∙ c.in-Some.is) in
+    record {
+      inodes = subst (λ (l : List Entry). IsSoundInodes l t.locks) (sym c.count_up.ensures) (counted_good n c.in-Some.place t.entries t.locks f c.self.invariant.inodes);
+      files = c.self.invariant.files;
+      desks = desks_changed c.self.inside.desks c.set_directory.new.desks c.args.child _ (with_directory n) c.set_directory.ensures c.self.invariant.desks;
+    }
+
+pub returns-in-None-clause-ran : goal.returns-in-None-clause-ran
+returns-in-None-clause-ran c =
+    let t : TablesState = record { entries = c.self.inside.entries; locks = c.self.inside.locks; files = c.self.inside.files; desks = c.self.inside.desks } in
+    subst (λ (v : TablesState). given_directory c.args.hart c.args.child v (place_of (directory_of (slice_get v.desks c.args.hart)) v.entries) ≡ Ran (given.Directory c.new.result) v) c.self.view_is
+    (given_nowhere c.args.hart c.args.child c.directory_at-number.result t c.directory_at-number.ensures (sym c.place_of.ensures ∙ c.in-None.is)
+    ∙ ap (λ m. Ran (given.Directory m) t) (sym (c.new.ensures ∙ c.directory_at-old.ensures)))
+
+pub returns-in-Some-clause-ran : goal.returns-in-Some-clause-ran
+returns-in-Some-clause-ran c =
+    let t : TablesState = record { entries = c.self.inside.entries; locks = c.self.inside.locks; files = c.self.inside.files; desks = c.self.inside.desks } in
+    let after : TablesState = record t { entries = c.count_up.new.entries; desks = c.set_directory.new.desks } in
+    subst (λ (v : TablesState). given_directory c.args.hart c.args.child v (place_of (directory_of (slice_get v.desks c.args.hart)) v.entries) ≡ Ran (given.Directory c.new-in-Some.result) after) c.self.view_is
+    (given_there c.args.hart c.args.child c.directory_at-number.result t c.directory_at-number.ensures c.in-Some.place c.count_up.new.entries c.set_directory.new.desks
+    (sym c.place_of.ensures ∙ c.in-Some.is) c.count_up.ensures c.set_directory.ensures
+    ∙ ap (λ m. Ran (given.Directory m) after) (sym (c.new-in-Some.ensures ∙ c.directory_at-old.ensures)))
+
+pub returns-in-Some-clause-others : goal.returns-in-Some-clause-others
+returns-in-Some-clause-others c =
+    let t : TablesState = record { entries = c.self.inside.entries; locks = c.self.inside.locks; files = c.self.inside.files; desks = c.self.inside.desks } in
+    let n = c.directory_at-number.result in
+    let f = found n t.entries c.in-Some.place (sym c.place_of.ensures ∙ c.in-Some.is) in
+    let after : TablesState = record t { entries = c.count_up.new.entries; desks = c.set_directory.new.desks } in
+    let counted : LeavesLocked t (record t { entries = c.count_up.new.entries }) =
+    subst (λ (l : List Entry). LeavesLocked t (record t { entries = l })) (sym c.count_up.ensures) (counted_locked n c.in-Some.place t f) in
+    subst (λ (v : TablesState). LeavesLocked v after) c.self.view_is
+    (λ g l. let k = counted g l in record { out = k.out; entry = k.entry; there = k.there; number = k.number; referenced = k.referenced })

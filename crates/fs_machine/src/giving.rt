@@ -1,0 +1,84 @@
+// What a child is given of its parent's desk.
+ghost use Rattle.std.specs.Prelude.{◌≡◌, ◌+◌, ◌<◌, ◌≤◌, ◌^◌, IfSome, slice_get};
+ghost use Rattle.atomic_programs.specs.Prog.{Ran};
+ghost use Rattle.fs_machine.specs.Inodes.{directory_of};
+ghost use Rattle.fs_machine.specs.Lists.{next_full};
+ghost use Rattle.fs_machine.specs.Files.{descriptors_of};
+
+use crate::places::{directory_at, place_at, set_descriptor, set_directory};
+use crate::desk::Desk;
+use crate::entries::{Reference, count_up, place_of};
+use crate::limits::{DESCRIPTORS, DESKS};
+use crate::slots::Given;
+use crate::tables::Tables;
+
+impl Tables {
+    ghost use Rattle.fs_machine.specs.Tables.{references_of, place_named, place_of};
+    ghost use Rattle.fs_machine.specs.Locks.{LeavesLocked};
+    ghost use Rattle.fs_machine.specs.Files.{give_next, give_at, given_directory, IsDirectory};
+
+    /// To the child the hart's next descriptor from this one on; where there is none its directory becomes the hart's, and the
+    /// reference to its old one is handed out.
+    #[tactic(auto, unfolding(crate::specs::Files::give_next))]
+    pub fn give(&mut self, hart: u8, child: u8, from: u32) -> Given
+        requires hart { hart < DESKS }
+        requires child { child < DESKS }
+        requires room { references_of (directory_of (slice_get self.old.desks hart)) self.old + 1 < 2 ^ 32 }
+        ensures ran { give_next hart child from self.old ≡ Ran result self.new }
+        ensures past { DESCRIPTORS ≤ from → IsDirectory result }
+        ensures others { LeavesLocked self.old self.new }
+    {
+        match next_at(&self.desks, hart, from) {
+            Some(fd) => self.give_descriptor(hart, child, fd as u32),
+            None => self.give_directory(hart, child),
+        }
+    }
+
+    // The child's descriptor names what the hart's names.
+    fn give_descriptor(&mut self, hart: u8, child: u8, fd: u32) -> Given
+        requires hart { hart < DESKS }
+        requires child { child < DESKS }
+        requires fd { fd < DESCRIPTORS }
+        ensures ran { give_at hart child fd self.old (place_named hart fd self.old) ≡ Ran result self.new }
+        ensures others { LeavesLocked self.old self.new }
+    {
+        let more = next_at(&self.desks, hart, fd + 1).is_some();
+        match place_at(&self.desks, hart, fd) {
+            None => {}
+            Some(place) => set_descriptor(&mut self.desks, child, fd as usize, Some(place)),
+        }
+        Given::Descriptor(fd as u8, more)
+    }
+
+    // The child's directory becomes the hart's.
+    fn give_directory(&mut self, hart: u8, child: u8) -> Given
+        requires hart { hart < DESKS }
+        requires child { child < DESKS }
+        requires room { references_of (directory_of (slice_get self.old.desks hart)) self.old + 1 < 2 ^ 32 }
+        ensures directory { IsDirectory result }
+        ensures ran { given_directory hart child self.old (place_of (directory_of (slice_get self.old.desks hart)) self.old.entries)
+            ≡ Ran result self.new }
+        ensures others { LeavesLocked self.old self.new }
+    {
+        let number = directory_at(&self.desks, hart);
+        let old = directory_at(&self.desks, child);
+        match place_of(&self.entries, number) {
+            None => Given::Directory(Reference::new(old)),
+            Some(place) => {
+                count_up(&mut self.entries, place);
+                set_directory(&mut self.desks, child, number);
+                Given::Directory(Reference::new(old))
+            }
+        }
+    }
+}
+
+// The first descriptor of a hart from this one on that is open.
+fn next_at(desks: &[Desk; DESKS], hart: u8, from: u32) -> Option<usize>
+    requires { hart < DESKS }
+    ensures next { result ≡ next_full from (descriptors_of (slice_get desks.now hart)) }
+    ensures within { IfSome result (λ fd. fd < DESCRIPTORS) }
+    ensures from { IfSome result (λ fd. from ≤ fd) }
+{
+    desks[hart as usize].next(from)
+}

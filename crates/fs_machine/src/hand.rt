@@ -1,0 +1,354 @@
+// What a hart has in hand between two operations.
+ghost use Rattle.std.specs.Prelude.{◌≡◌, ◌≢◌, [], Some, None, IfOk, IsSome, is_some};
+ghost use Rattle.std.specs.Option.{MatchOption, option_map, option_map_or};
+ghost use Rattle.fs_machine.specs.Ops.{content_at};
+ghost use Rattle.fs_machine.specs.Hands.{empty_hand, HasNothing, buffer_at, with_buffer, inode_at, with_inode, reference_at, with_aside, with_first, with_reference, with_seated, with_txn, inode_in, no_inode, recorded, with_record};
+
+use crate::queue::Queue;
+use atomic_programs::machines::put;
+use buffer_cache::Buffer;
+use fs_layout::Dinode;
+use crate::RetiredCore;
+use crate::{Inode, Reference};
+use group_log::Txn;
+use sleep_lock::Guard;
+use std::alloc::{AllocError, Global};
+use std::mem;
+
+/// A place for a buffer.
+#[derive(Clone, Copy)]
+pub enum Place {
+    First,
+    Second,
+}
+
+/// A place for an inode: a reference to it, and its lock.
+#[derive(Clone, Copy)]
+pub enum Seat {
+    One,
+    Two,
+}
+
+/// All that a hart has in hand between two operations.
+pub struct Hand {
+    pub txn: Option<Txn>,
+    pub first: Option<Guard<Buffer>>,
+    pub second: Option<Guard<Buffer>>,
+    pub one: Option<Guard<Inode>>,
+    pub two: Option<Guard<Inode>>,
+    pub to_one: Option<Reference>,
+    pub to_two: Option<Reference>,
+    /// A reference that came when no seat was free, until one is.
+    pub aside: Option<Reference>,
+    /// References that a walk keeps: each is the last one to a dead inode, and the call frees the inode at its end.
+    pub listed: Queue,
+    /// The numbers of inodes of which one is to be claimed, and how many these are.
+    pub numbers: [u32; 16],
+    pub count: u8,
+}
+
+impl Hand {
+    /// Nothing yet, and the memory for what a call lists.
+    pub fn new(alloc: Global) -> Result<Hand, AllocError>
+        ensures { IfOk result (λ hand. hand ≡ empty_hand) }
+    {
+        let listed = Queue::new(alloc)?;
+        Ok(Hand {
+            txn: None,
+            first: None,
+            second: None,
+            one: None,
+            two: None,
+            to_one: None,
+            to_two: None,
+            aside: None,
+            listed,
+            numbers: [0; 16],
+            count: 0,
+        })
+    }
+
+    /// A transaction, where there is none.
+    pub(crate) fn hold_txn(&mut self, txn: Txn)
+        requires { self.old.txn ≡ None }
+        ensures { self.new ≡ with_txn (Some txn) self.old }
+    {
+        put(&mut self.txn, txn);
+    }
+
+    /// The buffer at a place, which is empty then.
+    pub(crate) fn take_buffer(&mut self, place: Place) -> Option<Guard<Buffer>>
+        ensures is { result ≡ buffer_at place self.old }
+        ensures left { self.new ≡ with_buffer place None self.old }
+    {
+        match place {
+            Place::First => mem::replace(&mut self.first, None),
+            Place::Second => mem::replace(&mut self.second, None),
+        }
+    }
+
+    /// A buffer for a place that is empty.
+    pub(crate) fn hold_buffer(&mut self, place: Place, guard: Guard<Buffer>)
+        requires { buffer_at place self.old ≡ None }
+        ensures { self.new ≡ with_buffer place (Some guard) self.old }
+    {
+        match place {
+            Place::First => put(&mut self.first, guard),
+            Place::Second => put(&mut self.second, guard),
+        }
+    }
+
+    /// Whether the buffer at a place is valid.
+    pub fn is_valid(&self, place: Place) -> bool
+        ensures { result ≡ is_some (content_at place self.now) }
+    {
+        match place {
+            Place::First => is_valid(&self.first),
+            Place::Second => is_valid(&self.second),
+        }
+    }
+
+    /// The lock at a seat, which is empty then.
+    pub(crate) fn take_inode(&mut self, seat: Seat) -> Option<Guard<Inode>>
+        ensures is { result ≡ inode_at seat self.old }
+        ensures left { self.new ≡ with_inode seat None self.old }
+    {
+        match seat {
+            Seat::One => mem::replace(&mut self.one, None),
+            Seat::Two => mem::replace(&mut self.two, None),
+        }
+    }
+
+    /// A lock for a seat that is empty.
+    pub(crate) fn hold_inode(&mut self, seat: Seat, guard: Guard<Inode>)
+        requires { inode_at seat self.old ≡ None }
+        ensures { self.new ≡ with_inode seat (Some guard) self.old }
+    {
+        match seat {
+            Seat::One => put(&mut self.one, guard),
+            Seat::Two => put(&mut self.two, guard),
+        }
+    }
+
+    /// The reference at a seat.
+    pub(crate) fn reference(&self, seat: Seat) -> Option<&Reference>
+        ensures { MatchOption result (reference_at seat self.now ≡ None) (λ reference. reference_at seat self.now ≡ Some reference.now) }
+    {
+        let place = match seat {
+            Seat::One => &self.to_one,
+            Seat::Two => &self.to_two,
+        };
+        place.as_ref()
+    }
+
+    /// The reference at a seat, which is empty then.
+    pub(crate) fn take_reference(&mut self, seat: Seat) -> Option<Reference>
+        ensures is { result ≡ reference_at seat self.old }
+        ensures left { self.new ≡ with_reference seat None self.old }
+    {
+        match seat {
+            Seat::One => mem::replace(&mut self.to_one, None),
+            Seat::Two => mem::replace(&mut self.to_two, None),
+        }
+    }
+
+    /// A reference, or none, for a seat that is empty.
+    pub(crate) fn hold_reference(&mut self, seat: Seat, reference: Reference)
+        requires { reference_at seat self.old ≡ None }
+        ensures { self.new ≡ with_reference seat (Some reference) self.old }
+    {
+        match seat {
+            Seat::One => put(&mut self.to_one, reference),
+            Seat::Two => put(&mut self.to_two, reference),
+        }
+    }
+
+    /// A reference that no seat is free for.
+    pub(crate) fn hold_aside(&mut self, reference: Reference)
+        requires { self.old.aside ≡ None }
+        ensures { self.new ≡ with_aside (Some reference) self.old }
+    {
+        put(&mut self.aside, reference);
+    }
+
+    /// What is aside comes to a seat that is empty.
+    pub(crate) fn seat_aside(&mut self, seat: Seat)
+        requires { reference_at seat self.old ≡ None }
+        ensures { self.new ≡ with_seated seat self.old }
+    {
+        match mem::replace(&mut self.aside, None) {
+            Some(reference) => self.hold_reference(seat, reference),
+            None => {}
+        }
+    }
+
+    /// The first listed reference for a seat that is empty.
+    pub(crate) fn hold_first(&mut self, seat: Seat)
+        requires listed { self.old.listed ≢ [] }
+        requires empty { reference_at seat self.old ≡ None }
+        ensures { self.new ≡ with_first seat self.old }
+    {
+        match self.listed.take_first() {
+            None => unreachable!(),
+            Some(reference) => self.hold_reference(seat, reference),
+        }
+    }
+
+    /// Whether the inode at a seat is loaded.
+    pub fn is_loaded(&self, seat: Seat) -> bool
+        ensures { result ≡ is_some (inode_in seat self.now).content }
+    {
+        match seat {
+            Seat::One => is_loaded(&self.one),
+            Seat::Two => is_loaded(&self.two),
+        }
+    }
+
+    /// The number of the inode at a seat.
+    pub fn number(&self, seat: Seat) -> u32
+        requires { IsSome (inode_at seat self.now) }
+        ensures { result ≡ (inode_in seat self.now).number }
+    {
+        match seat {
+            Seat::One => number_of(&self.one),
+            Seat::Two => number_of(&self.two),
+        }
+    }
+
+    /// The inode at a seat stands so.
+    pub fn set_record(&mut self, seat: Seat, inode: Dinode)
+        requires { IsSome (inode_at seat self.old) }
+        ensures { self.new ≡ with_record seat inode self.old }
+    {
+        match seat {
+            Seat::One => set_record(&mut self.one, inode),
+            Seat::Two => set_record(&mut self.two, inode),
+        }
+    }
+
+    /// Ends it with nothing in it.
+    pub fn end(self)
+        requires { HasNothing self }
+    {
+        let Hand {
+            txn,
+            first,
+            second,
+            one,
+            two,
+            to_one,
+            to_two,
+            aside,
+            listed,
+            numbers: _,
+            count: _,
+        } = self;
+        end_none(txn);
+        end_none(first);
+        end_none(second);
+        end_none(one);
+        end_none(two);
+        end_none(to_one);
+        end_none(to_two);
+        end_none(aside);
+        listed.end();
+    }
+
+    /// Ends it in mid-call, after all that harts share has ended.
+    pub fn retire(self, retired: &RetiredCore) {
+        let Hand {
+            txn,
+            first,
+            second,
+            one,
+            two,
+            to_one,
+            to_two,
+            aside,
+            listed,
+            numbers: _,
+            count: _,
+        } = self;
+        match txn {
+            Some(txn) => txn.retire(&retired.log),
+            None => {}
+        }
+        retire_buffer(first, retired);
+        retire_buffer(second, retired);
+        retire_inode(one, retired);
+        retire_inode(two, retired);
+        retire_reference(to_one, retired);
+        retire_reference(to_two, retired);
+        retire_reference(aside, retired);
+        listed.retire(retired);
+    }
+}
+
+fn is_valid(place: &Option<Guard<Buffer>>) -> bool
+    ensures { result ≡ is_some (option_map_or (λ g. g.value.content) place.now None) }
+{
+    match place {
+        Some(guard) => guard.value().is_valid(),
+        None => false,
+    }
+}
+
+fn is_loaded(place: &Option<Guard<Inode>>) -> bool
+    ensures { result ≡ is_some (option_map_or (λ g. g.value) place.now no_inode).content }
+{
+    match place {
+        Some(guard) => guard.value().content.is_some(),
+        None => false,
+    }
+}
+
+fn number_of(place: &Option<Guard<Inode>>) -> u32
+    requires { IsSome place.now }
+    ensures { result ≡ (option_map_or (λ g. g.value) place.now no_inode).number }
+{
+    match place {
+        Some(guard) => guard.value().number,
+        None => unreachable!(),
+    }
+}
+
+fn set_record(place: &mut Option<Guard<Inode>>, inode: Dinode)
+    requires { IsSome place.old }
+    ensures { place.new ≡ option_map (recorded inode) place.old }
+{
+    match place {
+        Some(guard) => guard.value_mut().content = Some(inode),
+        None => unreachable!(),
+    }
+}
+
+// Nothing stands in a place.
+fn end_none<T>(place: Option<T>)
+    requires { place ≡ None }
+{
+    match place {
+        None => {}
+        Some(_) => unreachable!(),
+    }
+}
+
+fn retire_buffer(place: Option<Guard<Buffer>>, retired: &RetiredCore) {
+    match place {
+        Some(guard) => guard.retire_in_row(&retired.buffers),
+        None => {}
+    }
+}
+
+fn retire_inode(place: Option<Guard<Inode>>, retired: &RetiredCore) {
+    match place {
+        Some(guard) => guard.retire_in_row(&retired.inodes),
+        None => {}
+    }
+}
+
+fn retire_reference(place: Option<Reference>, retired: &RetiredCore) {
+    match place {
+        Some(reference) => reference.retire(&retired.inodes),
+        None => {}
+    }
+}

@@ -1,0 +1,107 @@
+// Operations as a control asks for them, by places in the hand, and what they come to.
+ghost use Rattle.std.specs.Prelude.{◌≡◌};
+ghost use Rattle.fs_machine.specs.Ops.{yes_in};
+
+use crate::hand::{Place, Seat};
+use crate::Kind;
+use crate::{Doubled, NewFile, OpenFile, Refused, Want};
+
+/// The next operation. What it is about lies at a place of the hand.
+#[derive(Clone, Copy)]
+pub enum Op {
+    /// Joins a transaction.
+    Join,
+    /// Leaves it.
+    Leave,
+    /// One write of the commit.
+    Commit,
+    /// Takes this block's buffer.
+    Get(Place, u32),
+    /// Reads the block into it.
+    Read(Place),
+    /// Gives it back as it was.
+    Give(Place),
+    /// Gives it back, recorded with the bytes that it has in hand.
+    Record(Place),
+    /// Takes the lock of the inode to which the reference is.
+    Lock(Seat),
+    /// Gives it back, with the inode as it is in hand.
+    Unlock(Seat),
+    /// A reference to the inode of this number.
+    Up(Seat, u32),
+    /// The same where no seat is free: it is aside.
+    UpAside(u32),
+    /// Drops it; where it is the last one to a dead inode the inode's lock is taken in its place.
+    Down(Seat),
+    /// The same where this descriptor may be written.
+    JoinToWrite(u32),
+    /// Takes the lock of what a descriptor names, where it may be had for this.
+    LockFile(Seat, Want, u32),
+    /// That of what a descriptor names that is known to be open.
+    LockOpen(Seat, u32),
+    /// Gives it back, and the file of this descriptor has this offset from now on.
+    UnlockMoving(Seat, u32, u32),
+    /// Gives it back, and the inode, to which the reference is, is the hart's current directory from now on. The reference to the old
+    /// one is there then.
+    Settle(Seat),
+    /// A reference to the hart's current directory.
+    UpDirectory(Seat),
+    /// Drops a reference within a walk; the last one to a dead inode is listed, behind the others. A reference that is aside comes to the
+    /// seat.
+    DownWalked(Seat),
+    /// Takes the first listed reference, and the lock of its inode.
+    LockListed(Seat),
+    /// Drops the reference that is left to an inode that this hart has freed.
+    DownFreed(Seat),
+    /// Whether a descriptor may be had for this.
+    CheckFile(Want, u32),
+    /// Takes a place for an open file.
+    TakePlace,
+    /// Opens a file there; where no descriptor is free the reference stays.
+    TakeDescriptor(Seat, NewFile),
+    /// One descriptor more for what this one names.
+    Double(u32),
+    /// A descriptor goes; where it was the last one the file's reference is there then.
+    Close(Seat, u32),
+    /// To this child the next descriptor from this one on; where there is none the directory, and the reference to the child's old one
+    /// is there then.
+    GiveTo(Seat, u8, u32),
+    /// A reference to the first of the numbers in hand to which none stands; where there is no such one the buffer is given back.
+    Claim(Place, Seat),
+    /// Gives the reply.
+    Reply,
+}
+
+/// What the hand doesn't show of an answer.
+#[derive(Clone, Copy)]
+pub enum Answer {
+    Nothing,
+    /// Whether a commit begins, or has ended; and so on.
+    Is(bool),
+    Refused(Refused),
+    Number(u32),
+    File(OpenFile),
+    Doubled(Doubled),
+    /// This descriptor, and whether there are more to come.
+    Given(u8, bool),
+}
+
+impl Answer {
+    /// Whether it says yes.
+    pub fn yes(&self) -> bool
+        ensures { result ≡ yes_in self.now }
+    {
+        match self {
+            Answer::Is(yes) => *yes,
+            _ => false,
+        }
+    }
+}
+
+/// What an operation came to.
+#[derive(Clone, Copy)]
+pub enum Did {
+    Waits,
+    Ran(Kind),
+    Stopped,
+}

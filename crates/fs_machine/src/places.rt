@@ -1,0 +1,296 @@
+// The steps on descriptors and open files.
+ghost use Rattle.std.specs.Prelude.{◌≡◌, ◌<◌, if◌then◌else◌, Some, None, IfSome, IfErr, length, position, slice_get, slice_set};
+ghost use Rattle.std.specs.List.{list_any};
+ghost use Rattle.atomic_programs.specs.Prog.{Ran};
+ghost use Rattle.fs_machine.specs.Lists.{change_at, first_empty};
+ghost use Rattle.fs_machine.specs.Tables.{open_at, at_descriptor};
+ghost use Rattle.fs_machine.specs.Inodes.{refusal_of, is_number, directory_of, with_directory, settled, with_offset};
+ghost use Rattle.fs_machine.specs.Files.{is_free, names, opened, hand_of, descriptors_of, with_descriptor, with_hand};
+
+use crate::desk::Desk;
+use crate::files::{FilePlace, NewFile, OpenFile, Refused, Want};
+use crate::entries::Reference;
+use crate::limits::{DESCRIPTORS, DESKS, DEVICE, OPEN_FILES};
+use crate::slots::{Doubled, Shut};
+use crate::tables::Tables;
+
+impl Tables {
+    ghost use Rattle.fs_machine.specs.Tables.{file_named, place_named};
+    ghost use Rattle.fs_machine.specs.Locks.{LeavesLocked};
+    ghost use Rattle.fs_machine.specs.Files.{take_place, double_descriptor, shut_descriptor, open_file};
+    ghost use Rattle.fs_machine.specs.Results.{opened_as};
+
+    /// The open file that a descriptor names (xv6: `argfd`).
+    pub fn file(&self, hart: u8, fd: u32) -> Option<OpenFile>
+        requires { hart < DESKS }
+        ensures { result ≡ file_named hart fd self.now }
+    {
+        match place_at(&self.desks, hart, fd) {
+            None => None,
+            Some(place) => file_at(&self.files, place),
+        }
+    }
+
+    /// Why a descriptor may not be had for this.
+    pub fn check(&self, hart: u8, want: Want, fd: u32) -> Option<Refused>
+        requires { hart < DESKS }
+        ensures { result ≡ refusal_of want (file_named hart fd self.now) }
+    {
+        refusal(want, self.file(hart, fd))
+    }
+
+    /// The number of the hart's current directory.
+    pub fn directory(&self, hart: u8) -> u32
+        requires { hart < DESKS }
+        ensures { result ≡ directory_of (slice_get self.now.desks hart) }
+    {
+        directory_at(&self.desks, hart)
+    }
+
+    /// The hart's current directory becomes this inode, whose reference goes into the table; the old one's is handed out.
+    pub fn set_directory(&mut self, hart: u8, reference: Reference) -> Reference
+        requires { hart < DESKS }
+        ensures ran { settled hart reference self.old ≡ Ran result self.new }
+        ensures others { LeavesLocked self.old self.new }
+    {
+        let old = directory_at(&self.desks, hart);
+        set_directory(&mut self.desks, hart, reference.end());
+        Reference::new(old)
+    }
+
+    /// From now on the open file that a descriptor names has this offset.
+    pub fn move_offset(&mut self, hart: u8, fd: u32, offset: u32)
+        requires { hart < DESKS }
+        ensures ran { self.new ≡ with_offset hart (Some (fd, offset)) self.old }
+        ensures others { LeavesLocked self.old self.new }
+    {
+        match place_at(&self.desks, hart, fd) {
+            None => {}
+            Some(place) => match file_at(&self.files, place) {
+                None => {}
+                Some(file) => {
+                    let moved = OpenFile { offset, ..file };
+                    set_place(&mut self.files, place as usize, FilePlace::Open(moved));
+                }
+            },
+        }
+    }
+
+    /// Takes a place for an open file into the hart's hand (xv6: `filealloc`). False where all are taken, and then nothing changes.
+    pub fn take_place(&mut self, hart: u8) -> bool
+        requires { hart < DESKS }
+        ensures ran { take_place hart self.old ≡ Ran result self.new }
+        ensures others { LeavesLocked self.old self.new }
+    {
+        match free_place(&self.files) {
+            None => false,
+            Some(place) => {
+                set_place(&mut self.files, place, FilePlace::Taken);
+                set_hand(&mut self.desks, hart, Some(place as u8));
+                true
+            }
+        }
+    }
+
+    /// Opens a file at the place in hand, by the lowest free descriptor (xv6: `fdalloc`). Where all are open the place is given back, and
+    /// the reference.
+    pub fn open(&mut self, hart: u8, reference: Reference, file: NewFile) -> Result<u8, Reference>
+        requires { hart < DESKS }
+        ensures ran { open_file hart reference file self.old ≡ Ran (opened_as result) self.new }
+        ensures back { IfErr result (λ back. back ≡ reference) }
+        ensures others { LeavesLocked self.old self.new }
+    {
+        match hand_of(&self.desks, hart) {
+            None => Err(reference),
+            Some(place) => match lowest(&self.desks, hart) {
+                None => {
+                    set_place(&mut self.files, place as usize, FilePlace::Free);
+                    set_hand(&mut self.desks, hart, None);
+                    Err(reference)
+                }
+                Some(fd) => {
+                    let opened = opened(reference, file);
+                    set_place(&mut self.files, place as usize, FilePlace::Open(opened));
+                    set_descriptor(&mut self.desks, hart, fd, Some(place));
+                    set_hand(&mut self.desks, hart, None);
+                    Ok(fd as u8)
+                }
+            },
+        }
+    }
+
+    /// The lowest free descriptor names what this one names (xv6: `fdalloc` and `filedup`).
+    pub fn double(&mut self, hart: u8, fd: u32) -> Doubled
+        requires { hart < DESKS }
+        ensures ran { double_descriptor hart fd self.old ≡ Ran result self.new }
+        ensures others { LeavesLocked self.old self.new }
+    {
+        match place_at(&self.desks, hart, fd) {
+            None => Doubled::BadDescriptor,
+            Some(place) => match lowest(&self.desks, hart) {
+                None => Doubled::Full,
+                Some(other) => {
+                    set_descriptor(&mut self.desks, hart, other, Some(place));
+                    Doubled::Gave(other as u8)
+                }
+            },
+        }
+    }
+
+    /// The descriptor goes, and with the last one that names it the open file, whose reference is handed out (xv6: `fileclose`, without
+    /// its `iput`).
+    pub fn shut(&mut self, hart: u8, fd: u32) -> Shut
+        requires { hart < DESKS }
+        ensures ran { shut_descriptor hart fd self.old ≡ Ran result self.new }
+        ensures others { LeavesLocked self.old self.new }
+    {
+        match place_at(&self.desks, hart, fd) {
+            None => Shut::BadDescriptor,
+            Some(place) => {
+                set_descriptor(&mut self.desks, hart, fd as usize, None);
+                if is_named(&self.desks, place) {
+                    return Shut::Closed;
+                }
+                match file_at(&self.files, place) {
+                    None => Shut::Closed,
+                    Some(file) => {
+                        set_place(&mut self.files, place as usize, FilePlace::Free);
+                        Shut::Last(Reference::new(file.number))
+                    }
+                }
+            }
+        }
+    }
+}
+
+// The place that a hart's descriptor names.
+pub(crate) fn place_at(desks: &[Desk; DESKS], hart: u8, fd: u32) -> Option<u8>
+    requires { hart < DESKS }
+    ensures place { result ≡ at_descriptor fd (slice_get desks.now hart) }
+    ensures within { IfSome result (λ _. fd < DESCRIPTORS) }
+{
+    desks[hart as usize].place(fd)
+}
+
+// The lowest descriptor of a hart that is free.
+fn lowest(desks: &[Desk; DESKS], hart: u8) -> Option<usize>
+    requires { hart < DESKS }
+    ensures lowest { result ≡ first_empty (descriptors_of (slice_get desks.now hart)) }
+    ensures within { IfSome result (λ fd. fd < DESCRIPTORS) }
+{
+    desks[hart as usize].lowest()
+}
+
+// The place in a hart's hand.
+fn hand_of(desks: &[Desk; DESKS], hart: u8) -> Option<u8>
+    requires { hart < DESKS }
+    ensures { result ≡ hand_of (slice_get desks.now hart) }
+{
+    desks[hart as usize].hand
+}
+
+// The number of a hart's current directory.
+pub(crate) fn directory_at(desks: &[Desk; DESKS], hart: u8) -> u32
+    requires { hart < DESKS }
+    ensures { result ≡ directory_of (slice_get desks.now hart) }
+{
+    desks[hart as usize].directory
+}
+
+pub(crate) fn set_directory(desks: &mut [Desk], hart: u8, number: u32)
+    requires { hart < length desks.old }
+    ensures { desks.new ≡ change_at hart (with_directory number) desks.old }
+{
+    desks[hart as usize].directory = number;
+}
+
+pub(crate) fn set_descriptor(desks: &mut [Desk], hart: u8, fd: usize, place: Option<u8>)
+    requires hart { hart < length desks.old }
+    requires fd { fd < DESCRIPTORS }
+    ensures { desks.new ≡ change_at hart (with_descriptor fd place) desks.old }
+{
+    desks[hart as usize].descriptors[fd] = place;
+}
+
+fn set_hand(desks: &mut [Desk], hart: u8, place: Option<u8>)
+    requires { hart < length desks.old }
+    ensures { desks.new ≡ change_at hart (with_hand place) desks.old }
+{
+    desks[hart as usize].hand = place;
+}
+
+// Whether a descriptor names a place.
+fn is_named(desks: &[Desk; DESKS], place: u8) -> bool
+    ensures { result ≡ list_any (names place) desks.now }
+{
+    desks.iter().any(|desk| desk.names(place))
+}
+
+// The open file at a place.
+fn file_at(files: &[FilePlace; OPEN_FILES], place: u8) -> Option<OpenFile>
+    ensures { result ≡ open_at (slice_get files.now place) }
+{
+    match files.get(place as usize) {
+        None => None,
+        Some(place) => match place {
+            FilePlace::Free => None,
+            FilePlace::Taken => None,
+            FilePlace::Open(file) => Some(*file),
+        },
+    }
+}
+
+// The first place that is free.
+fn free_place(files: &[FilePlace; OPEN_FILES]) -> Option<usize>
+    ensures free { result ≡ position is_free files.now }
+    ensures within { IfSome result (λ place. place < OPEN_FILES) }
+{
+    files.iter().position(|place| place.is_free())
+}
+
+fn set_place(files: &mut [FilePlace; OPEN_FILES], place: usize, to: FilePlace)
+    ensures { files.new ≡ slice_set files.old place to }
+{
+    if place < files.len() {
+        files[place] = to;
+    }
+}
+
+// A file that is opened.
+fn opened(reference: Reference, file: NewFile) -> OpenFile
+    ensures { result ≡ opened reference file }
+{
+    OpenFile {
+        number: reference.end(),
+        kind: file.kind,
+        readable: file.readable,
+        writable: file.writable,
+        offset: 0,
+    }
+}
+
+// Why a file may not be had for this.
+fn refusal(want: Want, file: Option<OpenFile>) -> Option<Refused>
+    ensures { result ≡ refusal_of want file }
+{
+    match file {
+        None => Some(Refused::BadDescriptor),
+        Some(file) => match want {
+            Want::Stat => None,
+            Want::Read => mode_refusal(file.readable, file.kind),
+            Want::Write => mode_refusal(file.writable, file.kind),
+        },
+    }
+}
+
+fn mode_refusal(allowed: bool, kind: i16) -> Option<Refused>
+    ensures { result ≡ (if allowed then (if is_number 3 kind then Some Refused.NoDriver else None) else Some Refused.BadMode) }
+{
+    if !allowed {
+        Some(Refused::BadMode)
+    } else if kind == DEVICE {
+        Some(Refused::NoDriver)
+    } else {
+        None
+    }
+}

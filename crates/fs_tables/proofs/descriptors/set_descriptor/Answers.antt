@@ -1,6 +1,0 @@
-use Rattle.fs_tables.specs.Files.{with_descriptor}
-use Rattle.fs_tables.proofs.Places.{set_change}
-use Rattle.fs_tables.proofs.descriptors.set_descriptor.Goals as goal
-
-pub returns : goal.returns
-returns c = set_change c.args.hart (with_descriptor c.args.fd c.args.place) c.args.desks.now _ c.requires.hart

@@ -1,9 +1,0 @@
-pub mod Limits
-pub mod Lists
-pub mod Tables
-pub mod Soundness
-pub mod Locks
-pub mod Inodes
-pub mod Files
-pub mod Results
-pub mod Fresh

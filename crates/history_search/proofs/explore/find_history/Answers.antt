@@ -1,5 +1,0 @@
-use Rattle.history_search.proofs.ExploreLemmas.{explored, found_explains}
-use Rattle.history_search.proofs.explore.find_history.Goals as goal
-
-pub returns-then-branch : goal.returns-then-branch
-returns-then-branch c = found_explains c.args.base.now c.args.trace.now c.explore.new.self (explored c.args.base.now c.args.trace.now c.follow.new.self c.explore.new.self c.in_ok-explore.field-0 c.if-branch.true c.in_ok-explore.ensures)

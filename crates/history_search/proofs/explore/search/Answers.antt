@@ -1,8 +1,0 @@
-use Rattle.history_search.proofs.ExploreLemmas.{explored, explored_not, found_explains, none_explains}
-use Rattle.history_search.proofs.explore.search.Goals as goal
-
-pub returns-then-branch : goal.returns-then-branch
-returns-then-branch c = found_explains c.args.base.now c.args.trace.now c.explore.new.self (explored c.args.base.now c.args.trace.now c.in_ok-position.position c.explore.new.self c.in_ok-explore.field-0 c.if-branch.true c.in_ok-explore.ensures)
-
-pub returns-else-branch : goal.returns-else-branch
-returns-else-branch c = none_explains c.args.base.now c.args.trace.now c.in_ok-position.position c.in_ok-position.ensures.at c.in_ok-position.ensures.none (explored_not c.args.base.now c.args.trace.now c.in_ok-position.position c.explore.new.self c.in_ok-explore.field-0 c.if-branch.false c.in_ok-explore.ensures).1

@@ -1,7 +1,0 @@
-use Rattle.std.proofs.Common.{◌≡◌, false, not}
-use Rattle.plain_tree.specs.Tree.{tree_of, any_below}
-use Rattle.plain_tree.specs.Steps.{is_nothing}
-use Rattle.history_search.proofs.place.has_descriptors.Given as goal
-
-abbrev pub invariant-loop-fd : goal.invariant-loop-fd
-invariant-loop-fd l = any_below l.fd (λ i. not (is_nothing ((tree_of l.tree).fds l.hart i))) ≡ false

@@ -1,5 +1,0 @@
-use Rattle.history_search.specs.Searching.{IsAt}
-use Rattle.history_search.proofs.position.Position.append.Given as goal
-
-abbrev pub invariant-loop-hint : goal.invariant-loop-hint
-invariant-loop-hint l = IsAt l.base l.trace l.self

@@ -1,5 +1,0 @@
-use Rattle.history_search.specs.Searching.{IsKept}
-use Rattle.history_search.proofs.position.Position.step_on.Given as goal
-
-abbrev pub invariant-loop-id : goal.invariant-loop-id
-invariant-loop-id l = IsKept l.base l.trace l.fn.self l.self

@@ -1,5 +1,0 @@
-use Rattle.history_search.specs.Searching.{IsKept}
-use Rattle.history_search.proofs.position.Position.step_on_numbers.Given as goal
-
-abbrev pub invariant-loop-number : goal.invariant-loop-number
-invariant-loop-number l = IsKept l.base l.trace l.fn.self l.self

@@ -1,7 +1,0 @@
-use Rattle.std.proofs.Common.{◌≡◌, ◌≤◌, take}
-use Rattle.plain_tree.specs.Explains.{acts_of}
-use Rattle.history_search.specs.Stands.{stand_of}
-use Rattle.history_search.proofs.position.stand_in.Given as goal
-
-abbrev pub invariant-loop-placed : goal.invariant-loop-placed
-invariant-loop-placed l = record { is : l.stand ≡ stand_of (acts_of l.id (take l.placed-index l.list)); bound : l.stand.count ≤ l.placed-index }

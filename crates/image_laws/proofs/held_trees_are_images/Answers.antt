@@ -1,5 +1,0 @@
-use Rattle.image_laws.proofs.HeldImages.{image_of}
-use Rattle.image_laws.proofs.held_trees_are_images.Goals as goal
-
-pub returns : goal.returns
-returns c = λ disk nodes owner t h well these. image_of disk nodes owner t h well these

@@ -1,5 +1,0 @@
-use Rattle.image_laws.proofs.ImageNodes.{image_holds, are_nodes}
-use Rattle.image_laws.proofs.images_hold_their_trees.Goals as goal
-
-pub returns : goal.returns
-returns c = λ disk whole well. (image_holds disk whole well, are_nodes disk)

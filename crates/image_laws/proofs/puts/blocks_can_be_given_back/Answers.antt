@@ -1,5 +1,0 @@
-use Rattle.image_laws.proofs.HeldPuts.{given_back}
-use Rattle.image_laws.proofs.puts.blocks_can_be_given_back.Goals as goal
-
-pub returns : goal.returns
-returns c = λ disk new owner i b front some this own put. given_back disk new owner i b front some this own put

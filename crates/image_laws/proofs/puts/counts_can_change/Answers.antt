@@ -1,5 +1,0 @@
-use Rattle.image_laws.proofs.LaidInodes.{count_laid}
-use Rattle.image_laws.proofs.puts.counts_can_change.Goals as goal
-
-pub returns : goal.returns
-returns c = λ disk owner i count d v h. count_laid disk owner i count d v h

@@ -1,5 +1,0 @@
-use Rattle.image_laws.proofs.LaidInodes.{dead_goes}
-use Rattle.image_laws.proofs.puts.dead_nodes_may_go.Goals as goal
-
-pub returns : goal.returns
-returns c = λ disk owner i v h none. dead_goes disk owner i v h none

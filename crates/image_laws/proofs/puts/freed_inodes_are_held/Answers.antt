@@ -1,5 +1,0 @@
-use Rattle.image_laws.proofs.LaidInodes.{freed_held}
-use Rattle.image_laws.proofs.puts.freed_inodes_are_held.Goals as goal
-
-pub returns : goal.returns
-returns c = λ disk new owner i d put kind named. freed_held disk new owner i d put kind named

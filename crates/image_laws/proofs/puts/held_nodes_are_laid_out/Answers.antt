@@ -1,5 +1,0 @@
-use Rattle.image_laws.proofs.LaidInodes.{laid_before}
-use Rattle.image_laws.proofs.puts.held_nodes_are_laid_out.Goals as goal
-
-pub returns : goal.returns
-returns c = λ disk owner i v h. laid_before disk owner i v h

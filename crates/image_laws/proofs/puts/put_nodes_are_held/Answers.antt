@@ -1,5 +1,0 @@
-use Rattle.image_laws.proofs.LaidInodes.{node_held}
-use Rattle.image_laws.proofs.puts.put_nodes_are_held.Goals as goal
-
-pub returns : goal.returns
-returns c = λ disk new owner i d v front bound put h named. node_held disk new owner i d v front bound put h named

@@ -1,5 +1,0 @@
-use Rattle.image_laws.proofs.HeldPuts.{data_leaves}
-use Rattle.image_laws.proofs.puts.puts_leave_others.Goals as goal
-
-pub returns : goal.returns
-returns c = λ disk new owner i b front this own put. data_leaves disk new owner i b front this own put

@@ -1,5 +1,0 @@
-use Rattle.image_laws.proofs.LaidSlots.{slot_laid}
-use Rattle.image_laws.proofs.puts.slots_can_be_put.Goals as goal
-
-pub returns : goal.returns
-returns c = λ disk new owner i s count slots slot entry d h past limit same put. slot_laid disk new owner i s count slots slot entry d h past limit same put

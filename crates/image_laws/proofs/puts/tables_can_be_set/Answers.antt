@@ -1,5 +1,0 @@
-use Rattle.image_laws.proofs.LaidNumbers.{table_named}
-use Rattle.image_laws.proofs.puts.tables_can_be_set.Goals as goal
-
-pub returns : goal.returns
-returns c = λ disk owner i b d v h within free spare zeros. table_named disk owner i b d v h within free spare zeros

@@ -1,5 +1,0 @@
-use Rattle.image_laws.proofs.HeldFrames.{untouched_change}
-use Rattle.image_laws.proofs.puts.untouched_changes_are_kept.Goals as goal
-
-pub returns : goal.returns
-returns c = λ disk new owner owner' i d v left h. untouched_change disk new owner owner' i d v left h

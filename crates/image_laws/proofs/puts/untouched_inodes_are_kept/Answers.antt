@@ -1,5 +1,0 @@
-use Rattle.image_laws.proofs.HeldFrames.{untouched}
-use Rattle.image_laws.proofs.puts.untouched_inodes_are_kept.Goals as goal
-
-pub returns : goal.returns
-returns c = λ disk new owner owner' i v left h. untouched disk new owner owner' i v left h

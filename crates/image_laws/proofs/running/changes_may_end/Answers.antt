@@ -1,5 +1,0 @@
-use Rattle.image_laws.proofs.RunningBlocks.{ends}
-use Rattle.image_laws.proofs.running.changes_may_end.Goals as goal
-
-pub returns : goal.returns
-returns c = λ disk nodes owner left changing joined i h held. ends disk nodes owner left changing joined h i held

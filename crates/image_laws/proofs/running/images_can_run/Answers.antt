@@ -1,5 +1,0 @@
-use Rattle.image_laws.proofs.RunningBlocks.{image_runs, image_tree_runs}
-use Rattle.image_laws.proofs.running.images_can_run.Goals as goal
-
-pub returns : goal.returns
-returns c = λ disk joined whole well. (image_runs disk joined whole well, image_tree_runs disk joined)

@@ -1,5 +1,0 @@
-use Rattle.image_laws.proofs.RunningBlocks.{joins}
-use Rattle.image_laws.proofs.running.others_may_join_or_leave.Goals as goal
-
-pub returns : goal.returns
-returns c = λ disk nodes owner left changing joined joined' h keep. joins disk nodes owner left changing joined h joined' keep

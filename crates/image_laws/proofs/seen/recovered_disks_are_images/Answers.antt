@@ -1,5 +1,0 @@
-use Rattle.image_laws.proofs.SeenDisks.{recovered_image, image_seen}
-use Rattle.image_laws.proofs.seen.recovered_disks_are_images.Goals as goal
-
-pub returns : goal.returns
-returns c = λ sizes see disk these so. (recovered_image sizes see disk these so, image_seen sizes see disk these so)

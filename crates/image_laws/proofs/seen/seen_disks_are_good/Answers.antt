@@ -1,5 +1,0 @@
-use Rattle.image_laws.proofs.SeenDisks.{good_seen}
-use Rattle.image_laws.proofs.seen.seen_disks_are_good.Goals as goal
-
-pub returns : goal.returns
-returns c = λ sizes see n these. good_seen sizes see n these

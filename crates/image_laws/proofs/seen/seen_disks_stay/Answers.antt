@@ -1,5 +1,0 @@
-use Rattle.image_laws.proofs.SeenDisks.{seen_stays}
-use Rattle.image_laws.proofs.seen.seen_disks_stay.Goals as goal
-
-pub returns : goal.returns
-returns c = λ sizes see now n these alike. seen_stays sizes see now n these alike

@@ -1,5 +1,0 @@
-use Rattle.image_laws.proofs.SeenDisks.{seen_put}
-use Rattle.image_laws.proofs.seen.seen_puts_are_puts.Goals as goal
-
-pub returns : goal.returns
-returns c = λ sizes see now n b these put. seen_put sizes see now n b these put

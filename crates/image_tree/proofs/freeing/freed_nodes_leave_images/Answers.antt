@@ -1,0 +1,5 @@
+use Rattle.image_tree.proofs.Freed.{freed_nodes_leave_images}
+use Rattle.image_tree.proofs.freeing.freed_nodes_leave_images.Goals as goal
+
+pub returns : goal.returns
+returns c = freed_nodes_leave_images

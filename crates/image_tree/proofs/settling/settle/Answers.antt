@@ -1,0 +1,44 @@
+use Rattle.std.proofs.Common.{◌≡◌, ◌≢◌, ◌∙◌, ℕ, true, false, List, ap}
+use Rattle.std.specs.List.{All}
+use Rattle.block_device.specs.Blocks.{block_at}
+use Rattle.fs_layout.specs.Recovered.{recovered, sizes_of, IsOutsideLog}
+use Rattle.image_tree.specs.Checks.{is_marked}
+use Rattle.image_tree.specs.Inodes.{numbers_by}
+use Rattle.image_tree.specs.Shape.{is_orphan}
+use Rattle.image_tree.proofs.Views.{trees_see_recovered}
+use Rattle.image_tree.proofs.Puts.{on_ok, on_ok_any}
+use Rattle.image_tree.proofs.Reclaims.{freed_seen, named_seen, well_seen}
+use Rattle.image_tree.proofs.settling.settle.Goals as goal
+
+pub returns-in_err-install-clause-well : goal.returns-in_err-install-clause-well
+returns-in_err-install-clause-well g c =
+    well_seen (g.D.Device.contents c.args.device.now) (g.D.Device.contents c.install.new.device) c.install.ensures.view c.requires.well
+
+pub returns-in_err-install-clause-tree : goal.returns-in_err-install-clause-tree
+returns-in_err-install-clause-tree g c =
+    trees_see_recovered (g.D.Device.contents c.args.device.now) (g.D.Device.contents c.install.new.device) c.install.ensures.view c.requires.well
+
+pub reclaim-requires-clause-well : goal.reclaim-requires-clause-well
+reclaim-requires-clause-well g c =
+    well_seen (g.D.Device.contents c.args.device.now) (g.D.Device.contents c.install.new.device) c.install.ensures.view c.requires.well
+
+pub returns-clause-tree : goal.returns-clause-tree
+returns-clause-tree g c =
+    c.reclaim.ensures.tree ∙ trees_see_recovered (g.D.Device.contents c.args.device.now) (g.D.Device.contents c.install.new.device) c.install.ensures.view c.requires.well
+
+pub returns-clause-freed : goal.returns-clause-freed
+returns-clause-freed g c =
+    let d : List (List ℕ) = g.D.Device.contents c.args.device.now in
+    let e : List (List ℕ) = g.D.Device.contents c.install.new.device in
+    let n : List (List ℕ) = g.D.Device.contents c.reclaim.new.device in
+    on_ok c.reclaim.result ((i : ℕ) → is_orphan e i ≡ true → All (λ b. b ≢ 0 → is_marked n b ≡ false) (numbers_by e i)) ((i : ℕ) → is_orphan d i ≡ true → All (λ b. b ≢ 0 → is_marked n b ≡ false) (numbers_by d i))
+    (λ freed. freed_seen d e c.install.ensures.view c.requires.well n freed) c.reclaim.ensures.freed
+
+pub returns-clause-home : goal.returns-clause-home
+returns-clause-home g c = λ all.
+    let d : List (List ℕ) = g.D.Device.contents c.args.device.now in
+    let e : List (List ℕ) = g.D.Device.contents c.install.new.device in
+    let n : List (List ℕ) = g.D.Device.contents c.reclaim.new.device in
+    let left : n ≡ e = c.reclaim.ensures.same (named_seen d e c.install.ensures.view c.requires.well all) in
+    on_ok_any c.reclaim.result ((b : ℕ) → IsOutsideLog (sizes_of d) b → block_at n b ≡ recovered d b)
+    (λ b out. ap (λ (disk : List (List ℕ)). block_at disk b) left ∙ c.in_ok-install.ensures.home b out)

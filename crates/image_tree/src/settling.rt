@@ -1,0 +1,43 @@
+//! What is done with a disk before it is used: recovery, and then the freeing of nodes without a name.
+ghost use Rattle.std.specs.Prelude.{◌≡◌, ◌≢◌, ◌<◌, ◌≤◌, ℕ, [], true, false, All, OnOk};
+ghost use Rattle.block_device.specs.Blocks.{block_at, faults_after};
+ghost use Rattle.block_device.specs.Calls.{ComesByCalls};
+ghost use Rattle.fs_layout.specs.Recovered.{logged, recovered, sizes_of, IsOutsideLog};
+ghost use Rattle.image_tree.specs.Checks.{is_marked};
+ghost use Rattle.image_tree.specs.Damage.{IsWellFormed};
+ghost use Rattle.image_tree.specs.Inodes.{numbers_by};
+ghost use Rattle.image_tree.specs.Shape.{is_orphan};
+ghost use Rattle.image_tree.specs.Trees.{tree_in};
+ghost use Rattle.image_tree.specs.Freeing.{AreNamed};
+
+use crate::freeing::reclaim;
+use crate::putting::install;
+use block_device::{Device, Fault};
+use fs_layout::Super;
+
+/// Recovers a well-formed image, and then frees each node with count 0, as [`reclaim`] does. It takes no memory.
+///
+/// Wherever it stops, also in the middle of a write, the image is well formed, with the same tree, and it may be run again.
+pub fn settle<D: Device>(device: &mut D, sizes: Super) -> Result<(), Fault>
+    requires well { IsWellFormed (D.contents device.old) }
+    requires sizes { sizes ≡ sizes_of (D.contents device.old) }
+    ensures faults { D.failures device.new ≡ faults_after result (D.failures device.old) }
+    ensures calls { ComesByCalls D.Called device.old device.new }
+
+    // Whatever it answers, the image stays well formed, with the same tree.
+    ensures sizes { sizes_of (D.contents device.new) ≡ sizes_of (D.contents device.old) }
+    ensures well { IsWellFormed (D.contents device.new) }
+    ensures tree { tree_in (D.contents device.new) ≡ tree_in (D.contents device.old) }
+
+    // Afterwards each node has a name, the blocks of those that had none are free, and the log is empty. Where each had one,
+    // the disk is the recovered one.
+    ensures named { OnOk result (AreNamed (D.contents device.new)) }
+    ensures freed { OnOk result ((i : ℕ) → is_orphan (D.contents device.old) i ≡ true
+        → All (λ b. b ≢ 0 → is_marked (D.contents device.new) b ≡ false) (numbers_by (D.contents device.old) i)) }
+    ensures empty { OnOk result (logged (D.contents device.new) ≡ []) }
+    ensures home { AreNamed (D.contents device.old) → OnOk result ((b : ℕ) → IsOutsideLog (sizes_of (D.contents device.old)) b
+        → block_at (D.contents device.new) b ≡ recovered (D.contents device.old) b) }
+{
+    install(device)?;
+    reclaim(device, sizes)
+}

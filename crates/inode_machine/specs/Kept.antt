@@ -1,0 +1,114 @@
+-- The history of a run as a function of it: the list that is kept beside the events, to which each event appends.
+use Rattle.std.specs.Prelude.{ℕ, Bool, true, false, List, [], ◌∷◌, Option, Some, None}
+use Rattle.plain_tree.specs.declared.answer.Reply.{Reply}
+use Rattle.plain_tree.specs.declared.call.Call.{Call}
+use Rattle.plain_tree.specs.declared.trace.Placed.{Placed}
+use Rattle.plain_tree.specs.Tree.{put, settle, tree_of}
+use Rattle.plain_tree.specs.TreeData.{TreeData}
+use Rattle.plain_tree.specs.Explains.{Chain, Explains, no_calls, trace_of}
+use Rattle.atomic_programs.specs.Prog.{Prog, Ret, Do, Did, Waits, Ran, Stops}
+use Rattle.atomic_programs.specs.Calls.{Event, Start, Step, Run, State, Outcome, Started, Refused, WasIdle, DidWait, DidRun, DidEnd, DidStop, WasStopped, fresh, makes, next, run}
+use Rattle.tree_laws.specs.Moves.{Deed, Move, Stage, Step as MoveStep}
+use Rattle.tree_laws.specs.History.{History, starts, passes}
+use Rattle.tree_laws.specs.History.HartStanding.{Free}
+use Rattle.tree_laws.specs.Runs as runs
+use Rattle.tree_laws.specs.Runs.{finishes, moves_on}
+use Rattle.inode_machine.specs.Marks.{made_by}
+use Rattle.inode_machine.specs.MoveCalls.{MoveMachine, NoneClimbs, RunsFrom, shows, theory_of}
+
+-- ---- beside a run of the theory
+
+abbrev pub nothing_yet : History
+nothing_yet = record { list = []; trace = no_calls; calls = λ h. Free }
+
+module _ (m : MoveMachine) where
+  -- what an event places: as its hart's program ran its operation with this answer
+  abbrev pub placed_tried : {A : Type 0} → (A → List (ℕ × MoveStep)) → Did A m.World → List (ℕ × MoveStep)
+  placed_tried ps Waits = []
+  placed_tried ps (Ran a w) = ps a
+  placed_tried ps (Stops w) = []
+
+  abbrev pub placed_prog : ℕ → m.Outside → m.World → Prog m.Op m.Answer m.Mark Reply → List (ℕ × MoveStep)
+  placed_prog h x w (Ret r) = []
+  placed_prog h x w (Do op mark k) = placed_tried (λ a. m.places h op a (mark a) w) (m.go h x op mark w)
+
+  abbrev pub placed_unless : ℕ → m.Outside → m.World → Bool → Prog m.Op m.Answer m.Mark Reply → List (ℕ × MoveStep)
+  placed_unless h x w true p = []
+  placed_unless h x w false p = placed_prog h x w p
+
+  abbrev pub placed_run : ℕ → m.Outside → State (theory_of m) → Option (Run (theory_of m)) → List (ℕ × MoveStep)
+  placed_run h x s None = []
+  placed_run h x s (Some r) = placed_unless h x s.world s.stopped r.prog
+
+  abbrev pub placed : Event Call m.Outside → State (theory_of m) → List (ℕ × MoveStep)
+  placed (Start h call) s = []
+  placed (Step h x) s = placed_run h x s (s.running h)
+
+  -- what its move tells; it places one at most
+  abbrev pub told_of : List (ℕ × MoveStep) → Option Deed
+  told_of [] = None
+  told_of (p ∷ ps) = p.1.told
+
+  -- an event that came to this, and led from this stage to that one, with what it tells: a step that ran is written, with the walks that
+  -- are lost by it
+  abbrev pub kept_start : {Did Refusal : Type 0} → ℕ → Call → Outcome Did Reply Refusal → History → History
+  kept_start h call Started b = starts b h call
+  kept_start h call (Refused why) b = passes b
+  kept_start h call WasIdle b = passes b
+  kept_start h call DidWait b = passes b
+  kept_start h call (DidRun did) b = passes b
+  kept_start h call (DidEnd reply) b = passes b
+  kept_start h call DidStop b = passes b
+  kept_start h call WasStopped b = passes b
+
+  abbrev pub kept_step : {Did Refusal : Type 0} → ℕ → Outcome Did Reply Refusal → Stage → Stage → Option Deed → History → History
+  kept_step h Started n n' d b = passes b
+  kept_step h (Refused why) n n' d b = passes b
+  kept_step h WasIdle n n' d b = passes b
+  kept_step h DidWait n n' d b = passes b
+  kept_step h (DidRun did) n n' d b = finishes None h (moves_on n n' h d b)
+  kept_step h (DidEnd reply) n n' d b = finishes (Some reply) h (moves_on n n' h d b)
+  kept_step h DidStop n n' d b = passes b
+  kept_step h WasStopped n n' d b = passes b
+
+  abbrev pub kept_by : {Did Refusal : Type 0} → Event Call m.Outside → Outcome Did Reply Refusal → Stage → Stage → Option Deed → History
+      → History
+  kept_by (Start h call) came n n' d b = kept_start h call came b
+  kept_by (Step h x) came n n' d b = kept_step h came n n' d b
+
+  -- one event more, from s
+  abbrev pub kept_on : Event Call m.Outside → State (theory_of m) → History → History
+  kept_on e s b = kept_by e (makes (theory_of m) e s).came (m.tree s.world) (m.tree (next (theory_of m) e s).world) (told_of (placed e s)) b
+
+  abbrev pub kept : List (Event Call m.Outside) → State (theory_of m) → History → History
+  kept [] s b = b
+  kept (e ∷ es) s b = kept es (next (theory_of m) e s) (kept_on e s b)
+
+  -- The list: of these events, from this world.
+  abbrev pub history_of : m.World → List (Event Call m.Outside) → List Placed
+  history_of w events = (kept events (fresh (theory_of m) w) nothing_yet).list
+
+  -- The list explains the run, and leads to its tree; and its entries before an event are the list of the events before that.
+  pub record IsTheHistory (base : TreeData) (w : m.World) (events : List (Event Call m.Outside)) : Type 0 where
+    pub explains : Explains base (trace_of (shows m events (fresh (theory_of m) w))) (history_of w events)
+    pub leads : Chain (tree_of base) (history_of w events) (m.tree (run (theory_of m) events (fresh (theory_of m) w)).world).tree
+
+  -- where no path climbs
+  abbrev pub RunsHaveTheHistory : Type 0
+  RunsHaveTheHistory = (base : TreeData) (w : m.World) (events : List (Event Call m.Outside)) → RunsFrom m base w events → NoneClimbs events
+      → IsTheHistory base w events
+
+-- ---- in code: the same, of a tree that is kept with its walks
+
+-- a move, as the machine of whole inodes makes it of a settled tree; id: of a new open file
+abbrev pub told_by_move : Stage → ℕ → ℕ → Move → Option Deed
+told_by_move m h id v = (made_by m.tree h id (m.walk h) v).told
+
+abbrev pub stage_by : Stage → ℕ → ℕ → Move → Stage
+stage_by m h id v =
+    record { tree = settle (made_by m.tree h id (m.walk h) v).all; walk = put m.walk h (made_by m.tree h id (m.walk h) v).walk }
+
+-- a hart's event with this move: what code keeps goes on so
+abbrev pub moved : runs.World → ℕ → ℕ → Option Move → Option Reply → runs.World
+moved w h id None r = runs.stepped w h None w.stage r
+moved w h id (Some v) r = runs.stepped w h (told_by_move w.stage h id v) (stage_by w.stage h id v) r

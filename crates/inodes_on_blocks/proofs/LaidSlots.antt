@@ -1,0 +1,177 @@
+-- A directory's slot that is put, or one more behind its last.
+use Rattle.std.proofs.Common.{◌≡◌, ◌≢◌, ℕ, zero, suc, ◌+◌, ◌*◌, ◌/◌, ◌%◌, ◌<◌, ◌≤◌, inl, inr, refl, sym, ◌∙◌, ap, subst, arith, List, [], ◌∷◌, ◌++◌, length, length-append, length-take, length-drop, take, drop, map, append_assoc, Option, Some}
+use Rattle.std.specs.Prelude.{max}
+use Rattle.std.proofs.lemmas.List.{take_at, take_all, drop_all, take-append-le, drop-append-le}
+use Rattle.fs_layout.specs.declared.inode.Dinode.{Dinode}
+use Rattle.fs_layout.specs.declared.entry.Dirent.{Dirent}
+use Rattle.fs_layout.specs.Entry.{dirent_at}
+use Rattle.fs_layout.specs.Recovered.{recovered}
+use Rattle.fs_layout.proofs.Entries.{reads_back, others_stay}
+use Rattle.plain_tree.specs.declared.node.Slot.{Slot}
+use Rattle.plain_tree.specs.declared.node.Node.{Node}
+use Rattle.plain_tree.specs.declared.node.Kind.TheVariants.{Directory}
+use Rattle.image_tree.specs.Inodes.{numbers_of, block_number, content_block, slot_at, first_slots, slots_of}
+use Rattle.image_tree.specs.Checks.{largest_size}
+use Rattle.tree_laws.proofs.Maps.{same_or}
+use Rattle.inodes_on_blocks.specs.Holds.{entry_of}
+use Rattle.inodes_on_blocks.specs.Puts.{IsSlotPut, IsLaidOut, slots_with, Becomes}
+use Rattle.inodes_on_blocks.proofs.ImageNodes.{length_slots}
+use Rattle.inodes_on_blocks.proofs.HeldFrames.{block_of}
+use Rattle.inodes_on_blocks.proofs.LaidInodes.{addrs_alone, block_alone}
+use Rattle.inodes_on_blocks.proofs.LaidContent.{this_block, other_block, becomes}
+
+-- ---- slots in a row
+
+slot_is : (disk : List (List ℕ)) (d : Dinode) (s : ℕ) → slot_at disk d s ≡ dirent_at (s % 64) (content_block disk d (s / 64))
+unfolding slot_at
+slot_is disk d s = refl
+
+one_more : (disk : List (List ℕ)) (d : Dinode) (n : ℕ) → first_slots disk d (suc n) ≡ first_slots disk d n ++ slot_at disk d n ∷ []
+unfolding first_slots
+one_more disk d n = refl
+
+-- the same slots of two inodes
+slots_by : (disk new : List (List ℕ)) (d e : Dinode) (n : ℕ) → ((s : ℕ) → s < n → slot_at new e s ≡ slot_at disk d s) → first_slots new e n ≡ first_slots disk d n
+unfolding first_slots
+slots_by disk new d e zero same = refl
+slots_by disk new d e (suc n) same =
+    ap (λ (xs : List (Option Dirent)). xs ++ slot_at new e n ∷ []) (slots_by disk new d e n (λ s l. same s (omega arith)))
+    ∙ ap (λ (x : Option Dirent). first_slots disk d n ++ x ∷ []) (same n (omega arith))
+
+-- a list with one element put, or one more behind the last
+abbrev with_one : {X : Type 0} → List X → ℕ → X → List X
+with_one xs s x = take s xs ++ x ∷ drop (suc s) xs
+
+map_one : (slots : List (Option Slot)) (s : ℕ) (slot : Option Slot) → map entry_of (with_one slots s slot) ≡ with_one (map entry_of slots) s (entry_of slot)
+map_one [] zero slot = refl
+map_one [] (suc s) slot = refl
+map_one (y ∷ slots) zero slot = refl
+map_one (y ∷ slots) (suc s) slot = ap (λ (xs : List (Option Dirent)). entry_of y ∷ xs) (map_one slots s slot)
+
+length_one : (slots : List (Option Slot)) (s : ℕ) (slot : Option Slot) → s ≤ length slots → length (with_one slots s slot) ≡ max (length slots) (suc s)
+length_one slots s slot l =
+    omega (arith, length-append (take s slots) (slot ∷ drop (suc s) slots), length-take s slots, length-drop (suc s) slots)
+
+module _ (disk new : List (List ℕ)) (d : Dinode) (s : ℕ) (x : Option Dirent) (this : slot_at new d s ≡ x) (others : (q : ℕ) → q ≢ s → slot_at new d q ≡ slot_at disk d q) where
+  -- the last slot
+  slots_end : first_slots new d (suc s) ≡ with_one (first_slots disk d (suc s)) s x
+  slots_end =
+      one_more new d s
+      ∙ ap (λ (xs : List (Option Dirent)). xs ++ slot_at new d s ∷ []) (slots_by disk new d d s (λ q m. others q (λ z. absurd (omega (arith, z, m)))))
+      ∙ ap (λ (y : Option Dirent). first_slots disk d s ++ y ∷ []) this
+      ∙ sym (ap (λ (xs : List (Option Dirent)). with_one xs s x) (one_more disk d s) ∙ at_end (first_slots disk d s) (slot_at disk d s) (length_slots disk d s))
+    where
+      at_end : (xs : List (Option Dirent)) (y : Option Dirent) → length xs ≡ s → with_one (xs ++ y ∷ []) s x ≡ xs ++ x ∷ []
+      at_end xs y long =
+          ap (λ (zs : List (Option Dirent)). zs ++ x ∷ drop (suc s) (xs ++ y ∷ [])) (take_at xs (y ∷ []) s long)
+          ∙ ap (λ (zs : List (Option Dirent)). xs ++ x ∷ zs) (drop_all (suc s) (xs ++ y ∷ []) (omega (arith, length-append xs (y ∷ []), long)))
+
+  -- one before it
+  one_before : (xs : List (Option Dirent)) (y : Option Dirent) → s < length xs → with_one xs s x ++ y ∷ [] ≡ with_one (xs ++ y ∷ []) s x
+  one_before xs y l =
+      append_assoc (take s xs) (x ∷ drop (suc s) xs) (y ∷ [])
+      ∙ ap (λ (zs : List (Option Dirent)). zs ++ x ∷ (drop (suc s) xs ++ y ∷ [])) (sym (take-append-le s xs (y ∷ []) (omega arith)))
+      ∙ ap (λ (zs : List (Option Dirent)). take s (xs ++ y ∷ []) ++ x ∷ zs) (sym (drop-append-le (suc s) xs (y ∷ []) (omega arith)))
+
+  slots_then : (n : ℕ) → s < n → first_slots new d n ≡ with_one (first_slots disk d n) s x
+  slots_then zero l = absurd (omega arith)
+  slots_then (suc n) l = elim (same_or s n) [
+    | inl e ↦ subst (λ (m : ℕ). first_slots new d (suc m) ≡ with_one (first_slots disk d (suc m)) s x) e slots_end
+    | inr ne ↦
+        one_more new d n
+        ∙ ap (λ (xs : List (Option Dirent)). xs ++ slot_at new d n ∷ []) (slots_then n (omega (arith, l, ne)))
+        ∙ ap (λ (y : Option Dirent). with_one (first_slots disk d n) s x ++ y ∷ []) (others n (λ e. ne (sym e)))
+        ∙ one_before (first_slots disk d n) (slot_at disk d n) (omega (arith, l, ne, length_slots disk d n))
+        ∙ sym (ap (λ (xs : List (Option Dirent)). with_one xs s x) (one_more disk d n))
+  ]
+
+-- ---- the directory
+
+-- the slots of one that has this many and one more, with that one put
+with_last : (xs ys : List (Option Dirent)) (s : ℕ) (x : Option Dirent) → length ys ≡ s → take s xs ≡ ys → length xs ≡ suc s → with_one xs s x ≡ with_one ys s x
+with_last xs ys s x long front many =
+    ap (λ (zs : List (Option Dirent)). zs ++ x ∷ drop (suc s) xs) (front ∙ sym (take_all s ys (omega (arith, long))))
+    ∙ ap (λ (zs : List (Option Dirent)). take s ys ++ x ∷ zs) (drop_all (suc s) xs (omega (arith, many)) ∙ sym (drop_all (suc s) ys (omega (arith, long))))
+
+module _ (disk new : List (List ℕ)) (owner : ℕ → ℕ) (i s count : ℕ) (slots : List (Option Slot)) (slot : Option Slot) (entry : Dirent) (d : Dinode)
+    (h : IsLaidOut disk owner i d (record { count = count; kind = Directory slots })) (past : s ≤ length slots) (limit : 16 * suc s ≤ largest_size)
+    (same : entry_of slot ≡ Some entry) (put : IsSlotPut disk new d s entry) where
+  abbrev was : Node
+  was = record { count = count; kind = Directory slots }
+
+  abbrev now : Node
+  now = record { count = count; kind = Directory (slots_with slots s slot) }
+
+  abbrev e : Dinode
+  e = record d { size = max d.size (16 * suc s) }
+
+  abbrev b : ℕ
+  b = block_number (numbers_of disk d) (s / 64)
+
+  block_now : content_block new d (s / 64) ≡ recovered new b
+  block_now = this_block disk new owner i (s / 64) d was h put.some put.block
+
+  this_slot : slot_at new d s ≡ Some entry
+  this_slot = slot_is new d s ∙ ap (dirent_at (s % 64)) block_now ∙ reads_back (recovered disk b) (recovered new b) (s % 64) entry put.room put.spelled put.written
+
+  other_slot : (q : ℕ) → q ≢ s → slot_at new d q ≡ slot_at disk d q
+  other_slot q ne = elim (same_or (q / 64) (s / 64)) [
+    | inr apart ↦ slot_is new d q ∙ ap (dirent_at (q % 64)) (other_block disk new owner i (s / 64) d was h put.some put.block (q / 64) apart) ∙ sym (slot_is disk d q)
+    | inl same ↦
+        slot_is new d q
+        ∙ ap (λ (k : ℕ). dirent_at (q % 64) (content_block new d k)) same
+        ∙ ap (dirent_at (q % 64)) block_now
+        ∙ others_stay (recovered disk b) (recovered new b) (s % 64) (q % 64) entry put.room put.spelled (λ r. ne (omega (arith, same, r))) put.written
+        ∙ ap (dirent_at (q % 64)) (sym (block_of disk d (s / 64)))
+        ∙ ap (λ (k : ℕ). dirent_at (q % 64) (content_block disk d k)) (sym same)
+        ∙ sym (slot_is disk d q)
+  ]
+
+  held : first_slots disk d (length slots) ≡ map entry_of slots
+  held = let size = h.inode.size in let many : length slots ≡ d.size / 16 = omega (arith, size) in ap (first_slots disk d) many ∙ h.content
+
+  -- within the slots, and behind them
+  slots_now : first_slots new d (max (length slots) (suc s)) ≡ with_one (map entry_of slots) s (Some entry)
+  slots_now = elim (same_or s (length slots)) [
+    | inr ne ↦
+        let many : max (length slots) (suc s) ≡ length slots = omega (arith, past, ne) in
+        ap (first_slots new d) many
+        ∙ slots_then disk new d s (Some entry) this_slot other_slot (length slots) (omega (arith, past, ne))
+        ∙ ap (λ (xs : List (Option Dirent)). with_one xs s (Some entry)) held
+    | inl is ↦
+        let many : max (length slots) (suc s) ≡ suc s = omega (arith, is) in
+        let front : first_slots disk d s ≡ map entry_of slots = ap (first_slots disk d) is ∙ held in
+        let long : length (first_slots disk d s) ≡ s = length_slots disk d s in
+        ap (first_slots new d) many
+        ∙ slots_then disk new d s (Some entry) this_slot other_slot (suc s) (omega arith)
+        ∙ with_last (first_slots disk d (suc s)) (map entry_of slots) s (Some entry) (ap length (sym front) ∙ long)
+        (ap (take s) (one_more disk d s) ∙ take_at (first_slots disk d s) (slot_at disk d s ∷ []) s long ∙ front) (length_slots disk d (suc s))
+  ]
+
+  content_now : slots_of new e ≡ map entry_of (slots_with slots s slot)
+  content_now =
+      let size = h.inode.size in
+      let many : e.size / 16 ≡ max (length slots) (suc s) = omega (arith, size) in
+      ap (first_slots new e) many
+      ∙ slots_by new new d e (max (length slots) (suc s)) (λ q _. slot_is new e q ∙ ap (dirent_at (q % 64)) (block_alone new d e refl (q / 64)) ∙ sym (slot_is new d q))
+      ∙ slots_now
+      ∙ ap (λ (x : Option Dirent). with_one (map entry_of slots) s x) (sym same)
+      ∙ sym (map_one slots s slot)
+
+  there : (k : ℕ) → 1024 * k < max d.size (16 * suc s) → block_number (numbers_of disk d) k ≢ 0
+  there k l = elim (same_or k (s / 64)) [
+    | inl is ↦ subst (λ (n : ℕ). block_number (numbers_of disk d) n ≢ 0) (sym is) put.some
+    | inr ne ↦ let size = h.inode.size in h.room.there k (omega (arith, size, l, past, ne))
+  ]
+
+  pub slot_laid : Becomes disk new owner owner i d e now
+  slot_laid =
+      let is = h.inode in
+      let size = is.size in
+      becomes disk new owner i (s / 64) d was h put.some put.block e now refl
+      (record { kind = is.kind; count = is.count; size = omega (arith, size, length_one slots s slot past); device = tt })
+      content_now
+      (record {
+        limit = (let room = h.room.limit in omega (arith, room, limit));
+        there = λ k l. subst (λ (xs : List ℕ). block_number xs k ≢ 0) (sym (addrs_alone disk d e refl)) (there k l);
+      })

@@ -1,0 +1,5 @@
+use Rattle.inodes_on_blocks.proofs.Gives.{directories_are_given}
+use Rattle.inodes_on_blocks.proofs.directories_are_given.Goals as goal
+
+pub returns : goal.returns
+returns c = directories_are_given

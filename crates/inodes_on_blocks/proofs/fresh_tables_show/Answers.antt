@@ -1,0 +1,5 @@
+use Rattle.inodes_on_blocks.proofs.Fresh.{fresh_tables_show}
+use Rattle.inodes_on_blocks.proofs.fresh_tables_show.Goals as goal
+
+pub returns : goal.returns
+returns c = fresh_tables_show

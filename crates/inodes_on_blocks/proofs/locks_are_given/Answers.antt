@@ -1,0 +1,5 @@
+use Rattle.inodes_on_blocks.proofs.Locks.{locks_are_given}
+use Rattle.inodes_on_blocks.proofs.locks_are_given.Goals as goal
+
+pub returns : goal.returns
+returns c = locks_are_given

@@ -1,0 +1,5 @@
+use Rattle.inodes_on_blocks.proofs.LaidNumbers.{table_named}
+use Rattle.inodes_on_blocks.proofs.puts.tables_can_be_set.Goals as goal
+
+pub returns : goal.returns
+returns c = λ disk owner i b d v h within free spare zeros. table_named disk owner i b d v h within free spare zeros

@@ -1,0 +1,5 @@
+use Rattle.inodes_on_blocks.proofs.Drops.{references_are_dropped}
+use Rattle.inodes_on_blocks.proofs.references_are_dropped.Goals as goal
+
+pub returns : goal.returns
+returns c = references_are_dropped

@@ -1,0 +1,5 @@
+use Rattle.inodes_on_blocks.proofs.References.{starts_are_counted}
+use Rattle.inodes_on_blocks.proofs.starts_are_counted.Goals as goal
+
+pub returns : goal.returns
+returns c = starts_are_counted

@@ -1,5 +1,0 @@
-use Rattle.inodes_on_tables.proofs.Gives.{children_are_released}
-use Rattle.inodes_on_tables.proofs.children_are_released.Goals as goal
-
-pub returns : goal.returns
-returns c = children_are_released

@@ -1,5 +1,0 @@
-use Rattle.inodes_on_tables.proofs.Shuts.{descriptors_are_shut}
-use Rattle.inodes_on_tables.proofs.descriptors_are_shut.Goals as goal
-
-pub returns : goal.returns
-returns c = descriptors_are_shut

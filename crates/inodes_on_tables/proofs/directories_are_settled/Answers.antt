@@ -1,5 +1,0 @@
-use Rattle.inodes_on_tables.proofs.Named.{directories_are_settled}
-use Rattle.inodes_on_tables.proofs.directories_are_settled.Goals as goal
-
-pub returns : goal.returns
-returns c = directories_are_settled

@@ -1,5 +1,0 @@
-use Rattle.inodes_on_tables.proofs.References.{directories_are_starts}
-use Rattle.inodes_on_tables.proofs.directories_are_starts.Goals as goal
-
-pub returns : goal.returns
-returns c = directories_are_starts

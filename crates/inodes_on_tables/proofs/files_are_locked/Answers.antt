@@ -1,5 +1,0 @@
-use Rattle.inodes_on_tables.proofs.Named.{files_are_locked}
-use Rattle.inodes_on_tables.proofs.files_are_locked.Goals as goal
-
-pub returns : goal.returns
-returns c = files_are_locked

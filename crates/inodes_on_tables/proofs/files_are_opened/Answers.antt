@@ -1,5 +1,0 @@
-use Rattle.inodes_on_tables.proofs.Slots.{files_are_opened}
-use Rattle.inodes_on_tables.proofs.files_are_opened.Goals as goal
-
-pub returns : goal.returns
-returns c = files_are_opened

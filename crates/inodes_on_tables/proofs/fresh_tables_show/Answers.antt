@@ -1,5 +1,0 @@
-use Rattle.inodes_on_tables.proofs.Fresh.{fresh_tables_show}
-use Rattle.inodes_on_tables.proofs.fresh_tables_show.Goals as goal
-
-pub returns : goal.returns
-returns c = fresh_tables_show

@@ -1,5 +1,0 @@
-use Rattle.inodes_on_tables.proofs.Named.{offsets_are_moved}
-use Rattle.inodes_on_tables.proofs.offsets_are_moved.Goals as goal
-
-pub returns : goal.returns
-returns c = offsets_are_moved

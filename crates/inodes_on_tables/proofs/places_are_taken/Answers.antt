@@ -1,5 +1,0 @@
-use Rattle.inodes_on_tables.proofs.Slots.{places_are_taken}
-use Rattle.inodes_on_tables.proofs.places_are_taken.Goals as goal
-
-pub returns : goal.returns
-returns c = places_are_taken

@@ -1,5 +1,0 @@
-use Rattle.inodes_on_tables.proofs.Drops.{references_are_dropped}
-use Rattle.inodes_on_tables.proofs.references_are_dropped.Goals as goal
-
-pub returns : goal.returns
-returns c = references_are_dropped

@@ -1,5 +1,0 @@
-use Rattle.inodes_on_tables.proofs.References.{starts_are_counted}
-use Rattle.inodes_on_tables.proofs.starts_are_counted.Goals as goal
-
-pub returns : goal.returns
-returns c = starts_are_counted

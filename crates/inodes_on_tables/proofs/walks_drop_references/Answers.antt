@@ -1,5 +1,0 @@
-use Rattle.inodes_on_tables.proofs.Drops.{walks_drop_references}
-use Rattle.inodes_on_tables.proofs.walks_drop_references.Goals as goal
-
-pub returns : goal.returns
-returns c = walks_drop_references

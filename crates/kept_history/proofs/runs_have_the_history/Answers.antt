@@ -1,7 +1,0 @@
-use Rattle.kept_history.proofs.Moving.{moving}
-use Rattle.inode_machine.specs.Histories.{covered}
-use Rattle.kept_history.proofs.Kept.{moves_history}
-use Rattle.kept_history.proofs.runs_have_the_history.Goals as goal
-
-pub returns : goal.returns
-returns c base w events r calm = moves_history covered moving base w events r calm

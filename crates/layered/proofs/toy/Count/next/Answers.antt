@@ -1,5 +1,0 @@
-use Rattle.layered.proofs.Counting.{goes_down}
-use Rattle.layered.proofs.toy.Count.next.Goals as goal
-
-pub returns-else-self-eq0 : goal.returns-else-self-eq0
-returns-else-self-eq0 c = goes_down c.args.self.left c.args.heard c.if-self-eq0.false

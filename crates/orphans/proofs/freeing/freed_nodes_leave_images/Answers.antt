@@ -1,5 +1,0 @@
-use Rattle.orphans.proofs.Freed.{freed_nodes_leave_images}
-use Rattle.orphans.proofs.freeing.freed_nodes_leave_images.Goals as goal
-
-pub returns : goal.returns
-returns c = freed_nodes_leave_images

@@ -1,0 +1,39 @@
+-- No call takes more than a million steps.
+use Rattle.std.specs.Prelude.{ℕ, ◌≤◌, List}
+use Rattle.fs_layout.specs.Recovered.{sizes_of}
+use Rattle.plain_tree.specs.declared.call.Call.{Call}
+use Rattle.atomic_programs.specs.Calls.{Event as EventOf, AllHonest, fresh, outcomes}
+use Rattle.fs_machine.specs.LogPart.{Outside}
+use Rattle.inode_machine.specs.Programs.{limit}
+use Rattle.inodes_on_blocks.specs.Mounted.{IsMountable}
+use Rattle.calls_on_blocks.specs.History.{first}
+use Rattle.calls_on_blocks.specs.Theory.{block_calls}
+use Rattle.hart_core.specs.declared.events.Came.{Came}
+use Rattle.hart_core.specs.declared.events.Event.{Event}
+use Rattle.hart_core.specs.Harts.{HartsOf}
+use Rattle.hart_core.specs.Runs.{events_of, outcomes_of, HasHistory, IsMounted}
+use Rattle.hart_core.specs.Worlds.{WorldOf}
+use Rattle.run_laws.specs.Steps.{OfEachCall}
+
+abbrev pub most_steps : ℕ
+most_steps = 1000000
+
+-- no more steps than the call's own limit, and that is no more than any call's
+abbrev pub AreFew : Call → ℕ → Type 0
+AreFew call steps = (steps ≤ limit call) × (limit call ≤ most_steps)
+
+-- Whatever happens on a mounted disk, at answers that the device may give, the steps of each call are few: also where a step found no
+-- room, where paths climb, and
+-- where the device fails at any moment.
+abbrev pub CallsTakeFewSteps : Type 0
+CallsTakeFewSteps =
+    (disk : List (List ℕ)) (failures : ℕ) (events : List (EventOf Call Outside)) → IsMountable disk
+    → AllHonest (block_calls (sizes_of disk)) events (fresh (block_calls (sizes_of disk)) (first disk failures))
+    → OfEachCall AreFew events (outcomes (block_calls (sizes_of disk)) events (fresh (block_calls (sizes_of disk)) (first disk failures)))
+
+module _ {D : Type 0} (contents : D → List (List ℕ)) (failures : D → ℕ) where
+  -- So it is in each run of this world, where it is as a mount left it.
+  abbrev pub RunsTakeFewSteps : WorldOf D → Type 0
+  RunsTakeFewSteps w =
+      (device : D) (events : List Event) (came : List Came) (new : HartsOf D) → IsMounted contents failures device w
+      → HasHistory contents failures w.sizes w.harts events came new → OfEachCall AreFew (events_of events) (outcomes_of came)

@@ -1,0 +1,18 @@
+use Rattle.std.proofs.Common.{◌≡◌, ◌++◌, refl, subst, List, ℕ}
+use Rattle.std.proofs.lemmas.List.{append_assoc}
+use Rattle.std.specs.Prelude.{codes, decimal, OnOk}
+use Rattle.std.specs.Io.KnownBytes.{Appends}
+use Rattle.plain_tree.specs.Numbers.{type_number}
+use Rattle.script.specs.Text.{stat_text, told_line}
+use Rattle.script.proofs.Appending.{tells_both}
+use Rattle.script.proofs.replies.write_stat.Goals as goal
+
+pub returns : goal.returns
+returns g c =
+    let head : List ℕ = decimal c.args.hart ++ codes " " ++ c.args.name.now ++ codes " " ++ decimal c.args.stat.now.device ++ codes " " ++ decimal c.args.stat.now.inode in
+    let rest : List ℕ = codes " " ++ decimal (type_number c.args.stat.now.kind) ++ codes " " ++ decimal c.args.stat.now.nlink ++ codes " " ++ decimal c.args.stat.now.size ++ codes "\n" in
+    let same : head ++ rest ≡ told_line c.args.hart c.args.name.now (stat_text c.args.stat.now) = simp append_assoc refl in
+    let told : OnOk c.write_state.result (Appends (g.W.Write.contents c.write_inode.new.out) (g.W.Write.contents c.write_state.new.out) rest) =
+    subst (λ kind. OnOk c.write_state.result (Appends (g.W.Write.contents c.write_inode.new.out) (g.W.Write.contents c.write_state.new.out) (codes " " ++ decimal kind ++ codes " " ++ decimal c.args.stat.now.nlink ++ codes " " ++ decimal c.args.stat.now.size ++ codes "\n"))) c.number.ensures c.write_state.ensures in
+    tells_both (g.W.Write.contents c.args.out.now) (g.W.Write.contents c.write_inode.new.out) (g.W.Write.contents c.write_state.new.out) c.write_state.result head rest (told_line c.args.hart c.args.name.now (stat_text c.args.stat.now)) same
+    c.in_ok-write_inode.ensures told

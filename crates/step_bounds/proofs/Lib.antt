@@ -1,4 +1,0 @@
-pub mod Limits
-pub mod Counts
-pub mod Bounds
-pub mod Runs

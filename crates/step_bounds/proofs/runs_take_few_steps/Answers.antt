@@ -1,5 +1,0 @@
-use Rattle.step_bounds.proofs.Runs.{runs_few}
-use Rattle.step_bounds.proofs.runs_take_few_steps.Goals as goal
-
-pub returns : goal.returns
-returns g c = runs_few g.D.Device.contents g.D.Device.failures c.args.world.now

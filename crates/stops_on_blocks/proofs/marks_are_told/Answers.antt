@@ -1,5 +1,0 @@
-use Rattle.stops_on_blocks.proofs.Told.{marks_of_mounts}
-use Rattle.stops_on_blocks.proofs.marks_are_told.Goals as goal
-
-pub returns : goal.returns
-returns c = marks_of_mounts

@@ -1,5 +1,0 @@
-use Rattle.stops_on_blocks.proofs.Beginnings.{one_hart_leaves_a_beginning}
-use Rattle.stops_on_blocks.proofs.one_hart_leaves_a_beginning.Goals as goal
-
-pub returns : goal.returns
-returns c = one_hart_leaves_a_beginning

@@ -1,0 +1,150 @@
+-- open runs with nothing in hand.
+use Rattle.std.proofs.Common.{◌≡◌, ◌≢◌, ◌≤◌, ℕ, List, [], ◌∷◌, length, Bool, true, false, Option, Some, None, refl, sym}
+use Rattle.std.specs.Prelude.{◌==◌, if◌then◌else◌}
+use Rattle.fs_layout.specs.Name.{IsName}
+use Rattle.plain_tree.specs.Steps.{creates}
+use Rattle.plain_tree.specs.Tree.{Name, elements}
+use Rattle.plain_tree.specs.declared.answer.Cause.{Cause}
+use Rattle.plain_tree.specs.declared.answer.Cause.TheVariants.{NoEntry}
+use Rattle.plain_tree.specs.declared.answer.Full.TheVariants.{Blocks, Descriptors, Directory, DiskInodes, MemInodes, OpenFiles}
+use Rattle.plain_tree.specs.declared.answer.Reply.{Reply}
+use Rattle.plain_tree.specs.declared.call.Call.TheVariants as calls
+use Rattle.plain_tree.specs.declared.step.Action.TheVariants as steps
+use Rattle.atomic_programs.specs.Prog.{Do, unmarked}
+use Rattle.fs_machine.specs.Empty.{IsEmpty}
+use Rattle.inode_machine.specs.Inodes.{OfFile, Sight, Sort, face_or, is_live_face, open_refusal}
+use Rattle.inode_machine.specs.Opening.{create_found, create_in, empties, entered_file, file_for, installed_on, installs, make_on, make_other, make_with, mends_unless_new, open_at, open_end, open_face, open_made, open_new, open_old, open_program, opened_reply, take_descriptor, truncates, unmake}
+use Rattle.inode_machine.specs.Parts.{P, Stop, failed, full, give_up, is_there, looks_where, own_step, start, stopped, tail, walk}
+use Rattle.inode_machine.specs.World as above
+use Rattle.whole_calls.specs.Wholes.{IsCall}
+use Rattle.inode_parts.specs.Expecting.{BeginsWith}
+use Rattle.inode_parts.specs.Holding.{Having, Leaves, Runs}
+use Rattle.syscalls.proofs.Names.{AllNames, path_names}
+use Rattle.syscalls.proofs.Seats.{Around, Held, InHand, Locks, Nothing, Opens, Refers, empty_in, swapped}
+use Rattle.syscalls.proofs.Holdings.{may_refer, stays, upped}
+use Rattle.syscalls.proofs.Running as running
+use Rattle.syscalls.proofs.Running.{give_opened_runs, give_up_runs, join_runs}
+use Rattle.syscalls.proofs.Walking.{all_of, fresh, from_none, in_parent_runs, look_runs, start_runs, tail_runs, take_runs, turned, walk_runs}
+use Rattle.syscalls.proofs.Changing.{claims, empties_file, enters, forgets, installs_file, refuses, stores}
+use Rattle.syscalls.proofs.Making.{one_is_few, other_number, unmakes}
+
+module _ (path : List ℕ) (flags : ℕ) where
+  abbrev R : P Reply → Having → Type 0
+  R p s = running.R path p s
+
+  abbrev From : Around → Held → Held → P Reply → Type 0
+  From t x y p = running.From path t x y p
+
+  -- ---- a descriptor for a locked inode
+
+  module _ (n : ℕ) (ns : List ℕ) where
+    ends : (fd : ℕ) → From (true, ns, None) (Opens n) Nothing (open_end path flags n ns fd)
+    ends fd = give_opened_runs path unmarked (λ _. tail ns (opened_reply path flags fd)) (true, ns, None) n Nothing tt (tail_runs path ns (opened_reply path flags fd))
+
+    module _ (sort : Sort) (mark : ℕ → Option above.Mark) (k : ℕ → P Reply) (k_runs : (fd : ℕ) → From (true, ns, None) (Opens n) Nothing (k fd)) where
+      with_slot : (there : Bool) → From (true, ns, None) (Locks n) Nothing
+          (if there then Do (above.Install (file_for n flags) sort) (installs mark) (installed_on path flags n ns k) else give_up n (tail ns (full (calls.Open path flags) OpenFiles)))
+      with_slot true = installs_file path ns n (installs mark) (installed_on path flags n ns k) (refuses path ns n (full (calls.Open path flags) Descriptors)) k_runs (file_for n flags) sort refl
+      with_slot false = refuses path ns n (full (calls.Open path flags) OpenFiles)
+
+      takes_descriptor : From (true, ns, None) (Locks n) Nothing (take_descriptor path flags n sort ns mark k)
+      unfolding Runs
+      takes_descriptor s held = (tt, λ a u e. with_slot a u (stays (true, ns, None) (Locks n) Nothing s u held e.0 e.1))
+
+    -- ---- what is there is opened
+
+    empties_if : (fd : ℕ) (b : Bool) → From (true, ns, None) (Opens n) Nothing (if b then Do (above.Empty n) (λ _. own_step (steps.Truncate fd)) (λ _. open_end path flags n ns fd) else open_end path flags n ns fd)
+    empties_if fd true = empties_file path ns n (λ _. own_step (steps.Truncate fd)) (λ _. open_end path flags n ns fd) (ends fd)
+    empties_if fd false = ends fd
+
+    opens_face : (sort : Sort) (o : Option Cause) → From (true, ns, None) (Locks n) Nothing (open_face path flags n ns sort o)
+    opens_face sort (Some c) = refuses path ns n (failed (calls.Open path flags) c)
+    opens_face sort None =
+        takes_descriptor sort (λ fd. None) (λ fd. if empties flags sort then Do (above.Empty n) (λ _. own_step (steps.Truncate fd)) (λ _. open_end path flags n ns fd) else open_end path flags n ns fd)
+        (λ fd. empties_if fd (empties flags sort))
+
+    opens_at : From (true, ns, None) (Refers n) Nothing (open_at path flags n ns)
+    opens_at =
+        take_runs path (true, ns, None) n Nothing tt unmarked (λ a. open_face path flags n ns (face_or a.face).sort (open_refusal (flags == 0) (face_or a.face).sort))
+        (λ a counted. opens_face (face_or a.face).sort (open_refusal (flags == 0) (face_or a.face).sort))
+
+    opens_made : (sort : Sort) → From (true, ns, None) (Locks n) Nothing (open_made path flags n sort ns)
+    opens_made sort = takes_descriptor sort (truncates flags) (open_end path flags n ns) ends
+
+  -- ---- a file is made
+
+  module _ (n d : ℕ) (ns : List ℕ) (ne : n ≢ d) (sort : Sort) where
+    differ : d ≢ n
+    differ e = ne (sym e)
+
+    makes_on : (a : above.EntryResult) → From (true, ns, None) (Locks d) (Locks n) (make_on path flags n sort d ns a)
+    makes_on above.InPlace =
+        let rest : P Reply = open_made path flags n sort ns in
+        give_up_runs path ns d (Locks n) differ rest (turned path (true, ns, None) (Locks n) Nothing rest (opens_made n ns sort))
+    makes_on above.NoBlock = turned path (true, ns, None) (Locks n) (Locks d) (unmake n d ns (full (calls.Open path flags) Blocks)) (unmakes path ns n d ne (full (calls.Open path flags) Blocks))
+    makes_on above.NoSlot = turned path (true, ns, None) (Locks n) (Locks d) (unmake n d ns (full (calls.Open path flags) Directory)) (unmakes path ns n d ne (full (calls.Open path flags) Directory))
+
+  module _ (d : ℕ) (e : Name) (is : IsName e) (ns : List ℕ) where
+    makes_other : (n : ℕ) → n ≢ d → From (true, ns, None) (Refers n) (Locks d) (make_other path flags d e ns n)
+    makes_other n ne =
+        let enter : Sight → P Reply = λ a. Do (above.Enter d e n) (entered_file n) (make_on path flags n (face_or a.face).sort d ns) in
+        take_runs path (true, ns, None) n (Locks d) ne unmarked (λ a. Do (above.Store n 1) unmarked (λ _. enter a))
+        (λ a counted. stores path ns n (Locks d) ne unmarked (λ _. enter a)
+        (turned path (true, ns, None) (Locks d) (Locks n) (enter a) (enters path ns d (Locks n) (λ same. ne (sym same)) e n is (entered_file n) (make_on path flags n (face_or a.face).sort d ns) (makes_on n d ns ne (face_or a.face).sort)))
+        1 one_is_few)
+
+    makes_new : (n : ℕ) (b : Bool) → (n == d) ≡ b
+        → From (true, ns, None) (Refers n) (Locks d) (if b then Do (above.Forget n) unmarked (λ _. give_up d (tail ns (full (calls.Open path flags) MemInodes))) else make_other path flags d e ns n)
+    makes_new n false other = makes_other n (other_number n d other)
+    makes_new n true same = forgets path ns n d same (tail ns (full (calls.Open path flags) MemInodes)) (tail_runs path ns (full (calls.Open path flags) MemInodes))
+
+    ups : (n : ℕ) (s u : Having) → InHand (true, ns, None) (Locks d) Nothing s → (a : Bool) → Leaves path (above.Up n) a s u
+        → R (if a then give_up d (open_at path flags n ns) else give_up d (tail ns (full (calls.Open path flags) MemInodes))) u
+    ups n s u held true left =
+        let rest : P Reply = open_at path flags n ns in
+        give_up_runs path ns d (Refers n) tt rest (turned path (true, ns, None) (Refers n) Nothing rest (opens_at n ns)) u
+        (swapped (true, ns, None) (Refers n) (Locks d) u (upped (true, ns, None) (Locks d) s u tt (swapped (true, ns, None) (Locks d) Nothing s held) (Some n) left.0 left.1))
+    ups n s u held false left =
+        refuses path ns d (full (calls.Open path flags) MemInodes) u
+        (swapped (true, ns, None) Nothing (Locks d) u (upped (true, ns, None) (Locks d) s u tt (swapped (true, ns, None) (Locks d) Nothing s held) None left.0 left.1))
+
+    creates_found : (o : Option ℕ) → From (true, ns, None) (Locks d) Nothing (create_found path flags d e ns o)
+    unfolding Runs
+    creates_found None =
+        claims path ns d mends_unless_new (make_with path flags d e ns) (λ n. makes_new n (n == d) refl) (refuses path ns d (full (calls.Open path flags) DiskInodes)) (refuses path ns d (full (calls.Open path flags) MemInodes)) OfFile
+    creates_found (Some n) = λ s held. (may_refer (true, ns, None) (Locks d) s s tt (swapped (true, ns, None) (Locks d) Nothing s held), λ a u left. ups n s u held a left)
+
+    creates_if : (o : Option ℕ) (b : Bool) → From (true, ns, None) (Locks d) Nothing (if b then create_found path flags d e ns o else give_up d (tail ns (failed (calls.Open path flags) NoEntry)))
+    creates_if o true = creates_found o
+    creates_if o false = refuses path ns d (failed (calls.Open path flags) NoEntry)
+
+    creates_in : From (true, ns, None) (Refers d) Nothing (create_in path flags d e ns)
+    creates_in =
+        look_runs path (true, ns, None) d Nothing tt (looks_where (steps.Open path flags) is_there) (λ a. if is_live_face a.face then create_found path flags d e ns a.found else give_up d (tail ns (failed (calls.Open path flags) NoEntry))) e
+        (λ a counted. creates_if a.found (is_live_face a.face))
+
+  -- ---- from an empty hand
+
+  module _ (call : IsCall (calls.Open path flags)) where
+    abbrev most : ℕ
+    most = length (elements path)
+
+    opens_old : From (false, [], None) Nothing Nothing (open_old path flags)
+    opens_old =
+        let lost : Stop → List ℕ → P Reply = λ why ns. tail ns (stopped (calls.Open path flags) why) in
+        let is_lost : (why : Stop) (ms : List ℕ) → length ms ≤ most → From (true, ms, None) Nothing Nothing (lost why ms) = λ why ms short. tail_runs path ms (stopped (calls.Open path flags) why) in
+        let go : ℕ → P Reply = λ d. walk (steps.Open path flags) d (elements path) [] (open_at path flags) lost in
+        join_runs path unmarked (λ _. start (steps.Open path flags) path [] go lost) [] Nothing Nothing
+        (start_runs path None (steps.Open path flags) lost most call.1 is_lost path go [] (fresh most)
+        (λ d. walk_runs path None (steps.Open path flags) lost most call.1 is_lost (elements path) d [] (from_none most most (all_of most)) (open_at path flags) (λ d ms short. opens_at d ms)))
+
+    opens_new : (es : List Name) → AllNames es → length es ≤ most → From (false, [], None) Nothing Nothing (open_new path flags es)
+    opens_new [] are short = in_parent_runs path (calls.Open path flags) (steps.Open path flags) (create_in path flags) most call.1 (λ d e ms is. creates_in d e is ms) [] are short
+    opens_new (e ∷ es) are short = in_parent_runs path (calls.Open path flags) (steps.Open path flags) (create_in path flags) most call.1 (λ d e ms is. creates_in d e is ms) (e ∷ es) are short
+
+    opens : (b : Bool) → From (false, [], None) Nothing Nothing (if b then open_new path flags (elements path) else open_old path flags)
+    opens true = opens_new (elements path) (path_names path call.0) (all_of most)
+    opens false = opens_old
+
+    pub open_runs : (s : Having) → IsEmpty s.hand → Runs path (BeginsWith path) (open_program path flags) s
+    open_runs s empty = opens (creates flags) s (empty_in s empty)

@@ -1,0 +1,130 @@
+-- A step that acted on the tree, as the move of a walk makes it.
+use Rattle.std.proofs.Common.{◌≡◌, ℕ, Bool, true, false, nat_lt, Option, Some, None, refl, sym, ◌∙◌, ap, subst}
+use Rattle.std.specs.Option.{option_map}
+use Rattle.plain_tree.specs.declared.answer.Cause.{Cause}
+use Rattle.plain_tree.specs.declared.call.Call.{Call}
+use Rattle.plain_tree.specs.declared.call.Call.TheVariants as calls
+use Rattle.plain_tree.specs.declared.step.Action.{Action}
+use Rattle.plain_tree.specs.declared.step.Action.TheVariants.{Open, Truncate, Read, WritePart, Find, Bump, Enter, Unbump, Unlink, Mkdir, Chdir, Dup, Close, Fstat, Inherit}
+use Rattle.plain_tree.specs.declared.step.StepAnswer.{StepAnswer}
+use Rattle.plain_tree.specs.declared.step.TreeStep.{TreeStep}
+use Rattle.plain_tree.specs.Applied.{IsAppliedAt, IsBadChoice, Outcome, applied, in_place}
+use Rattle.plain_tree.specs.Steps.{IsInPlace, IsNewNode, makes_node, path_of, place_of, refusal, refused}
+use Rattle.plain_tree.specs.Tree.{Name, Tree, parent, resolve, settle}
+use Rattle.plain_tree.specs.Widths.{hart_count}
+use Rattle.tree_laws.proofs.Maps.{and_true}
+use Rattle.tree_laws.specs.Moves as moves
+use Rattle.inode_machine.specs.Marks.{Made, act_all, act_answer, acts, own_made, refused_all}
+use Rattle.tree_histories.specs.declared.kept.Deed.{Deed}
+use Rattle.tree_histories.specs.Moving.{ActedOn, ActsSo, new_in}
+use Rattle.tree_histories.specs.Walks.{step_for}
+
+-- a step that isn't a raise changes nothing where it is refused
+pub refused_same : (t : Tree) (h : ℕ) (c : Call) (b : Bool) → refused t h (step_for c b) ≡ t
+refused_same t h (calls.Link old new) true = refl
+refused_same t h (calls.Link old new) false = refl
+refused_same t h (calls.Open path flags) b = refl
+refused_same t h (calls.Read fd buf) b = refl
+refused_same t h (calls.Write fd bytes) b = refl
+refused_same t h (calls.Unlink path) b = refl
+refused_same t h (calls.Mkdir path) b = refl
+refused_same t h (calls.Chdir path) b = refl
+refused_same t h (calls.Dup fd) b = refl
+refused_same t h (calls.Fstat fd) b = refl
+refused_same t h (calls.Close fd) b = refl
+refused_same t h (calls.Inherit child) b = refl
+
+-- what a refused step leaves, settled
+pub refused_settles : (t : Tree) (h : ℕ) (s : Action) → settle t ≡ t → refused t h s ≡ settle (refused_all t h s)
+refused_settles t h Bump q = refl
+refused_settles t h (Open path flags) q = sym q
+refused_settles t h (Truncate fd) q = sym q
+refused_settles t h (Read fd n) q = sym q
+refused_settles t h (WritePart fd b) q = sym q
+refused_settles t h (Find old) q = sym q
+refused_settles t h (Enter new) q = sym q
+refused_settles t h Unbump q = sym q
+refused_settles t h (Unlink path) q = sym q
+refused_settles t h (Mkdir path) q = sym q
+refused_settles t h (Chdir path) q = sym q
+refused_settles t h (Dup fd) q = sym q
+refused_settles t h (Close fd) q = sym q
+refused_settles t h (Fstat fd) q = sym q
+refused_settles t h (Inherit child) q = sym q
+
+-- a step in its place
+applied_place : (t : Tree) (s : TreeStep) (id : ℕ) → IsInPlace t s.hart s.action → applied t s id ≡ in_place t s (refusal t s.hart s.action) id
+applied_place t s id place =
+    let both : (nat_lt s.hart hart_count ≡ true) × (place_of t s.hart s.action ≡ true) = and_true (nat_lt s.hart hart_count) (place_of t s.hart s.action) place in
+    rw (both.0, both.1) refl
+
+-- the tree after a step and the number that is told are those of what a move makes, by the id of a new open file; and its walk is over
+pub record EndsAs (x : ℕ → Made) (d : Option Deed) (t' : Tree) : Type 0 where
+  pub id : ℕ
+  pub tree : t' ≡ settle (x id).all
+  pub told : d ≡ option_map new_in (x id).told
+  pub walk : (x id).walk ≡ None
+
+module _ (t : Tree) (h : ℕ) (s : Action) (new : ℕ) (t' : Tree) (settled : settle t ≡ t) where
+  abbrev R : Option ℕ
+  R = resolve t h (path_of s)
+
+  abbrev Q : Option (ℕ × Name)
+  Q = parent t h (path_of s)
+
+  abbrev st : TreeStep
+  st = record { hart = h; new = new; action = s }
+
+  act_tree : refused t h s ≡ t → (id : ℕ) (o : Option Cause) → (in_place t st o id).tree ≡ settle (act_all o t h s R Q new id)
+  act_tree same id None = refl
+  act_tree same id (Some k) = same ∙ sym settled
+
+  own_tree : (id : ℕ) (o : Option Cause) → o ≡ refusal t h s → (in_place t st o id).tree ≡ settle (own_made o t h s (acts t h s R Q new id)).all
+  own_tree id None is = ap (λ (z : Option Cause). settle (act_all z t h s R Q new id)) is
+  own_tree id (Some k) is = refused_settles t h s settled
+
+  tree_after : (id : ℕ) (a : StepAnswer) → IsInPlace t h s → IsAppliedAt t st id a t' → t' ≡ (in_place t st (refusal t h s) id).tree
+  tree_after id a place is = sym (ap (λ (z : Outcome). z.tree) is.is) ∙ ap (λ (z : Outcome). z.tree) (applied_place t st id place)
+
+  told_so : (d : Deed) → d.new ≡ new → (n : moves.Deed) → n.new ≡ new → ◌≡◌ {A = Option Deed} (Some d) (Some (new_in n))
+  told_so d is n so = ap (λ (i : ℕ). let x : Deed = record { new = i } in Some x) (is ∙ sym so)
+
+  never_bad : {A : Type 0} → IsBadChoice t st → (refusal t h s ≡ None → makes_node t s Q ≡ true → IsNewNode t new) → A
+  never_bad bad node = absurd (bad.bad (node bad.not_refused bad.makes))
+
+  ends_here : (d : Option Deed) → refused t h s ≡ t → IsInPlace t h s → (refusal t h s ≡ None → makes_node t s Q ≡ true → IsNewNode t new) → ActedOn t st d t'
+      → EndsAs (λ id. acts t h s R Q new id) d t'
+  ends_here None same place node x = never_bad x.0 node
+  ends_here (Some d) same place node x = record {
+    id = x.1.1.id;
+    tree = tree_after x.1.1.id x.1.0 place x.1.1.made ∙ act_tree same x.1.1.id (refusal t h s);
+    told = told_so d x.0 (record { act = record { step = s; answer = act_answer (refusal t h s) t h s R Q x.1.1.id }; new = new }) refl;
+    walk = refl;
+  }
+
+  -- a step of a walk
+  pub ends_so : (d : Option Deed) (res : Option ℕ) (par : Option (ℕ × Name)) → refused t h s ≡ t → ActsSo t h s res par new → ActedOn t st d t'
+      → EndsAs (λ id. acts t h s res par new id) d t'
+  ends_so d res par same so x =
+      subst (λ (r : Option ℕ). EndsAs (λ id. acts t h s r par new id) d t') so.found
+      (subst (λ (p : Option (ℕ × Name)). EndsAs (λ id. acts t h s R p new id) d t') so.behind
+      (ends_here d same so.place (λ none makes. so.node none (ap (makes_node t s) (sym so.behind) ∙ makes)) x))
+
+  own_told : (o : Option Cause) (m : Made) → option_map new_in (own_made o t h s m).told ≡ option_map new_in m.told
+  own_told None m = refl
+  own_told (Some k) m = refl
+
+  own_walk : (o : Option Cause) (m : Made) → (own_made o t h s m).walk ≡ m.walk
+  own_walk None m = refl
+  own_walk (Some k) m = refl
+
+  -- a step without a path
+  pub ends_own : (d : Option Deed) → ActsSo t h s R Q new → ActedOn t st d t' → EndsAs (λ id. own_made (refusal t h s) t h s (acts t h s R Q new id)) d t'
+  ends_own None so x = never_bad x.0 so.node
+  ends_own (Some d) so x = record {
+    id = x.1.1.id;
+    tree = tree_after x.1.1.id x.1.0 so.place x.1.1.made ∙ own_tree x.1.1.id (refusal t h s) refl;
+    told = told_so d x.0 (record { act = record { step = s; answer = act_answer (refusal t h s) t h s R Q x.1.1.id }; new = new }) refl
+        ∙ sym (own_told (refusal t h s) (acts t h s R Q new x.1.1.id));
+    walk = own_walk (refusal t h s) (acts t h s R Q new x.1.1.id);
+  }

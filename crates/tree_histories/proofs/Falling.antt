@@ -1,0 +1,236 @@
+-- The walks that a move loses fail, and what is kept is what the theory keeps.
+use Rattle.std.proofs.Common.{◌≡◌, ℕ, ◌+◌, ◌⊎◌, inl, inr, ◌<◌, Bool, true, false, ◌&&◌, not, List, length, get_or, Option, Some, None, Result, Ok, Err, IfOk, refl, sym, ◌∙◌, ap, subst, arith, add-one, if◌then◌else◌, get_or-set_other, get_or-set_same}
+use Rattle.std.specs.Option.{option_map}
+use Rattle.std.proofs.Math.ListN.{set, length-set}
+use Rattle.std.proofs.lemmas.Bool.{cases_eq}
+use Rattle.plain_tree.specs.declared.step.Action.{Action}
+use Rattle.plain_tree.specs.Steps.{is_nothing}
+use Rattle.plain_tree.specs.Tree.{Tree, live_directory}
+use Rattle.plain_tree.specs.Widths.{hart_count}
+use Rattle.plain_tree.specs.declared.trace.Placed.{Placed}
+use Rattle.tree_laws.specs.History.{History, HartStanding, tells_any, writes_any}
+use Rattle.tree_laws.specs.History.HartStanding.{Free, Busy}
+use Rattle.tree_laws.specs.Moves as moves
+use Rattle.tree_laws.specs.Moves.{Move, Stage, fail}
+use Rattle.tree_laws.specs.Runs.{all_fall, falls, lost, lost_of, unless}
+use Rattle.inode_machine.specs.World.Mark.{Makes}
+use Rattle.inode_machine.specs.Kept.{stage_by, told_by_move}
+use Rattle.path_walk.specs.Asks.{mark_in}
+use Rattle.path_walk.specs.declared.asks.Mark.{Mark}
+use Rattle.whole_calls.specs.Wholes.{action_in}
+use Rattle.tree_histories.specs.declared.kept.Deed.{Deed}
+use Rattle.tree_histories.specs.Books.{IsBook, StandsAs}
+use Rattle.tree_histories.specs.Keeping.{KeptTree, Under, hart_in, is_lost, stage_of, walk_under, walking, written}
+use Rattle.tree_histories.specs.Moving.{HaveFallen, IsMoved, MayMake, MovesBy, NoneFalls, OnlyMoves, StaysFor, Tells, TellsOf, WereLost, makes_none, new_in, told_in}
+use Rattle.tree_histories.proofs.Booked.{book_tells, book_written}
+use Rattle.tree_histories.proofs.Harts.{stage_written}
+
+-- ---- a lost walk
+
+is_some : {A : Type 0} (o : Option A) → not (is_nothing o) ≡ true → (x : A) × (o ≡ Some x)
+is_some None h = absurd cc
+is_some (Some x) h = (x, refl)
+
+is_none : {A : Type 0} (o : Option A) → not (is_nothing o) ≡ false → o ≡ None
+is_none None h = refl
+is_none (Some x) h = absurd cc
+
+unless_live : (b : Bool) (s : Action) (d : moves.Deed) → ◌≡◌ {A = Option moves.Deed} (if b then None else Some (fail s)) (Some d) → d.new ≡ 0
+unless_live true s d h = absurd cc
+unless_live false s d h = let q : Some (fail s) ≡ Some d = h in let same : fail s ≡ d = cc in ap (λ (x : moves.Deed). x.new) (sym same)
+
+-- it makes no node
+lost_new : (t : Tree) (w : Option moves.Walk) (d : moves.Deed) → lost t w ≡ Some d → d.new ≡ 0
+lost_new t None d h = absurd cc
+lost_new t (Some w) d h = unless_live (live_directory (t.nodes w.at)) w.step d h
+
+pub lost_nobody : (k : KeptTree) (h : ℕ) → hart_in k h ≡ None → false ≡ is_lost (stage_of k) h
+lost_nobody k h is = sym (ap (λ (o : Option Under). not (is_nothing (lost (stage_of k).tree (walk_under o)))) is)
+
+-- who has lost a walk has a call
+has_call : (k : KeptTree) (h : ℕ) → is_lost (stage_of k) h ≡ true → (u : Under) × (hart_in k h ≡ Some u)
+has_call k h is = go (hart_in k h) refl
+  where
+    go : (o : Option Under) → hart_in k h ≡ o → (u : Under) × (hart_in k h ≡ Some u)
+    go None q = absurd (let z : false ≡ true = lost_nobody k h q ∙ is in cc)
+    go (Some u) q = (u, q)
+
+-- ---- the walks that fall
+
+unless_lost : (a b : Option moves.Deed) → not (is_nothing a) ≡ true → unless a b ≡ None
+unless_lost None b h = absurd cc
+unless_lost (Some x) b h = refl
+
+unless_none : (a : Option moves.Deed) → unless a None ≡ None
+unless_none None = refl
+unless_none (Some x) = refl
+
+unless_new : (a b : Option moves.Deed) → not (is_nothing a) ≡ false → unless a b ≡ b
+unless_new None b h = refl
+unless_new (Some x) b h = absurd cc
+
+all_more : (m m' : Stage) (n : ℕ) (b : History) → all_fall m m' (n + 1) b ≡ writes_any (falls m m' n) n (all_fall m m' n b)
+unfolding all_fall
+all_more m m' n b = rw (add-one n) refl
+
+-- one test for both
+two_true : (a b : Bool) → (not a && b) ≡ true → (a ≡ false) × (b ≡ true)
+two_true true b h = absurd cc
+two_true false b h = (refl, h)
+
+one_false : (a b : Bool) → (not a && b) ≡ false → (a ≡ true) ⊎ (b ≡ false)
+one_false true b h = inl refl
+one_false false b h = inr h
+
+-- k0: as the walks begin to fail; k1: with those of the harts below n
+pub record Fallen (before : List Bool) (k0 k1 : KeptTree) (n : ℕ) : Type 0 where
+  pub stage : stage_of k1 ≡ stage_of k0
+  pub book : (m : Stage) (b : History) → WereLost before m → IsBook k0 b → IsBook k1 (all_fall m (stage_of k0) n b)
+  pub none : WereLost before (stage_of k0) → k1 ≡ k0
+
+module _ (before : List Bool) (k0 k1 : KeptTree) (n : ℕ) (lt : n < hart_count) (so_far : Fallen before k0 k1 n) where
+  now : is_lost (stage_of k1) n ≡ is_lost (stage_of k0) n
+  now = ap (λ (x : Stage). is_lost x n) so_far.stage
+
+  stays : (m : Stage) (b : History) → WereLost before m → IsBook k0 b → falls m (stage_of k0) n ≡ None → IsBook k1 (all_fall m (stage_of k0) (n + 1) b)
+  stays m b were B none =
+      subst (λ (x : History). IsBook k1 x) (sym (all_more m (stage_of k0) n b))
+      (subst (λ (o : Option moves.Deed). IsBook k1 (writes_any o n (all_fall m (stage_of k0) n b))) (sym none) (so_far.book m b were B))
+
+  none_of : (get_or before n false ≡ true) ⊎ (is_lost (stage_of k1) n ≡ false) → (m : Stage) → WereLost before m → falls m (stage_of k0) n ≡ None
+  none_of (inl is) m were = unless_lost (lost_of m n) (lost_of (stage_of k0) n) (sym (were n lt) ∙ is)
+  none_of (inr is) m were = ap (unless (lost_of m n)) (is_none (lost_of (stage_of k0) n) (sym now ∙ is)) ∙ unless_none (lost_of m n)
+
+  -- the walk was lost before, or isn't
+  pub fallen_not : (r : Bool) → r ≡ (not (get_or before n false) && is_lost (stage_of k1) n) → r ≡ false → Fallen before k0 k1 (n + 1)
+  fallen_not r tests is =
+      let why = one_false (get_or before n false) (is_lost (stage_of k1) n) (sym tests ∙ is) in
+      record { stage = so_far.stage; book = λ m b were B. stays m b were B (none_of why m were); none = so_far.none }
+
+  falls_now : (k2 : KeptTree) → get_or before n false ≡ false → is_lost (stage_of k1) n ≡ true → k2 ≡ written k1 n 0
+      → (m : Stage) (b : History) → WereLost before m → IsBook k0 b → IsBook k2 (all_fall m (stage_of k0) (n + 1) b)
+  falls_now k2 not_yet is kept m b were B =
+      let d : (x : moves.Deed) × (lost_of (stage_of k0) n ≡ Some x) = is_some (lost_of (stage_of k0) n) (sym now ∙ is) in
+      let u : (x : Under) × (hart_in k1 n ≡ Some x) = has_call k1 n is in
+      let fell : falls m (stage_of k0) n ≡ Some d.0 = unless_new (lost_of m n) (lost_of (stage_of k0) n) (sym (were n lt) ∙ not_yet) ∙ d.1 in
+      let zero_new : d.0.new ≡ 0 = lost_new (stage_of k0).tree ((stage_of k0).walk n) d.0 d.1 in
+      subst (λ (x : KeptTree). IsBook x (all_fall m (stage_of k0) (n + 1) b)) (sym kept)
+      (subst (λ (x : History). IsBook (written k1 n 0) x) (sym (all_more m (stage_of k0) n b))
+      (subst (λ (o : Option moves.Deed). IsBook (written k1 n 0) (writes_any o n (all_fall m (stage_of k0) n b))) (sym fell)
+      (book_written k1 (all_fall m (stage_of k0) n b) n 0 d.0 u.0 lt zero_new u.1 (so_far.book m b were B))))
+
+  pub fallen_now : (k2 : KeptTree) (r : Bool) → r ≡ (not (get_or before n false) && is_lost (stage_of k1) n) → r ≡ true → k2 ≡ written k1 n 0 → Fallen before k0 k2 (n + 1)
+  fallen_now k2 r tests is kept =
+      let both : (get_or before n false ≡ false) × (is_lost (stage_of k1) n ≡ true) = two_true (get_or before n false) (is_lost (stage_of k1) n) (sym tests ∙ is) in
+      record {
+        stage = ap stage_of kept ∙ (stage_written k1 n 0 ∙ so_far.stage);
+        book = falls_now k2 both.0 both.1 kept;
+        none = λ were. absurd (let z : false ≡ true = sym both.0 ∙ (were n lt ∙ (sym now ∙ both.1)) in cc);
+      }
+
+pub fallen_first : (before : List Bool) (k : KeptTree) → Fallen before k k 0
+unfolding all_fall
+fallen_first before k = record { stage = refl; book = λ m b were B. B; none = λ were. refl }
+
+-- the walks that are lost, as far as they were looked at
+pub lost_more : (m : Stage) (xs : List Bool) (n i : ℕ) (b : Bool) → i ≡ n → n < 8 → b ≡ is_lost m n → (length xs ≡ 8) × ((h : ℕ) → h < n → get_or xs h false ≡ is_lost m h)
+    → (length (set xs i b) ≡ 8) × ((h : ℕ) → h < n + 1 → get_or (set xs i b) h false ≡ is_lost m h)
+lost_more m xs n i b at lt is so_far = (length-set xs i b ∙ so_far.0, each)
+  where
+    each : (h : ℕ) → h < n + 1 → get_or (set xs i b) h false ≡ is_lost m h
+    each h le = elim (cases_eq h i) [
+      | inl e ↦ ap (λ (j : ℕ). get_or (set xs i b) j false) e ∙ (get_or-set_same xs i b false (let l = so_far.0 in omega arith) ∙ (is ∙ ap (is_lost m) (sym at ∙ sym e)))
+      | inr ne ↦ get_or-set_other xs i h b false ne ∙ so_far.1 h (omega arith)
+    ]
+
+-- ---- a move
+
+same_call : (u v : Under) → walking None u ≡ walking None v → (u.id ≡ v.id) × (u.made ≡ v.made)
+same_call u v h = (ap (λ (x : Under). x.id) h, ap (λ (x : Under). x.made) h)
+
+stands_same : (list : List Placed) (o p : Option Under) (s : HartStanding) → option_map (walking None) o ≡ option_map (walking None) p → StandsAs list p s
+    → StandsAs list o s
+stands_same list None p s h x = tt
+stands_same list (Some u) None s h x = absurd cc
+stands_same list (Some u) (Some v) Free h x = x
+stands_same list (Some u) (Some v) (Busy id c told) h x =
+    let same = same_call u v (let q : Some (walking None u) ≡ Some (walking None v) = h in cc) in
+    (same.0 ∙ x.0, same.1 ∙ x.1)
+
+there_before : (o p : Option Under) (u : Under) → option_map (walking None) o ≡ option_map (walking None) p → o ≡ Some u → (v : Under) × (p ≡ Some v) × (v.id ≡ u.id)
+there_before None p u h q = absurd cc
+there_before (Some x) None u h q = absurd cc
+there_before (Some x) (Some v) u h q =
+    (v, refl, sym ((same_call x v (let e : Some (walking None x) ≡ Some (walking None v) = h in cc)).0) ∙ (let e : x ≡ u = cc in ap (λ (y : Under). y.id) e))
+
+book_only : (k0 k1 : KeptTree) (b : History) → OnlyMoves k0 k1 → IsBook k0 b → IsBook k1 b
+book_only k0 k1 b only B = record {
+  harts = only.count ∙ B.harts;
+  list = only.list ∙ B.list;
+  events = only.events ∙ B.events;
+  calls = only.calls ∙ B.calls;
+  stands = λ g gt. stands_same b.list (hart_in k1 g) (hart_in k0 g) (b.calls g) (only.harts g) (B.stands g gt);
+  apart = λ g j gt jt ne a z p q. (λ e. let x = there_before (hart_in k1 g) (hart_in k0 g) a (only.harts g) p in
+      let y = there_before (hart_in k1 j) (hart_in k0 j) z (only.harts j) q in B.apart g j gt jt ne x.0 y.0 x.1 y.1 (x.2 ∙ (e ∙ sym y.2)));
+  begun = λ g gt a p. (let x = there_before (hart_in k1 g) (hart_in k0 g) a (only.harts g) p in let y = B.begun g gt x.0 x.1 in let z = x.2 in let n = only.calls in omega arith);
+  to_come = λ i le. B.to_come i (let n = only.calls in omega arith);
+}
+
+module _ (k0 k1 : KeptTree) (h : ℕ) (lt : h < hart_count) (u : Under) (is : hart_in k0 h ≡ Some u) (only : OnlyMoves k0 k1) (b : History) (B : IsBook k0 b) where
+  told_book : (told : Option moves.Deed) (d : Option Deed) (was : Bool) → d ≡ option_map new_in told → was ≡ is_lost (stage_of k0) h
+      → IsBook (told_in k1 h d was) (writes_any (unless (lost_of (stage_of k0) h) told) h b)
+  told_book None d was is_told is_was =
+      subst (λ (o : Option Deed). IsBook (told_in k1 h o was) (writes_any (unless (lost_of (stage_of k0) h) None) h b)) (sym is_told)
+      (subst (λ (o : Option moves.Deed). IsBook k1 (writes_any o h b)) (sym (unless_none (lost_of (stage_of k0) h))) (book_only k0 k1 b only B))
+  told_book (Some x) d true is_told is_was =
+      subst (λ (o : Option Deed). IsBook (told_in k1 h o true) (writes_any (unless (lost_of (stage_of k0) h) (Some x)) h b)) (sym is_told)
+      (subst (λ (o : Option moves.Deed). IsBook k1 (writes_any o h b)) (sym (unless_lost (lost_of (stage_of k0) h) (Some x) (sym is_was))) (book_only k0 k1 b only B))
+  told_book (Some x) d false is_told is_was =
+      let there = there_before (hart_in k0 h) (hart_in k1 h) u (sym (only.harts h)) is in
+      subst (λ (o : Option Deed). IsBook (told_in k1 h o false) (writes_any (unless (lost_of (stage_of k0) h) (Some x)) h b)) (sym is_told)
+      (subst (λ (o : Option moves.Deed). IsBook (written k1 h x.new) (writes_any o h b)) (sym (unless_new (lost_of (stage_of k0) h) (Some x) (sym is_was)))
+      (book_written k1 b h x.new x there.0 lt refl there.1 (book_only k0 k1 b only B)))
+
+told_stage : (k : KeptTree) (h : ℕ) (d : Option Deed) (was : Bool) → stage_of (told_in k h d was) ≡ stage_of k
+told_stage k h None was = refl
+told_stage k h (Some d) true = refl
+told_stage k h (Some d) false = stage_written k h d.new
+
+-- k0: before the move; k1: the tree has made it; k2: what it tells is written; k3: the walks that it loses have failed
+module _ (k0 k1 k2 k3 : KeptTree) (h : ℕ) (m : Mark) (d : Option Deed) (was : Bool) (before : List Bool) (were : WereLost before (stage_of k0)) (kept : k2 ≡ told_in k1 h d was) where
+  makes_so : OnlyMoves k0 k1 → TellsOf k0 h m d k1 → was ≡ is_lost (stage_of k0) h → stage_of k3 ≡ stage_of k2 → HaveFallen before k2 k3
+      → (u : Under) (v : Move) → hart_in k0 h ≡ Some u → mark_in (action_in u.whole) m ≡ Makes v → MayMake (stage_of k0) h v → IsMoved k0 h v k3
+  makes_so only tells is_was same fallen u v is made may =
+      let t : Tells k0 h v d k1 = tells u v is made may in
+      let stage2 : stage_of k2 ≡ stage_by (stage_of k0) h t.id v = ap stage_of kept ∙ (told_stage k1 h d was ∙ t.stage) in
+      record {
+        id = t.id;
+        stage = same ∙ stage2;
+        book = λ b B.
+            let told : Option moves.Deed = told_by_move (stage_of k0) h t.id v in
+            let book2 : IsBook k2 (writes_any (unless (lost_of (stage_of k0) h) told) h b) =
+            subst (λ (x : KeptTree). IsBook x (writes_any (unless (lost_of (stage_of k0) h) told) h b)) (sym kept) (told_book k0 k1 h may.hart u is only b B told d was t.told is_was) in
+            subst (λ (n : Stage). IsBook k3 (all_fall (stage_of k0) n hart_count (tells_any told h (writes_any (unless (lost_of (stage_of k0) h) told) h b)))) stage2
+            (fallen (stage_of k0) (tells_any told h (writes_any (unless (lost_of (stage_of k0) h) told) h b)) were
+            (book_tells k2 (writes_any (unless (lost_of (stage_of k0) h) told) h b) h told may.hart book2));
+      }
+
+  still_so : StaysFor k0 m d k1 → NoneFalls before k2 k3 → makes_none m ≡ true → k3 ≡ k0
+  still_so stays none makes =
+      let x = stays makes in
+      let same : k2 ≡ k0 = kept ∙ (ap (λ (o : Option Deed). told_in k1 h o was) x.0 ∙ x.1) in
+      none (λ g lt. were g lt ∙ ap (λ (k : KeptTree). is_lost (stage_of k) g) (sym same)) ∙ same
+
+  pub moved_so : OnlyMoves k0 k1 → TellsOf k0 h m d k1 → StaysFor k0 m d k1 → was ≡ is_lost (stage_of k0) h → stage_of k3 ≡ stage_of k2 → HaveFallen before k2 k3
+      → NoneFalls before k2 k3 → MovesBy k0 h m k3
+  moved_so only tells stays is_was same fallen none = record {
+    makes = makes_so only tells is_was same fallen;
+    still = still_so stays none;
+  }
+
+pub moves_on_so : {E : Type 0} (r : Result (Unit {0}) E) (k0 k1 k2 k3 : KeptTree) (h : ℕ) (m : Mark) (d : Option Deed) (was : Bool) (before : List Bool) → WereLost before (stage_of k0) → k2 ≡ told_in k1 h d was
+    → OnlyMoves k0 k1 → TellsOf k0 h m d k1 → StaysFor k0 m d k1 → was ≡ is_lost (stage_of k0) h → IfOk r (λ _. stage_of k3 ≡ stage_of k2) → IfOk r (λ _. HaveFallen before k2 k3) → IfOk r (λ _. NoneFalls before k2 k3)
+    → IfOk r (λ _. MovesBy k0 h m k3)
+moves_on_so (Err e) k0 k1 k2 k3 h m d was before were kept only tells stays is_was same fallen none = tt
+moves_on_so (Ok x) k0 k1 k2 k3 h m d was before were kept only tells stays is_was same fallen none =
+    moved_so k0 k1 k2 k3 h m d was before were kept only tells stays is_was same fallen none

@@ -1,0 +1,70 @@
+-- One hart's call in what is kept is put, and what is then seen of all.
+use Rattle.std.proofs.Common.{◌≡◌, ◌≢◌, inl, inr, ℕ, zero, suc, ◌<◌, List, [], ◌∷◌, length, get_or, Option, Some, None, refl, sym, ◌∙◌, ap, get_or-set_other, get_or-set_same}
+use Rattle.std.specs.Option.{option_map}
+use Rattle.std.proofs.Math.ListN.{set, get_or-eq_default}
+use Rattle.std.proofs.lemmas.Bool.{cases_lt}
+use Rattle.plain_tree.specs.Tree.{put, tree_of}
+use Rattle.plain_tree.specs.TreeData.{TreeData}
+use Rattle.plain_tree.proofs.TreeLemmas.{put_back, set_put}
+use Rattle.tree_laws.specs.Moves as moves
+use Rattle.tree_laws.specs.Moves.{Stage}
+use Rattle.whole_calls.specs.Wholes.{call_in}
+use Rattle.tree_histories.specs.declared.standing.Walk.{Walk}
+use Rattle.tree_histories.specs.Keeping.{KeptTree, Under, hart_in, more_made, stage_of, walk_under, walking, with_hart, with_walk, written, written_by}
+use Rattle.tree_histories.specs.Walks.{walk_of}
+
+set_twice : {A : Type 0} (xs : List A) (n : ℕ) (a b : A) → set (set xs n a) n b ≡ set xs n b
+set_twice [] n a b = refl
+set_twice (x ∷ xs) zero a b = refl
+set_twice (x ∷ xs) (suc n) a b = ap (λ ys. x ∷ ys) (set_twice xs n a b)
+
+-- a call that was taken out is put back, changed or not
+pub put_twice : (k : KeptTree) (h : ℕ) (o p : Option Under) → with_hart (with_hart k h o) h p ≡ with_hart k h p
+put_twice k h o p = ap (λ (xs : List (Option Under)). record k { harts = xs }) (set_twice k.harts h o p)
+
+pub put_back_changed : (k : KeptTree) (h : ℕ) (f : Under → Under) (u : Under) (k1 k2 : KeptTree) → hart_in k h ≡ Some u → k1 ≡ with_hart k h None
+    → k2 ≡ with_hart k1 h (Some (f u)) → k2 ≡ with_hart k h (option_map f (hart_in k h))
+put_back_changed k h f u k1 k2 is a b =
+    b ∙ (ap (λ (x : KeptTree). with_hart x h (Some (f u))) a ∙ (put_twice k h None (Some (f u)) ∙ ap (λ (o : Option Under). with_hart k h (option_map f o)) (sym is)))
+
+-- a hart that has a call is one of them
+pub is_hart : (k : KeptTree) (h : ℕ) (u : Under) → hart_in k h ≡ Some u → h < length k.harts
+is_hart k h u is = elim (cases_lt h (length k.harts)) [
+  | inl lt ↦ lt
+  | inr le ↦ absurd (let q : None ≡ Some u = sym (get_or-eq_default k.harts None le) ∙ is in cc)
+]
+
+pub same_hart : (k : KeptTree) (h : ℕ) (o : Option Under) (g : ℕ) → g ≡ h → h < length k.harts → hart_in (with_hart k h o) g ≡ o
+same_hart k h o g e lt = ap (λ (j : ℕ). get_or (set k.harts h o) j None) e ∙ get_or-set_same k.harts h o None lt
+
+pub other_hart : (k : KeptTree) (h : ℕ) (o : Option Under) (g : ℕ) → g ≢ h → hart_in (with_hart k h o) g ≡ hart_in k g
+other_hart k h o g ne = get_or-set_other k.harts h g o None ne
+
+-- ---- the stage
+
+pub stage_put : (k : KeptTree) (h : ℕ) (o : Option Under) → h < length k.harts
+    → stage_of (with_hart k h o) ≡ record { tree = tree_of k.tree; walk = put (stage_of k).walk h (walk_under o) }
+stage_put k h o lt =
+    ap (λ (f : ℕ → Option moves.Walk). let m : Stage = record { tree = tree_of k.tree; walk = f } in m)
+    (set_put {A = Option Under} {B = Option moves.Walk} (λ x. walk_under x) k.harts h o None lt)
+
+-- the hart's walk is this one, and the tree that one
+pub stage_walk : (k : KeptTree) (h : ℕ) (w : Option Walk) (u : Under) (t : TreeData) → hart_in k h ≡ Some u
+    → stage_of (record (with_walk k h w) { tree = t }) ≡ record { tree = tree_of t; walk = put (stage_of k).walk h (option_map (walk_of (call_in u.whole)) w) }
+stage_walk k h w u t is =
+    ap (λ (o : Option Under). stage_of (record (with_hart k h (option_map (walking w) o)) { tree = t })) is
+    ∙ ap (λ (m : Stage). let n : Stage = record { tree = tree_of t; walk = m.walk } in n) (stage_put k h (Some (walking w u)) (is_hart k h u is))
+
+-- the hart's walk is as it was
+pub walk_same : (k : KeptTree) (h : ℕ) (w : Option moves.Walk) → w ≡ (stage_of k).walk h → put (stage_of k).walk h w ≡ (stage_of k).walk
+walk_same k h w is = put_back (stage_of k).walk h w is
+
+-- an entry more leaves the stage
+pub stage_written : (k : KeptTree) (h new : ℕ) → stage_of (written k h new) ≡ stage_of k
+stage_written k h new = go (hart_in k h) refl
+  where
+    go : (o : Option Under) → hart_in k h ≡ o → stage_of (written_by k h new o) ≡ stage_of k
+    go None is = refl
+    go (Some u) is =
+        stage_put k h (Some (more_made u)) (is_hart k h u is)
+        ∙ ap (λ (f : ℕ → Option moves.Walk). let m : Stage = record { tree = tree_of k.tree; walk = f } in m) (walk_same k h (walk_under (Some (more_made u))) (ap walk_under (sym is)))

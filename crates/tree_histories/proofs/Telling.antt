@@ -1,0 +1,221 @@
+-- What is told where a call's mark is met: what the move tells.
+use Rattle.std.proofs.Common.{◌≡◌, ℕ, ◌<◌, ◌^◌, List, [], ◌∷◌, Option, Some, None, Result, Ok, Err, IfOk, if◌then◌else◌, refl, sym, ◌∙◌, ap, subst}
+use Rattle.std.specs.Option.{option_map}
+use Rattle.plain_tree.specs.declared.step.Action.{Action}
+use Rattle.plain_tree.specs.Steps.{path_of, refused}
+use Rattle.plain_tree.specs.Tree.{Name, Tree, elements, is_absolute, look, put, settle, start_of, tree_of}
+use Rattle.plain_tree.specs.Widths.{root}
+use Rattle.plain_tree.specs.declared.refused.NoMemory.{NoMemory}
+use Rattle.tree_laws.specs.Moves as moves
+use Rattle.tree_laws.specs.Moves.{Move, Stage, fail}
+use Rattle.tree_laws.specs.Moves.Move.{Begin, Look, Quit, Own}
+use Rattle.inode_machine.specs.Marks.{Made, begun, looked, look_made, made_by}
+use Rattle.inode_machine.specs.World.Mark.{Makes}
+use Rattle.path_walk.specs.Asks.{mark_in}
+use Rattle.path_walk.specs.declared.asks.Mark.{Mark}
+use Rattle.path_walk.specs.declared.asks.Mark.TheVariants as mark
+use Rattle.whole_calls.specs.Wholes.{action_in, call_in}
+use Rattle.tree_histories.specs.declared.kept.Deed.{Deed}
+use Rattle.tree_histories.specs.declared.standing.Walk.{Walk}
+use Rattle.tree_histories.specs.Keeping.{KeptTree, Under, hart_in, stage_of, walk_under, with_walk}
+use Rattle.tree_histories.specs.Moving.{ActedOn, IsActed, MayBegin, MayLook, MayLookOn, MayMake, Tells, TellsOf, new_in}
+use Rattle.tree_histories.specs.Walks.{IsNextWalk, IsWalk, is_on_new, step_in, walk_of, walk_on}
+use Rattle.tree_histories.proofs.Acting.{EndsAs, ends_own, ends_so, refused_same}
+use Rattle.tree_histories.proofs.Harts.{stage_walk, walk_same}
+use Rattle.tree_histories.proofs.Steps.{action_is}
+
+refused_action : (t : Tree) (h : ℕ) (u : Under) → refused t h (action_in u.whole) ≡ t
+refused_action t h u = ap (λ (s : Action). refused t h s) (sym (action_is u.whole)) ∙ refused_same t h (call_in u.whole) (is_on_new u.whole)
+
+module _ (k : KeptTree) (h : ℕ) (u : Under) (is : hart_in k h ≡ Some u) where
+  abbrev m : Stage
+  m = stage_of k
+
+  -- a step acted
+  tells_end : (v : Move) (d : Option Deed) (k' : KeptTree) → k' ≡ record (with_walk k h None) { tree = k'.tree }
+      → EndsAs (λ id. made_by (tree_of k.tree) h id ((stage_of k).walk h) v) d (tree_of k'.tree) → Tells k h v d k'
+  tells_end v d k' kept e = record {
+    id = e.id;
+    stage = ap stage_of kept ∙ (stage_walk k h None u k'.tree is
+        ∙ (ap (λ (t : Tree). let n : Stage = record { tree = t; walk = put (stage_of k).walk h None } in n) e.tree
+        ∙ ap (λ (w : Option moves.Walk). let n : Stage = record { tree = settle (made_by (tree_of k.tree) h e.id ((stage_of k).walk h) v).all; walk = put (stage_of k).walk h w } in n) (sym e.walk)));
+    told = e.told;
+  }
+
+  -- a walk goes on, or is over, and the tree stays
+  tells_walk : (v : Move) (w : Option Walk) (x : Made) → settle (tree_of k.tree) ≡ tree_of k.tree → made_by (tree_of k.tree) h 0 ((stage_of k).walk h) v ≡ x
+      → x.all ≡ tree_of k.tree → x.walk ≡ option_map (walk_of (call_in u.whole)) w → (d : Option Deed) → d ≡ option_map new_in x.told
+      → (k' : KeptTree) → k' ≡ with_walk k h w → Tells k h v d k'
+  tells_walk v w x settled made all walk d told k' kept = record {
+    id = 0;
+    stage = ap stage_of kept ∙ (stage_walk k h w u k.tree is
+        ∙ (ap (λ (t : Tree). let n : Stage = record { tree = t; walk = put (stage_of k).walk h (option_map (walk_of (call_in u.whole)) w) } in n) (sym settled ∙ ap settle (sym all))
+        ∙ (ap (λ (y : Option moves.Walk). let n : Stage = record { tree = settle x.all; walk = put (stage_of k).walk h y } in n) (sym walk)
+        ∙ ap (λ (y : Made). let n : Stage = record { tree = settle y.all; walk = put (stage_of k).walk h y.walk } in n) (sym made))));
+    told = told ∙ ap (λ (y : Made). option_map new_in y.told) (sym made);
+  }
+
+  -- ---- a walk begins
+
+  begins_end : (s : Action) (es : List Name) → es ≡ [] → MayBegin (tree_of k.tree) h s es 0 → settle (tree_of k.tree) ≡ tree_of k.tree → refused (tree_of k.tree) h s ≡ tree_of k.tree
+      → (d : Option Deed) (t' : Tree) → ActedOn (tree_of k.tree) (record { hart = h; new = 0; action = s }) d t' → EndsAs (λ id. begun (tree_of k.tree) h s es 0 id) d t'
+  begins_end s [] cut may settled same d t' x =
+      let e = ends_so (tree_of k.tree) h s 0 t' settled d (Some (start_of (tree_of k.tree) h (path_of s))) None same may x in
+      record { id = e.id; tree = e.tree; told = e.told; walk = e.walk }
+  begins_end s (e ∷ es) cut may settled same d t' x = absurd cc
+
+  pub tells_begun : (d : Option Deed) (k' : KeptTree) (start : ℕ) → IsWalk (call_in u.whole) None (action_in u.whole) start (elements (path_of (action_in u.whole)))
+      → IsActed k (record { hart = h; new = 0; action = action_in u.whole }) d k' → MayMake (stage_of k) h (Begin (action_in u.whole) 0) → Tells k h (Begin (action_in u.whole) 0) d k'
+  tells_begun d k' start none x may =
+      tells_end (Begin (action_in u.whole) 0) d k' x.kept
+      (begins_end (action_in u.whole) (elements (path_of (action_in u.whole))) (no_elements (elements (path_of (action_in u.whole))) none) may.move may.settled
+      (refused_action (tree_of k.tree) h u) d (tree_of k'.tree) x.acted)
+    where
+      no_elements : (es : List Name) → IsWalk (call_in u.whole) None (action_in u.whole) start es → es ≡ []
+      no_elements [] q = refl
+      no_elements (e ∷ es) q = absurd cc
+
+  begins_on : (s : Action) (w : Walk) (start : ℕ) (es : List Name) → start ≡ start_of (tree_of k.tree) h (path_of s) → IsWalk (call_in u.whole) (Some w) s start es
+      → ((begun (tree_of k.tree) h s es 0 0).all ≡ tree_of k.tree)
+      × ((begun (tree_of k.tree) h s es 0 0).walk ≡ Some (walk_of (call_in u.whole) w))
+      × (None ≡ option_map new_in (begun (tree_of k.tree) h s es 0 0).told)
+  begins_on s w start [] at q = absurd cc
+  begins_on s w start (e ∷ es) at q = (refl, sym (q ∙ ap (λ (n : ℕ). Some (walk_on s n (e ∷ es))) at), refl)
+
+  pub tells_start : (w : Walk) (start : ℕ) → start ≡ start_of (tree_of k.tree) h (path_of (action_in u.whole))
+      → IsWalk (call_in u.whole) (Some w) (action_in u.whole) start (elements (path_of (action_in u.whole)))
+      → settle (tree_of k.tree) ≡ tree_of k.tree → (k' : KeptTree) → k' ≡ with_walk k h (Some w) → Tells k h (Begin (action_in u.whole) 0) None k'
+  tells_start w start at q settled k' kept =
+      let b = begins_on (action_in u.whole) w start (elements (path_of (action_in u.whole))) at q in
+      tells_walk (Begin (action_in u.whole) 0) (Some w) (begun (tree_of k.tree) h (action_in u.whole) (elements (path_of (action_in u.whole))) 0 0) settled refl b.0 b.1 None b.2 k' kept
+
+  -- ---- an element is looked up
+
+  module _ (w : Walk) (there : u.walk ≡ Some w) (new : ℕ) where
+    abbrev W : moves.Walk
+    W = walk_of (call_in u.whole) w
+
+    walk_there : Some W ≡ (stage_of k).walk h
+    walk_there = sym (ap walk_under is ∙ ap (option_map (walk_of (call_in u.whole))) there)
+
+    looks_end : (es : List Name) (found : Option ℕ) → IsNextWalk (call_in u.whole) None (record W { rest = es }) found → MayLook (tree_of k.tree) h W es found new
+        → settle (tree_of k.tree) ≡ tree_of k.tree
+        → (d : Option Deed) (t' : Tree) → ActedOn (tree_of k.tree) (record { hart = h; new = new; action = W.step }) d t' → EndsAs (λ id. looked (tree_of k.tree) h W es found new id) d t'
+    looks_end [] found next may settled d t' x = ends_so (tree_of k.tree) h W.step new t' settled d found (Some (W.at, W.next)) (refused_same (tree_of k.tree) h (call_in u.whole) w.is_new) may x
+    looks_end (e ∷ es) None next may settled d t' x = ends_so (tree_of k.tree) h W.step new t' settled d None None (refused_same (tree_of k.tree) h (call_in u.whole) w.is_new) may x
+    looks_end (e ∷ es) (Some n) next may settled d t' x = absurd (let q : None ≡ Some (walk_on W.step n (e ∷ es)) = next in cc)
+
+    pub tells_looked : (d : Option Deed) (k' : KeptTree) → IsNextWalk (call_in u.whole) None W (look (tree_of k.tree).nodes W.at W.next)
+        → IsActed k (record { hart = h; new = new; action = W.step }) d k' → MayMake (stage_of k) h (Look new) → Tells k h (Look new) d k'
+    tells_looked d k' next x may =
+        tells_end (Look new) d k' x.kept
+        (subst (λ (o : Option moves.Walk). EndsAs (λ id. look_made (tree_of k.tree) h o new id) d (tree_of k'.tree)) walk_there
+        (looks_end W.rest (look (tree_of k.tree).nodes W.at W.next) next (may_look (sym walk_there) may.move.0) may.settled d (tree_of k'.tree) x.acted))
+      where
+        may_look : (stage_of k).walk h ≡ Some W → MayLookOn (tree_of k.tree) h ((stage_of k).walk h) new → MayLookOn (tree_of k.tree) h (Some W) new
+        may_look q z = subst (λ (o : Option moves.Walk). MayLookOn (tree_of k.tree) h o new) q z
+
+    looks_on : (w2 : Walk) (es : List Name) (found : Option ℕ) → IsNextWalk (call_in u.whole) (Some w2) (record W { rest = es }) found
+        → ((looked (tree_of k.tree) h W es found new 0).all ≡ tree_of k.tree)
+        × ((looked (tree_of k.tree) h W es found new 0).walk ≡ Some (walk_of (call_in u.whole) w2))
+        × (None ≡ option_map new_in (looked (tree_of k.tree) h W es found new 0).told)
+    looks_on w2 [] None next = absurd cc
+    looks_on w2 [] (Some n) next = absurd cc
+    looks_on w2 (e ∷ es) None next = absurd cc
+    looks_on w2 (e ∷ es) (Some n) next = (refl, sym next, refl)
+
+    pub tells_next : (w2 : Walk) → IsNextWalk (call_in u.whole) (Some w2) W (look (tree_of k.tree).nodes W.at W.next)
+        → settle (tree_of k.tree) ≡ tree_of k.tree → (k' : KeptTree) → k' ≡ with_walk k h (Some w2) → Tells k h (Look new) None k'
+    tells_next w2 next settled k' kept =
+        let b = looks_on w2 W.rest (look (tree_of k.tree).nodes W.at W.next) next in
+        tells_walk (Look new) (Some w2) (looked (tree_of k.tree) h W W.rest (look (tree_of k.tree).nodes W.at W.next) new 0) settled
+        (ap (λ (o : Option moves.Walk). look_made (tree_of k.tree) h o new 0) (sym walk_there)) b.0 b.1 None b.2 k' kept
+
+  -- without a walk nothing is looked up
+  pub tells_nowhere : u.walk ≡ None → (new : ℕ) → settle (tree_of k.tree) ≡ tree_of k.tree → (k' : KeptTree) → k' ≡ k → Tells k h (Look new) None k'
+  tells_nowhere none new settled k' kept =
+      let nowhere : None ≡ (stage_of k).walk h = sym (ap walk_under is ∙ ap (option_map (walk_of (call_in u.whole))) none) in
+      let made : look_made (tree_of k.tree) h ((stage_of k).walk h) new 0 ≡ look_made (tree_of k.tree) h None new 0 = ap (λ (o : Option moves.Walk). look_made (tree_of k.tree) h o new 0) (sym nowhere) in
+      record {
+        id = 0;
+        stage = ap stage_of kept
+            ∙ (ap (λ (f : ℕ → Option moves.Walk). let n : Stage = record { tree = tree_of k.tree; walk = f } in n) (sym (walk_same k h None nowhere))
+            ∙ (ap (λ (t : Tree). let n : Stage = record { tree = t; walk = put (stage_of k).walk h None } in n) (sym settled)
+            ∙ ap (λ (y : Made). let n : Stage = record { tree = settle y.all; walk = put (stage_of k).walk h y.walk } in n) (sym made)));
+        told = ap (λ (y : Made). option_map new_in y.told) (sym made);
+      }
+
+  -- ---- a walk is given up; a step acts
+
+  pub tells_quit : (s : Action) → settle (tree_of k.tree) ≡ tree_of k.tree → (d : Option Deed) → d ≡ Some (record { new = 0 })
+      → (k' : KeptTree) → k' ≡ with_walk k h None → Tells k h (Quit s) d k'
+  tells_quit s settled d told k' kept =
+      tells_walk (Quit s) None (made_by (tree_of k.tree) h 0 ((stage_of k).walk h) (Quit s)) settled refl refl refl d told k' kept
+
+  pub tells_own : (s : Action) (d : Option Deed) (k' : KeptTree) → IsActed k (record { hart = h; new = 0; action = s }) d k' → MayMake (stage_of k) h (Own s 0)
+      → Tells k h (Own s 0) d k'
+  tells_own s d k' x may =
+      tells_end (Own s 0) d k' x.kept (ends_own (tree_of k.tree) h s 0 (tree_of k'.tree) may.settled d may.move x.acted)
+
+-- ---- as the code meets it
+
+ok_map : {T E : Type 0} (r : Result T E) (P Q : T → Type 0) → ((x : T) → P x → Q x) → IfOk r P → IfOk r Q
+ok_map (Ok x) P Q f h = f x h
+ok_map (Err e) P Q f h = tt
+
+-- the hart's call is this one, and its mark is for this move
+told_by : (k : KeptTree) (h : ℕ) (s : Under) (m : Mark) (v : Move) (d : Option Deed) (k' : KeptTree) → hart_in k h ≡ Some s → mark_in (action_in s.whole) m ≡ Makes v
+    → (MayMake (stage_of k) h v → Tells k h v d k') → TellsOf k h m d k'
+told_by k h s m v d k' there is f u v' is' mk may =
+    let us : s ≡ u = (let q : Some s ≡ Some u = sym there ∙ is' in cc) in
+    let vv : v ≡ v' = (let q : Makes v ≡ Makes v' = sym is ∙ (ap (λ (x : Under). mark_in (action_in x.whole) m) us ∙ mk) in cc) in
+    subst (λ (x : Move). Tells k h x d k') vv (f (subst (λ (x : Move). MayMake (stage_of k) h x) (sym vv) may))
+
+pub told_start : (k k' : KeptTree) (h : ℕ) (s : Under) (w : Walk) (dir : ℕ) → hart_in k h ≡ Some s → dir ≡ (tree_of k.tree).cwd h
+    → IsWalk (call_in s.whole) (Some w) (action_in s.whole) (if is_absolute (path_of (action_in s.whole)) then root else dir) (elements (path_of (action_in s.whole)))
+    → k' ≡ with_walk k h (Some w) → TellsOf k h mark.Begin None k'
+told_start k k' h s w dir there at walk kept =
+    told_by k h s mark.Begin (Begin (action_in s.whole) 0) None k' there refl
+    (λ may. tells_start k h s there w (if is_absolute (path_of (action_in s.whole)) then root else dir) (ap (λ (x : ℕ). if is_absolute (path_of (action_in s.whole)) then root else x) at) walk may.settled k' kept)
+
+pub told_begun : (k k' : KeptTree) (h : ℕ) (s : Under) (a : Action) (start : ℕ) (r : Result (Option Deed) NoMemory) → hart_in k h ≡ Some s → a ≡ action_in s.whole
+    → IsWalk (call_in s.whole) None (action_in s.whole) start (elements (path_of (action_in s.whole)))
+    → IfOk r (λ d. IsActed k (record { hart = h; new = 0; action = a }) d k') → IfOk r (λ d. TellsOf k h mark.Begin d k')
+told_begun k k' h s a start r there is none acted =
+    ok_map r (λ d. IsActed k (record { hart = h; new = 0; action = a }) d k') (λ d. TellsOf k h mark.Begin d k')
+    (λ d x. told_by k h s mark.Begin (Begin (action_in s.whole) 0) d k' there refl
+    (tells_begun k h s there d k' start none (subst (λ (y : Action). IsActed k (record { hart = h; new = 0; action = y }) d k') is x))) acted
+
+pub told_next : (k k' : KeptTree) (h : ℕ) (s : Under) (w w2 : Walk) (new : ℕ) → hart_in k h ≡ Some s → s.walk ≡ Some w
+    → IsNextWalk (call_in s.whole) (Some w2) (walk_of (call_in s.whole) w) (look (tree_of k.tree).nodes w.directory (walk_of (call_in s.whole) w).next)
+    → k' ≡ with_walk k h (Some w2) → TellsOf k h (mark.Look new) None k'
+told_next k k' h s w w2 new there has next kept =
+    told_by k h s (mark.Look new) (Look new) None k' there refl (λ may. tells_next k h s there w has new w2 next may.settled k' kept)
+
+-- the number that code takes for what is made
+pub told_looked : (k k' : KeptTree) (h : ℕ) (s : Under) (w : Walk) (new given : ℕ) (a : Action) (r : Result (Option Deed) NoMemory) → hart_in k h ≡ Some s → s.walk ≡ Some w
+    → (new < 2 ^ 16 → given ≡ new) → a ≡ (walk_of (call_in s.whole) w).step
+    → IsNextWalk (call_in s.whole) None (walk_of (call_in s.whole) w) (look (tree_of k.tree).nodes w.directory (walk_of (call_in s.whole) w).next)
+    → IfOk r (λ d. IsActed k (record { hart = h; new = given; action = a }) d k') → IfOk r (λ d. TellsOf k h (mark.Look new) d k')
+told_looked k k' h s w new given a r there has fits is next acted =
+    ok_map r (λ d. IsActed k (record { hart = h; new = given; action = a }) d k') (λ d. TellsOf k h (mark.Look new) d k')
+    (λ d x. told_by k h s (mark.Look new) (Look new) d k' there refl
+    (λ may. tells_looked k h s there w has new d k' next
+    (subst (λ (n : ℕ). IsActed k (record { hart = h; new = n; action = (walk_of (call_in s.whole) w).step }) d k') (fits may.move.1)
+    (subst (λ (y : Action). IsActed k (record { hart = h; new = given; action = y }) d k') is x)) may)) acted
+
+pub told_nowhere : (k k' : KeptTree) (h : ℕ) (s : Under) (new : ℕ) → hart_in k h ≡ Some s → s.walk ≡ None → k' ≡ k → TellsOf k h (mark.Look new) None k'
+told_nowhere k k' h s new there none kept =
+    told_by k h s (mark.Look new) (Look new) None k' there refl (λ may. tells_nowhere k h s there none new may.settled k' kept)
+
+pub told_quit : (k k' : KeptTree) (h : ℕ) (d : Deed) → d ≡ record { new = 0 } → k' ≡ with_walk k h None → TellsOf k h mark.Quit (Some d) k'
+told_quit k k' h d is kept u v there mk may =
+    told_by k h u mark.Quit (Quit (action_in u.whole)) (Some d) k' there refl
+    (λ may'. tells_quit k h u there (action_in u.whole) may'.settled (Some d) (ap (λ (x : Deed). Some x) is) k' kept) u v there mk may
+
+pub told_alone : (k k' : KeptTree) (h : ℕ) (m : Mark) (r : Result (Option Deed) NoMemory) → ((s : Action) → mark_in s m ≡ Makes (Own (step_in s m) 0))
+    → IfOk r (λ d. (u : Under) → hart_in k h ≡ Some u → IsActed k (record { hart = h; new = 0; action = step_in (action_in u.whole) m }) d k') → IfOk r (λ d. TellsOf k h m d k')
+told_alone k k' h m r own acted =
+    ok_map r (λ d. (u : Under) → hart_in k h ≡ Some u → IsActed k (record { hart = h; new = 0; action = step_in (action_in u.whole) m }) d k') (λ d. TellsOf k h m d k')
+    (λ d f u v there mk may. told_by k h u m (Own (step_in (action_in u.whole) m) 0) d k' there (own (action_in u.whole))
+    (tells_own k h u there (step_in (action_in u.whole) m) d k' (f u there)) u v there mk may) acted

@@ -1,0 +1,16 @@
+use Rattle.std.proofs.Common.{Option, Some, sym, subst, ap, ◌∙◌}
+use Rattle.path_walk.specs.declared.asks.Heard.{Heard}
+use Rattle.tree_histories.specs.Keeping.{HasHeard, Under, with_hart}
+use Rattle.tree_histories.proofs.Hearing.{heard_begun, heard_on}
+use Rattle.tree_histories.proofs.kept.Kept.hears.Goals as goal
+
+pub returns-in-Some-heard : goal.returns-in-Some-heard
+returns-in-Some-heard c =
+    subst (λ (x : Option Heard). HasHeard c.args.self.now c.args.hart x c.put.new.self) (sym c.in-Some-heard.is)
+    (heard_on c.args.self.now c.take.new.self c.put.new.self c.args.hart c.in-Some.standing (sym c.in-Some.ensures.call) c.in-Some.ensures.rest c.in-Some-heard.heard c.hear-goes_on.result c.hear-goes_on.ensures c.put.ensures)
+
+pub returns-in-None : goal.returns-in-None
+returns-in-None c =
+    subst (λ (x : Option Heard). HasHeard c.args.self.now c.args.hart x c.put-in-None.new.self) (sym c.in-None.is)
+    (heard_begun c.args.self.now c.take.new.self c.put-in-None.new.self c.args.hart c.in-Some.standing (sym c.in-Some.ensures.call) c.in-Some.ensures.rest
+    (c.put-in-None.ensures ∙ ap (λ (u : Under). with_hart c.take.new.self c.args.hart (Some u)) c.begin.ensures))

@@ -1,0 +1,6 @@
+use Rattle.tree_histories.specs.Keeping.{stage_of}
+use Rattle.tree_histories.proofs.Falling.{lost_more}
+use Rattle.tree_histories.proofs.kept.Kept.lost.Goals as goal
+
+pub loop-hart-preserved : goal.loop-hart-preserved
+loop-hart-preserved c = lost_more (stage_of c.args.self.now) c.loop-hart.lost c.loop-hart.hart c.from.result c.is_lost.result c.from.ensures c.loop-hart-test.true c.is_lost.ensures c.loop-hart.invariant

@@ -1,0 +1,6 @@
+use Rattle.std.proofs.Common.{◌≡◌, ℕ, ◌<◌, false, length, get_or}
+use Rattle.tree_histories.specs.Keeping.{is_lost, stage_of}
+use Rattle.tree_histories.proofs.kept.Kept.lost.Given as goal
+
+abbrev pub invariant-loop-hart : goal.invariant-loop-hart
+invariant-loop-hart l = (length l.lost ≡ 8) × ((h : ℕ) → h < l.hart → get_or l.lost h false ≡ is_lost (stage_of l.self) h)

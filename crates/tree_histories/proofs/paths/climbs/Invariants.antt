@@ -1,0 +1,9 @@
+use Rattle.std.proofs.Common.{◌≡◌, length}
+use Rattle.plain_tree.specs.Tree.{climbs}
+use Rattle.tree_histories.proofs.paths.climbs.Given as goal
+
+abbrev pub invariant-loop-element : goal.invariant-loop-element
+invariant-loop-element l = climbs l.path ≡ climbs l.rest
+
+abbrev pub decreases-loop-element : goal.decreases-loop-element
+decreases-loop-element l = length l.rest

@@ -1,0 +1,10 @@
+use Rattle.std.proofs.Common.{◌≡◌, ◌≤◌, length}
+use Rattle.plain_tree.specs.Tree.{elements}
+use Rattle.tree_histories.specs.Ends.{IsEnd}
+use Rattle.tree_histories.proofs.paths.next_element.Given as goal
+
+abbrev pub invariant-loop-rest : goal.invariant-loop-rest
+invariant-loop-rest l = (elements l.rest ≡ elements l.path) × (length l.rest ≤ length l.path) × IsEnd l.path l.rest
+
+abbrev pub decreases-loop-rest : goal.decreases-loop-rest
+decreases-loop-rest l = length l.rest

@@ -1,0 +1,6 @@
+use Rattle.std.proofs.Common.{◌∙◌}
+use Rattle.plain_tree.proofs.PathLemmas.{same_pointwise}
+use Rattle.tree_histories.proofs.paths.same.Goals as goal
+
+pub returns : goal.returns
+returns c = c.eq.ensures ∙ same_pointwise _ _

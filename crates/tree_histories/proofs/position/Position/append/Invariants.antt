@@ -1,0 +1,5 @@
+use Rattle.tree_histories.specs.Searching.{IsAt}
+use Rattle.tree_histories.proofs.position.Position.append.Given as goal
+
+abbrev pub invariant-loop-hint : goal.invariant-loop-hint
+invariant-loop-hint l = IsAt l.base l.trace l.self

@@ -1,0 +1,5 @@
+use Rattle.tree_histories.specs.Searching.{IsKept}
+use Rattle.tree_histories.proofs.position.Position.step_on.Given as goal
+
+abbrev pub invariant-loop-id : goal.invariant-loop-id
+invariant-loop-id l = IsKept l.base l.trace l.fn.self l.self

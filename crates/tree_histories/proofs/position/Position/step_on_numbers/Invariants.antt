@@ -1,0 +1,5 @@
+use Rattle.tree_histories.specs.Searching.{IsKept}
+use Rattle.tree_histories.proofs.position.Position.step_on_numbers.Given as goal
+
+abbrev pub invariant-loop-number : goal.invariant-loop-number
+invariant-loop-number l = IsKept l.base l.trace l.fn.self l.self

@@ -1,0 +1,7 @@
+use Rattle.std.proofs.Common.{◌≡◌, ◌≤◌, take}
+use Rattle.plain_tree.specs.Explains.{acts_of}
+use Rattle.tree_histories.specs.Stands.{stand_of}
+use Rattle.tree_histories.proofs.position.stand_in.Given as goal
+
+abbrev pub invariant-loop-placed : goal.invariant-loop-placed
+invariant-loop-placed l = record { is : l.stand ≡ stand_of (acts_of l.id (take l.placed-index l.list)); bound : l.stand.count ≤ l.placed-index }

@@ -1,0 +1,13 @@
+use Rattle.std.proofs.Common.{[], subst, sym}
+use Rattle.plain_tree.specs.Explains.{Chain}
+use Rattle.plain_tree.specs.TreeData.{TreeData}
+use Rattle.plain_tree.specs.Tree.{tree_of}
+use Rattle.tree_histories.proofs.ListLemmas.{chain_none}
+use Rattle.tree_histories.proofs.PlaceLemmas.{leads_next}
+use Rattle.tree_histories.proofs.position.tree_after.Goals as goal
+
+pub loop-entry-init : goal.loop-entry-init
+loop-entry-init c = subst (λ (d : TreeData). Chain (tree_of c.args.base.now) [] (tree_of d)) (sym c.in_ok-tree.ensures) (chain_none (tree_of c.args.base.now))
+
+pub loop-entry-preserved : goal.loop-entry-preserved
+loop-entry-preserved c = leads_next (tree_of c.args.base.now) (tree_of c.loop-entry.tree) (tree_of c.apply.new.self) c.args.list.now c.loop-entry.entry-index c.entry-item.result c.in-Ok.field-0 c.loop-entry-test.true c.entry-item.is c.requires c.loop-entry.invariant c.in-Ok.ensures

@@ -1,0 +1,7 @@
+use Rattle.std.proofs.Common.{take}
+use Rattle.plain_tree.specs.Explains.{Chain}
+use Rattle.plain_tree.specs.Tree.{tree_of}
+use Rattle.tree_histories.proofs.position.tree_after.Given as goal
+
+abbrev pub invariant-loop-entry : goal.invariant-loop-entry
+invariant-loop-entry l = Chain (tree_of l.base) (take l.entry-index l.list) (tree_of l.tree)

@@ -1,0 +1,129 @@
+-- What is kept beside a run: a tree, the calls under way with their walks in it, and the list of the steps so far.
+use Rattle.std.specs.Prelude.{◌≡◌, ◌<◌, ◌⊎◌, ℕ, ◌+◌, ◌-◌, ◌^◌, min, Bool, true, false, not, List, [], ◌∷◌, ◌++◌, length, Option, Some, None, replicate, slice_index_or, slice_set}
+use Rattle.std.specs.Option.{option_map}
+use Rattle.tree_histories.specs.declared.explore.Hint.{Hint}
+use Rattle.plain_tree.specs.declared.answer.Answer.{Answer}
+use Rattle.plain_tree.specs.declared.call.Call.{Call}
+use Rattle.plain_tree.specs.Steps.{is_nothing}
+use Rattle.plain_tree.specs.Tree.{tree_of}
+use Rattle.plain_tree.specs.TreeData.{TreeData}
+use Rattle.plain_tree.specs.Widths.{hart_count}
+use Rattle.tree_laws.specs.Moves as moves
+use Rattle.tree_laws.specs.Runs.{lost_of}
+use Rattle.inode_machine.specs.Programs.{program}
+use Rattle.atomic_programs.specs.Prog.{Ret}
+use Rattle.path_walk.specs.Asks.{count_in, hears, reply_to}
+use Rattle.path_walk.specs.declared.asks.Heard.{Heard}
+use Rattle.whole_calls.specs.Wholes.{call_in, text_in, whole_of}
+use Rattle.whole_calls.specs.declared.whole.Whole.{Whole}
+use Rattle.whole_calls.specs.declared.whole.Whole.TheVariants as calling
+use Rattle.tree_histories.specs.declared.standing.Walk.{Walk}
+use Rattle.tree_histories.specs.Walks.{walk_of}
+
+-- A call under way: its place in the trace, how many steps it has made, how far it has come, the inodes that it has listed, its walk, if
+-- it is on one, and whether a step of its present operation has run.
+pub record Under : Type 0 where
+  pub id : ℕ
+  pub made : ℕ
+  pub whole : Whole
+  pub listed : List ℕ
+  pub walk : Option Walk
+  pub has_begun : Bool
+
+-- a call that begins, the one at this place of the trace
+abbrev pub IsNewCall : ℕ → Call → Under → Type 0
+IsNewCall id call u =
+    (u.id ≡ id) × (u.made ≡ 0) × (u.walk ≡ None) × (u.has_begun ≡ false) × (call_in u.whole ≡ call) × (whole_of u.listed u.whole ≡ program call)
+
+-- more was heard to be read than the call's buffer has
+abbrev pub ReadsTooMuch : Heard → Whole → Type 0
+ReadsTooMuch x (calling.Read fd buf c) = length buf.items < count_in x
+ReadsTooMuch x w = ⊥
+
+-- the same call, on the same walk, at the operation that comes after this answer
+pub record GoesOn (u : Under) (x : Heard) (v : Under) : Type 0 where
+  pub same : (v.id ≡ u.id) × (v.made ≡ u.made) × (v.walk ≡ u.walk) × (v.has_begun ≡ false) × (call_in v.whole ≡ call_in u.whole)
+  pub program : hears (text_in u.whole) (whole_of u.listed u.whole) x ≡ whole_of v.listed v.whole
+
+-- .. or it has ended, with a reply
+abbrev pub HearsSo : Under → Heard → Option Under → Type 0
+HearsSo u x (Some v) = GoesOn u x v
+HearsSo u x None = ReadsTooMuch x u.whole
+    ⊎ ((a : Answer) × (hears (text_in u.whole) (whole_of u.listed u.whole) x ≡ Ret (reply_to (call_in u.whole) a)))
+
+-- a number, as far as it fits; one more
+abbrev pub capped : ℕ → ℕ
+capped n = min n (2 ^ 64 - 1)
+
+abbrev pub counted : ℕ → ℕ
+counted n = capped (n + 1)
+
+abbrev pub more_made : Under → Under
+more_made u = record u { made = counted u.made }
+
+-- harts: by hart, its call under way
+pub record KeptTree : Type 0 where
+  pub tree : TreeData
+  pub list : List Hint
+  pub events : ℕ
+  pub calls : ℕ
+  pub harts : List (Option Under)
+
+abbrev pub nothing_kept : TreeData → KeptTree
+nothing_kept t = record { tree = t; list = []; events = 0; calls = 0; harts = replicate hart_count None }
+
+abbrev pub hart_in : KeptTree → ℕ → Option Under
+hart_in k h = slice_index_or k.harts h None
+
+abbrev pub with_hart : KeptTree → ℕ → Option Under → KeptTree
+with_hart k h o = record k { harts = slice_set k.harts h o }
+
+abbrev pub walking : Option Walk → Under → Under
+walking w u = record u { walk = w }
+
+-- the hart's call, if it has one, has this walk
+abbrev pub with_walk : KeptTree → ℕ → Option Walk → KeptTree
+with_walk k h w = with_hart k h (option_map (walking w) (hart_in k h))
+
+abbrev pub passed : KeptTree → KeptTree
+passed k = record k { events = counted k.events }
+
+-- the tree with the walks in it
+abbrev pub walk_under : Option Under → Option moves.Walk
+walk_under None = None
+walk_under (Some u) = option_map (walk_of (call_in u.whole)) u.walk
+
+abbrev pub stage_of : KeptTree → moves.Stage
+stage_of k = record { tree = tree_of k.tree; walk = λ h. walk_under (hart_in k h) }
+
+-- the hart's walk stands in no live directory
+abbrev pub is_lost : moves.Stage → ℕ → Bool
+is_lost m h = not (is_nothing (lost_of m h))
+
+-- an entry of a hart's call at the present event
+abbrev pub hint_by : KeptTree → Under → ℕ → Hint
+hint_by k u new = record { call = u.id; step = u.made; new = new; event = k.events }
+
+abbrev pub written_by : KeptTree → ℕ → ℕ → Option Under → KeptTree
+written_by k h new None = k
+written_by k h new (Some u) = record (with_hart k h (Some (more_made u))) { list = k.list ++ hint_by k u new ∷ [] }
+
+abbrev pub written : KeptTree → ℕ → ℕ → KeptTree
+written k h new = written_by k h new (hart_in k h)
+
+-- the hart's call after a step, which heard this, or nothing yet
+abbrev pub HeardBy : Option Under → Option Heard → Option Under → Type 0
+HeardBy None x o = o ≡ None
+HeardBy (Some u) None o = o ≡ Some (record u { has_begun = true })
+HeardBy (Some u) (Some x) o = HearsSo u x o
+
+pub record HasHeard (k : KeptTree) (h : ℕ) (heard : Option Heard) (k' : KeptTree) : Type 0 where
+  pub under : Option Under
+  pub hears : HeardBy (hart_in k h) heard under
+  pub kept : k' ≡ with_hart k h under
+
+-- A call of the hart has started at this event.
+pub record HasStarted (k : KeptTree) (h : ℕ) (call : Call) (k' : KeptTree) : Type 0 where
+  pub under : Under
+  pub fresh : IsNewCall k.calls call under
+  pub kept : k' ≡ passed (record (with_hart k h (Some under)) { calls = counted k.calls })

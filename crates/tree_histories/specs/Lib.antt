@@ -1,0 +1,10 @@
+pub mod Stands
+pub mod Searching
+pub mod Ordered
+pub mod Books
+pub mod Ends
+pub mod Keeping
+pub mod Moving
+pub mod Sights
+pub mod Told
+pub mod Walks

@@ -1,0 +1,153 @@
+-- What is kept where a call makes a move.
+use Rattle.std.specs.Prelude.{◌≡◌, ℕ, ◌<◌, ◌^◌, Bool, true, false, List, [], ◌∷◌, length, Option, Some, None, slice_index_or}
+use Rattle.std.specs.Option.{option_map}
+use Rattle.plain_tree.specs.declared.step.Action.{Action}
+use Rattle.plain_tree.specs.declared.step.TreeStep.{TreeStep}
+use Rattle.plain_tree.specs.declared.step.StepAnswer.{StepAnswer}
+use Rattle.plain_tree.specs.Applied.{IsApplied, IsBadChoice}
+use Rattle.plain_tree.specs.Steps.{path_of, refusal, makes_node, IsInPlace, IsNewNode}
+use Rattle.plain_tree.specs.Tree.{Name, Tree, elements, look, parent, resolve, settle, start_of, tree_of}
+use Rattle.plain_tree.specs.Widths.{hart_count}
+use Rattle.tree_laws.specs.History.{History}
+use Rattle.tree_laws.specs.Moves as moves
+use Rattle.tree_laws.specs.Moves.{Move, Stage}
+use Rattle.tree_laws.specs.Moves.Move.{Begin, Look, Quit, Own}
+use Rattle.tree_laws.specs.Runs.{all_fall, moves_on}
+use Rattle.inode_machine.specs.World.Mark.{Makes}
+use Rattle.inode_machine.specs.Kept.{stage_by, told_by_move}
+use Rattle.path_walk.specs.Asks.{mark_in}
+use Rattle.path_walk.specs.declared.asks.Heard.{Heard}
+use Rattle.path_walk.specs.declared.asks.Mark.{Mark}
+use Rattle.path_walk.specs.declared.asks.Mark.TheVariants as mark
+use Rattle.whole_calls.specs.Wholes.{action_in}
+use Rattle.tree_histories.specs.declared.kept.Deed.{Deed}
+use Rattle.tree_histories.specs.Books.{IsBook}
+use Rattle.tree_histories.specs.Sights.{MarksBy}
+use Rattle.tree_histories.specs.Keeping.{HasHeard, KeptTree, Under, hart_in, is_lost, stage_of, walking, with_walk, written}
+
+-- The tree makes the step as the move does: the step has its place, its path leads to what was found for the move, and a node that it makes
+-- takes a number that is free.
+pub record ActsSo (t : Tree) (h : ℕ) (s : Action) (res : Option ℕ) (par : Option (ℕ × Name)) (new : ℕ) : Type 0 where
+  pub place : IsInPlace t h s
+  pub found : resolve t h (path_of s) ≡ res
+  pub behind : parent t h (path_of s) ≡ par
+  pub node : refusal t h s ≡ None → makes_node t s par ≡ true → IsNewNode t new
+
+abbrev pub MayBegin : Tree → ℕ → Action → List Name → ℕ → Type 0
+MayBegin t h s [] new = ActsSo t h s (Some (start_of t h (path_of s))) None new
+MayBegin t h s (e ∷ es) new = Unit {0}
+
+abbrev pub MayLook : Tree → ℕ → moves.Walk → List Name → Option ℕ → ℕ → Type 0
+MayLook t h w [] found new = ActsSo t h w.step found (Some (w.at, w.next)) new
+MayLook t h w (e ∷ es) None new = ActsSo t h w.step None None new
+MayLook t h w (e ∷ es) (Some n) new = Unit {0}
+
+abbrev pub MayLookOn : Tree → ℕ → Option moves.Walk → ℕ → Type 0
+MayLookOn t h None new = Unit {0}
+MayLookOn t h (Some w) new = MayLook t h w w.rest (look t.nodes w.at w.next) new
+
+abbrev pub MayMove : Stage → ℕ → Move → Type 0
+MayMove m h (Begin s new) = MayBegin m.tree h s (elements (path_of s)) new
+MayMove m h (Look new) = MayLookOn m.tree h (m.walk h) new × (new < 2 ^ 16)
+MayMove m h (Quit s) = Unit {0}
+MayMove m h (Own s new) = ActsSo m.tree h s (resolve m.tree h (path_of s)) (parent m.tree h (path_of s)) new
+
+-- The hart makes this move in a settled tree, and where its step acts the tree makes that as well.
+pub record MayMake (m : Stage) (h : ℕ) (v : Move) : Type 0 where
+  pub hart : h < hart_count
+  pub settled : settle m.tree ≡ m.tree
+  pub move : MayMove m h v
+
+-- a mark for which the kept tree stays: what it frees isn't in the settled tree, or there was no room, and no list explains the run
+abbrev pub makes_none : Mark → Bool
+makes_none (mark.PartOfPiece i n) = true
+makes_none (mark.Frees n) = true
+makes_none (mark.Orphans n) = true
+makes_none mark.Mends = true
+makes_none mark.Fills = true
+makes_none m = false
+
+abbrev pub tree_step : ℕ → ℕ → Action → TreeStep
+tree_step h new s = record { hart = h; new = new; action = s }
+
+-- the step acted on the tree; or it makes a node, and can't take the number that it says
+abbrev pub ActedOn : Tree → TreeStep → Option Deed → Tree → Type 0
+ActedOn t s None t' = IsBadChoice t s × (t' ≡ t)
+ActedOn t s (Some d) t' = (d.new ≡ s.new) × ((a : StepAnswer) × IsApplied t s a t')
+
+-- the step acted, if it may, and its hart's walk is over
+pub record IsActed (k : KeptTree) (s : TreeStep) (d : Option Deed) (k' : KeptTree) : Type 0 where
+  pub kept : k' ≡ record (with_walk k s.hart None) { tree = k'.tree }
+  pub acted : ActedOn (tree_of k.tree) s d (tree_of k'.tree)
+
+-- nothing but the tree and walks has changed
+pub record OnlyMoves (k k' : KeptTree) : Type 0 where
+  pub count : length k'.harts ≡ length k.harts
+  pub list : k'.list ≡ k.list
+  pub events : k'.events ≡ k.events
+  pub calls : k'.calls ≡ k.calls
+  pub harts : (h : ℕ) → option_map (walking None) (hart_in k' h) ≡ option_map (walking None) (hart_in k h)
+
+-- the new node's number in what is told
+abbrev pub new_in : moves.Deed → Deed
+new_in d = record { new = d.new }
+
+-- the stage is that of the move, and what is told is what the move tells
+pub record Tells (k : KeptTree) (h : ℕ) (v : Move) (d : Option Deed) (k' : KeptTree) : Type 0 where
+  pub id : ℕ
+  pub stage : stage_of k' ≡ stage_by (stage_of k) h id v
+  pub told : d ≡ option_map new_in (told_by_move (stage_of k) h id v)
+
+-- where the mark of the hart's call makes a move, that is told
+abbrev pub TellsOf : KeptTree → ℕ → Mark → Option Deed → KeptTree → Type 0
+TellsOf k h m d k' = (u : Under) (v : Move) → hart_in k h ≡ Some u → mark_in (action_in u.whole) m ≡ Makes v → MayMake (stage_of k) h v
+    → Tells k h v d k'
+
+-- a mark that makes no move changes nothing
+abbrev pub StaysFor : KeptTree → Mark → Option Deed → KeptTree → Type 0
+StaysFor k m d k' = makes_none m ≡ true → (d ≡ None) × (k' ≡ k)
+
+-- what is told is written, unless that was done as the hart's walk was lost
+abbrev pub told_in : KeptTree → ℕ → Option Deed → Bool → KeptTree
+told_in k h None was_lost = k
+told_in k h (Some d) true = k
+told_in k h (Some d) false = written k h d.new
+
+-- these harts' walks are lost
+abbrev pub WereLost : List Bool → Stage → Type 0
+WereLost before m = (h : ℕ) → h < hart_count → slice_index_or before h false ≡ is_lost m h
+
+-- the walks that are lost by now, and weren't before, have failed
+abbrev pub HaveFallen : List Bool → KeptTree → KeptTree → Type 0
+HaveFallen before k k' = (m : Stage) (b : History) → WereLost before m → IsBook k b → IsBook k' (all_fall m (stage_of k) hart_count b)
+
+-- where none is lost that wasn't, nothing has changed
+abbrev pub NoneFalls : List Bool → KeptTree → KeptTree → Type 0
+NoneFalls before k k' = WereLost before (stage_of k) → k' ≡ k
+
+-- Kept is what the theory keeps: the stage of the move, and the history with what it tells and with the walks that it loses.
+pub record IsMoved (k : KeptTree) (h : ℕ) (v : Move) (k' : KeptTree) : Type 0 where
+  pub id : ℕ
+  pub stage : stage_of k' ≡ stage_by (stage_of k) h id v
+  pub book : (b : History) → IsBook k b
+      → IsBook k' (moves_on (stage_of k) (stage_by (stage_of k) h id v) h (told_by_move (stage_of k) h id v) b)
+
+-- what is kept goes on by the mark of the hart's call
+pub record MovesBy (k : KeptTree) (h : ℕ) (m : Mark) (k' : KeptTree) : Type 0 where
+  pub makes : (u : Under) (v : Move) → hart_in k h ≡ Some u → mark_in (action_in u.whole) m ≡ Makes v → MayMake (stage_of k) h v
+      → IsMoved k h v k'
+  pub still : makes_none m ≡ true → k' ≡ k
+
+-- without a mark nothing changes
+abbrev pub MovesByAny : KeptTree → ℕ → Option Mark → KeptTree → Type 0
+MovesByAny k h None k' = k' ≡ k
+MovesByAny k h (Some m) k' = MovesBy k h m k'
+
+-- A step of the hart's call has run: its operation has this mark there, if it acts; the move of that is made, and the call goes on by what
+-- it heard.
+pub record HasRun (k : KeptTree) (h : ℕ) (heard : Option Heard) (k' : KeptTree) : Type 0 where
+  pub marked : Option Mark
+  pub marks : MarksBy (tree_of k.tree) (hart_in k h) heard marked
+  pub between : KeptTree
+  pub moves : MovesByAny k h marked between
+  pub hears : HasHeard between h heard k'

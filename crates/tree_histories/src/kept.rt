@@ -1,0 +1,486 @@
+//! The tree kept beside a run, and the list of the tree steps so far. Each event appends to it; no entry is changed.
+ghost use Rattle.std.specs.Prelude.{◌≡◌, ◌-◌, ◌<◌, ◌^◌, ◌&&◌, ℕ, false, not, List, None, Some, IfOk, MatchOption, slice_index_or};
+ghost use Rattle.std.specs.Option.{option_map};
+ghost use Rattle.plain_tree.specs.Tree.{look, tree_of};
+ghost use Rattle.plain_tree.specs.Widths.{hart_count};
+ghost use Rattle.plain_tree.specs.declared.answer.Reply.{Reply};
+ghost use Rattle.tree_laws.specs.History.{History, passes, replies, starts};
+ghost use Rattle.inode_machine.specs.Kept.{nothing_yet};
+ghost use Rattle.path_walk.specs.Asks.{asks, op_in};
+ghost use Rattle.whole_calls.specs.Wholes.{IsCall, WholeFits, action_in, call_in, whole_of};
+ghost use Rattle.tree_histories.specs.Books.{IsBook};
+ghost use Rattle.tree_histories.specs.Keeping.{HasHeard, HasStarted, Under, counted, hart_in, is_lost, more_made, nothing_kept, passed, stage_of, with_hart, with_walk, written};
+ghost use Rattle.tree_histories.specs.Moving.{HasRun, HaveFallen, IsActed, MovesBy, NoneFalls, OnlyMoves, StaysFor, TellsOf, WereLost, told_in, tree_step};
+ghost use Rattle.tree_histories.specs.Sights.{MarksBy, SeenFor, acts_first};
+ghost use Rattle.tree_histories.specs.Walks.{IsNextWalk, step_in, walk_of};
+
+use crate::sees::{is_live_directory, look, sight};
+use crate::standing::{Standing, Walk};
+use crate::Hint;
+use path_walk::{Ask, Heard, Locked, Mark};
+use plain_tree::{Action, ApplyRefused, Call, NoMemory, Tree, TreeStep};
+use std::alloc::Global;
+use std::marker::Model;
+use std::mem;
+
+const HARTS: u8 = 8;
+
+// A tree step that acts, by the number that a new node gets by it; 0 where it makes none.
+#[derive(Clone, Copy)]
+pub(crate) struct Deed {
+    new: u16,
+}
+
+// The step of a walk that fails.
+const FAILED_WALK: Deed = Deed { new: 0 };
+
+/// The tree, the calls under way with their walks in it, and the list of steps, of each its call, its place there and its event.
+///
+/// It is told of each event of a run: a start, what a call heard in a step that ran, a reply, or that the event shows nothing. A step
+/// of the tree is appended at the event at which the operation acts that makes it, and behind it, in order of hart, the failing steps
+/// of the walks that it loses, whose directory it removes. So a list is that of the events before, with what is appended.
+///
+/// A contract sees the tree with the walks in it as the theory's stage, and the list as that of the theory's history (`IsBook`): a start, a
+/// move, a reply and an event that shows nothing take both on as they take the theory's, where the tree makes the move's step as the
+/// theory has it (`MayMake`).
+#[derive(Drop)]
+pub struct Kept {
+    tree: Tree,
+    list: Vec<Hint>,
+    events: u64,
+    calls: usize,
+    harts: [Option<Standing>; HARTS as usize],
+}
+
+impl Model for Kept {
+    ghost use Rattle.std.specs.Prelude.{◌≡◌, length};
+    ghost use Rattle.tree_histories.specs.Keeping.{KeptTree};
+
+    ghost Value = { KeptTree };
+
+    ghost view = { λ k. record { tree = k.tree; list = k.list.items; events = k.events; calls = k.calls; harts = k.harts } };
+
+    ghost invariant = { λ k. length k.harts ≡ 8 };
+}
+
+// What the operation that was asked for answers where its lock is taken, as far as the tree shows it. What it finds there is read from
+// the device later, and nobody changes it in between.
+fn seen(tree: &Tree, standing: &Standing) -> Heard
+    ensures { (listed : List ℕ) → WholeFits listed standing.now.whole
+        → SeenFor (tree_of tree.now) (asks (whole_of listed standing.now.whole)) result }
+{
+    match standing.ask() {
+        Ask::Take(number, query) => {
+            let (path, second) = standing.paths();
+            Heard::Saw(sight(tree, number, &query, path, second))
+        }
+        _ => Heard::Locked(Locked::Locks(0, 0)),
+    }
+}
+
+// The operation acts where it takes a lock, in its first step; the others act in their last one.
+fn acts_first(ask: &Ask) -> bool
+    ensures { (text : List ℕ) → result ≡ acts_first (op_in text ask.now) }
+{
+    matches!(
+        ask,
+        Ask::Take(_, _) | Ask::StatFile(_) | Ask::LockFile(_) | Ask::LockOpen(_, _)
+    )
+}
+
+// A node's number, as the tree has it.
+fn node_number(new: u32) -> u16
+    ensures { new < 2 ^ 16 → result ≡ new }
+{
+    match u16::try_from(new) {
+        Ok(number) => number,
+        Err(_) => 0,
+    }
+}
+
+impl Kept {
+    /// Beside a run that begins with this tree.
+    pub fn new(alloc: Global, tree: Tree) -> Kept
+        ensures kept { result ≡ nothing_kept tree }
+        ensures book { IsBook result nothing_yet }
+    {
+        Kept {
+            tree,
+            list: Vec::new(alloc),
+            events: 0,
+            calls: 0,
+            harts: [None, None, None, None, None, None, None, None],
+        }
+    }
+
+    /// The event shows nothing more of calls.
+    pub fn passes(&mut self)
+        ensures kept { self.new ≡ passed self.old }
+        ensures book { (b : History) → IsBook self.old b → IsBook self.new (passes b) }
+    {
+        self.events = self.events.saturating_add(1);
+    }
+
+    /// The event starts this call of a hart.
+    pub fn starts(&mut self, alloc: Global, hart: u8, call: Call) -> Result<(), NoMemory>
+        requires { IsCall call }
+        ensures kept { IfOk result (λ _. HasStarted self.old hart call self.new) }
+        ensures book { IfOk result (λ _. (b : History) → hart < hart_count → self.old.calls < 2 ^ 64 - 1 → IsBook self.old b
+            → IsBook self.new (starts b hart call)) }
+    {
+        let standing = Standing::new(alloc, self.next_id(), call)?;
+        self.put(hart, Some(standing));
+        self.count_call();
+        self.passes();
+        Ok(())
+    }
+
+    /// A step of the hart's call runs in this event; `heard` is what the call heard, where an operation ended there.
+    pub fn runs(&mut self, alloc: Global, hart: u8, heard: Option<Heard>) -> Result<(), NoMemory>
+        ensures { IfOk result (λ _. HasRun self.old hart heard self.new) }
+    {
+        let Some(mark) = self.mark(hart, heard) else {
+            self.hears(hart, heard);
+            return Ok(());
+        };
+        self.moves(alloc, hart, mark)?;
+        self.hears(hart, heard);
+        Ok(())
+    }
+
+    /// The event ends with the hart's reply.
+    pub fn replies(&mut self, hart: u8)
+        ensures kept { self.new ≡ passed (with_hart self.old hart None) }
+        ensures book { (b : History) (r : Reply) → hart < hart_count → IsBook self.old b → IsBook self.new (replies b hart r) }
+    {
+        self.put(hart, None);
+        self.passes();
+    }
+
+    /// The list so far, as what a search for a list is to try.
+    pub fn into_hints(self) -> Vec<Hint>
+        ensures { result.items ≡ self.list }
+    {
+        self.list
+    }
+
+    // The place in the trace of the next call that starts.
+    fn next_id(&self) -> usize
+        ensures { result ≡ self.now.calls }
+    {
+        self.calls
+    }
+
+    fn count_call(&mut self)
+        ensures { self.new ≡ record self.old { calls = counted self.old.calls } }
+    {
+        self.calls = self.calls.saturating_add(1);
+    }
+
+    // The hart's current directory in the tree.
+    fn directory(&self, hart: u8) -> u16
+        ensures { result ≡ (tree_of self.now.tree).cwd hart }
+    {
+        self.tree.directory(hart)
+    }
+
+    fn standing(&self, hart: u8) -> Option<&Standing>
+        ensures { MatchOption result (hart_in self.now hart ≡ None) (λ s. hart_in self.now hart ≡ Some s.now) }
+    {
+        match self.harts.get(usize::from(hart)) {
+            Some(Some(standing)) => Some(standing),
+            _ => None,
+        }
+    }
+
+    // The hart has this call under way, or none.
+    fn put(&mut self, hart: u8, standing: Option<Standing>)
+        ensures { self.new ≡ with_hart self.old hart standing }
+    {
+        let Some(_) = self.harts.get(usize::from(hart)) else {
+            return;
+        };
+        self.harts[usize::from(hart)] = standing;
+    }
+
+    // Takes the hart's call out.
+    fn take(&mut self, hart: u8) -> Option<Standing>
+        ensures call { result ≡ hart_in self.old hart }
+        ensures rest { self.new ≡ with_hart self.old hart None }
+    {
+        let Some(_) = self.harts.get(usize::from(hart)) else {
+            return None;
+        };
+        mem::replace(&mut self.harts[usize::from(hart)], None)
+    }
+
+    // The move that is made in this step, if its operation acts here and makes one.
+    fn mark(&self, hart: u8, heard: Option<Heard>) -> Option<Mark>
+        ensures { MarksBy (tree_of self.now.tree) (hart_in self.now hart) heard result }
+    {
+        let standing = self.standing(hart)?;
+        let first = acts_first(&standing.ask());
+        if first && standing.has_begun() {
+            return None;
+        }
+        match heard {
+            Some(heard) => standing.mark(&heard),
+            None => {
+                if !first {
+                    return None;
+                }
+                let heard = seen(&self.tree, standing);
+                standing.mark(&heard)
+            }
+        }
+    }
+
+    // The call goes on.
+    fn hears(&mut self, hart: u8, heard: Option<Heard>)
+        ensures { HasHeard self.old hart heard self.new }
+    {
+        let Some(standing) = self.take(hart) else {
+            return;
+        };
+        match heard {
+            Some(heard) => {
+                let goes_on = standing.hear(&heard);
+                self.put(hart, goes_on);
+            }
+            None => {
+                let mut standing = standing;
+                standing.begin();
+                self.put(hart, Some(standing));
+            }
+        }
+    }
+
+    // Whether the hart's walk stands in no live directory.
+    fn is_lost(&self, hart: u8) -> bool
+        ensures { result ≡ is_lost (stage_of self.now) hart }
+    {
+        let Some(standing) = self.standing(hart) else {
+            return false;
+        };
+        match standing.walk() {
+            Some(walk) => !is_live_directory(&self.tree, walk.directory),
+            None => false,
+        }
+    }
+
+    fn lost(&self) -> [bool; HARTS as usize]
+        ensures { WereLost result (stage_of self.now) }
+    {
+        let mut lost = [false; HARTS as usize];
+        for hart in 0..HARTS {
+            lost[usize::from(hart)] = self.is_lost(hart);
+        }
+        lost
+    }
+
+    // What the move tells is written, unless it was as the walk was lost; then the walks that it loses fail, in order of hart.
+    fn moves(&mut self, alloc: Global, hart: u8, mark: Mark) -> Result<(), NoMemory>
+        ensures { IfOk result (λ _. MovesBy self.old hart mark self.new) }
+    {
+        let before = self.lost();
+        let was_lost = self.is_lost(hart);
+        let told = self.told(alloc, hart, mark)?;
+        self.tell(hart, told, was_lost)?;
+        self.fall(&before)
+    }
+
+    // What is told is written, unless the walk was lost before.
+    fn tell(&mut self, hart: u8, told: Option<Deed>, was_lost: bool) -> Result<(), NoMemory>
+        ensures { IfOk result (λ _. self.new ≡ told_in self.old hart told was_lost) }
+    {
+        match told {
+            Some(deed) => {
+                if was_lost {
+                    Ok(())
+                } else {
+                    self.write(hart, deed)
+                }
+            }
+            None => Ok(()),
+        }
+    }
+
+    // The hart's walk is lost by now and wasn't before.
+    fn falls(&self, before: &[bool; HARTS as usize], hart: u8) -> bool
+        requires { hart < 8 }
+        ensures { result ≡ (not (slice_index_or before.now hart false) && is_lost (stage_of self.now) hart) }
+    {
+        !before[usize::from(hart)] && self.is_lost(hart)
+    }
+
+    // The walks fail that are lost by now and weren't before, in order of hart.
+    fn fall(&mut self, before: &[bool; HARTS as usize]) -> Result<(), NoMemory>
+        ensures stage { IfOk result (λ _. stage_of self.new ≡ stage_of self.old) }
+        ensures book { IfOk result (λ _. HaveFallen before.now self.old self.new) }
+        ensures none { IfOk result (λ _. NoneFalls before.now self.old self.new) }
+    {
+        for hart in 0..HARTS {
+            if self.falls(before, hart) {
+                self.write(hart, FAILED_WALK)?;
+            }
+        }
+        Ok(())
+    }
+
+    // What is told of a tree step where this move is made. Where there is no room, no list explains the run, and nothing is told.
+    fn told(&mut self, alloc: Global, hart: u8, mark: Mark) -> Result<Option<Deed>, NoMemory>
+        ensures only { IfOk result (λ _. OnlyMoves self.old self.new) }
+        ensures tells { IfOk result (λ d. TellsOf self.old hart mark d self.new) }
+        ensures stays { IfOk result (λ d. StaysFor self.old mark d self.new) }
+    {
+        match mark {
+            Mark::Begin => self.begins(alloc, hart),
+            Mark::Look(new) => self.looks(alloc, hart, new),
+            Mark::Quit => Ok(Some(self.quits(hart))),
+            Mark::Own => self.acts_alone(alloc, hart, Mark::Own),
+            Mark::Truncate(fd) => self.acts_alone(alloc, hart, Mark::Truncate(fd)),
+            Mark::Bump => self.acts_alone(alloc, hart, Mark::Bump),
+            Mark::Unbump => self.acts_alone(alloc, hart, Mark::Unbump),
+            Mark::Piece(index) => self.acts_alone(alloc, hart, Mark::Piece(index)),
+            Mark::PartOfPiece(_, _) => Ok(None),
+            Mark::Frees(_) => Ok(None),
+            Mark::Orphans(_) => Ok(None),
+            Mark::Mends => Ok(None),
+            Mark::Fills => Ok(None),
+        }
+    }
+
+    // The step acts on the tree, and the hart's walk is over. One that the tree refuses is left out.
+    fn acts(
+        &mut self,
+        alloc: Global,
+        hart: u8,
+        action: Action,
+        new: u16,
+    ) -> Result<Option<Deed>, NoMemory>
+        ensures { IfOk result (λ d. IsActed self.old (tree_step hart new action) d self.new) }
+    {
+        self.set_walk(hart, None);
+        let step = TreeStep { hart, new, action };
+        match self.tree.apply(alloc, &step) {
+            Ok(_) => Ok(Some(Deed { new })),
+            Err(ApplyRefused::BadChoice) => Ok(None),
+            Err(ApplyRefused::NoMemory) => Err(NoMemory),
+        }
+    }
+
+    // The step that the mark is for acts.
+    fn acts_alone(&mut self, alloc: Global, hart: u8, mark: Mark) -> Result<Option<Deed>, NoMemory>
+        ensures only { IfOk result (λ _. OnlyMoves self.old self.new) }
+        ensures acts { IfOk result (λ d. (u : Under) → hart_in self.old hart ≡ Some u
+            → IsActed self.old (tree_step hart 0 (step_in (action_in u.whole) mark)) d self.new) }
+    {
+        let Some(standing) = self.standing(hart) else {
+            return Ok(None);
+        };
+        let action = standing.action(alloc, mark)?;
+        self.acts(alloc, hart, action, 0)
+    }
+
+    // A walk stands at the start of its path; a path without elements is found there.
+    fn begins(&mut self, alloc: Global, hart: u8) -> Result<Option<Deed>, NoMemory>
+        ensures only { IfOk result (λ _. OnlyMoves self.old self.new) }
+        ensures tells { IfOk result (λ d. TellsOf self.old hart Mark.Begin d self.new) }
+    {
+        let Some(standing) = self.standing(hart) else {
+            return Ok(None);
+        };
+        match standing.start(self.directory(hart)) {
+            Some(walk) => {
+                self.set_walk(hart, Some(walk));
+                Ok(None)
+            }
+            None => {
+                let action = standing.action(alloc, Mark::Begin)?;
+                self.acts(alloc, hart, action, 0)
+            }
+        }
+    }
+
+    // Where the walk stands when it has looked up its next element, if it found that and goes on.
+    fn next_walk(&self, standing: &Standing, walk: Walk) -> Option<Walk>
+        ensures { let before = walk_of (call_in standing.now.whole) walk in
+            IsNextWalk (call_in standing.now.whole) result before (look (tree_of self.now.tree).nodes before.at before.next) }
+    {
+        let number = look(&self.tree, walk.directory, standing.name(walk))?;
+        standing.after(walk, number)
+    }
+
+    // The next element is looked up: the step acts at the last one, or where nothing is found. Without a walk nothing is.
+    fn looks(&mut self, alloc: Global, hart: u8, new: u32) -> Result<Option<Deed>, NoMemory>
+        ensures only { IfOk result (λ _. OnlyMoves self.old self.new) }
+        ensures tells { IfOk result (λ d. TellsOf self.old hart (Mark.Look new) d self.new) }
+    {
+        let Some(standing) = self.standing(hart) else {
+            return Ok(None);
+        };
+        let Some(walk) = standing.walk() else {
+            return Ok(None);
+        };
+        match self.next_walk(standing, walk) {
+            Some(next) => {
+                self.set_walk(hart, Some(next));
+                Ok(None)
+            }
+            None => {
+                let action = standing.step(walk)?;
+                self.acts(alloc, hart, action, node_number(new))
+            }
+        }
+    }
+
+    // The walk is given up: its step fails.
+    fn quits(&mut self, hart: u8) -> Deed
+        ensures kept { self.new ≡ with_walk self.old hart None }
+        ensures deed { result ≡ FAILED_WALK }
+    {
+        self.set_walk(hart, None);
+        FAILED_WALK
+    }
+
+    fn set_walk(&mut self, hart: u8, walk: Option<Walk>)
+        ensures { self.new ≡ with_walk self.old hart walk }
+    {
+        let Some(standing) = self.take(hart) else {
+            return;
+        };
+        let mut standing = standing;
+        standing.set_walk(walk);
+        self.put(hart, Some(standing));
+    }
+
+    // The hart's call has made a step more.
+    fn count(&mut self, hart: u8)
+        ensures { self.new ≡ with_hart self.old hart (option_map more_made (hart_in self.old hart)) }
+    {
+        let Some(standing) = self.take(hart) else {
+            return;
+        };
+        let mut standing = standing;
+        standing.count();
+        self.put(hart, Some(standing));
+    }
+
+    // An entry at this event.
+    fn write(&mut self, hart: u8, deed: Deed) -> Result<(), NoMemory>
+        ensures { IfOk result (λ _. self.new ≡ written self.old hart deed.new) }
+    {
+        let Some(standing) = self.standing(hart) else {
+            return Ok(());
+        };
+        let hint = Hint {
+            call: standing.id(),
+            step: standing.made(),
+            new: deed.new,
+            event: self.events,
+        };
+        self.list.push(hint)?;
+        self.count(hart);
+        Ok(())
+    }
+}

@@ -1,0 +1,23 @@
+//! A complete search for the history of a trace: one list of tree steps that explains what several harts were answered.
+//! It finds one wherever there is one, so that it answers of any trace, also of another file system's, whether the
+//! replies are those of calls that act in steps on one tree.
+//! That there is none is said only where no list explains the trace. It gives up where memory is refused, or a node is to be made in a
+//! table of more than 65,536 numbers.
+#![tactic(auto)]
+
+mod ends;
+mod explore;
+mod follow;
+mod kept;
+mod next;
+mod paths;
+mod place;
+mod position;
+mod reply;
+mod sees;
+mod stand;
+mod standing;
+
+pub use crate::explore::{Hint, find_history};
+pub use crate::kept::Kept;
+pub use crate::paths::{any_climbs, any_full};

@@ -1,0 +1,166 @@
+//! What the kept tree shows of a node to who takes its lock.
+ghost use Rattle.std.specs.Prelude.{◌≡◌, ◌<◌, ◌^◌, ◌++◌, ℕ, drop, List, Some};
+ghost use Rattle.plain_tree.specs.Steps.{any_used, size_of};
+ghost use Rattle.plain_tree.specs.Tree.{first_slot, live_directory, look, tree_of};
+ghost use Rattle.inode_machine.specs.Inodes.{empty_in, face_of as face_seen, found_in, is_empty_kind, sort_of_kind};
+ghost use Rattle.path_walk.specs.Asks.{face_of, query_in, sort_of, IsSought, IsSoughtInOne};
+ghost use Rattle.tree_histories.specs.Sights.{FewSlots, ShowsSo};
+
+use crate::paths::{name_in, same};
+use path_walk::{Face, Query, Sight, Sort};
+use plain_tree::{Kind, Node, Slot, Tree};
+
+const ENTRY_LEN: u64 = 16;
+
+/// The slots of a new directory, for itself and its parent.
+const FIRST_SLOTS: usize = 2;
+
+pub(crate) fn is_live_directory(tree: &Tree, number: u16) -> bool
+    ensures { result ≡ live_directory ((tree_of tree.now).nodes number) }
+{
+    match tree.node(usize::from(number)) {
+        Some(node) => node.count > 0 && matches!(&node.kind, Kind::Directory { .. }),
+        None => false,
+    }
+}
+
+// The number in the first slot of that name.
+#[tactic(auto, unfolding(plain_tree::specs::Tree::first_slot))]
+fn number_of(slots: &[Option<Slot>], name: &[u8]) -> Option<u16>
+    ensures { result ≡ first_slot slots.now name.now }
+{
+    for slot in slots {
+        if let Some(slot) = slot {
+            if same(slot.name.as_slice(), name) {
+                return Some(slot.number);
+            }
+        }
+    }
+    None
+}
+
+/// What a live directory has under the name.
+#[tactic(auto, unfolding(plain_tree::specs::Tree::look))]
+pub(crate) fn look(tree: &Tree, directory: u16, name: &[u8]) -> Option<u16>
+    ensures { result ≡ look (tree_of tree.now).nodes directory name.now }
+{
+    let node = tree.node(usize::from(directory))?;
+    match &node.kind {
+        Kind::Directory { slots } if node.count > 0 => number_of(slots.as_slice(), name),
+        _ => None,
+    }
+}
+
+fn sort_of(kind: &Kind) -> Sort
+    ensures { sort_of result ≡ sort_of_kind kind.now }
+{
+    match kind {
+        Kind::Directory { .. } => Sort::Directory,
+        Kind::File { .. } => Sort::File,
+        Kind::Device { major, .. } => Sort::Device(*major),
+    }
+}
+
+// How many bytes it has.
+fn size_of(kind: &Kind) -> u64
+    ensures { FewSlots kind.now → result ≡ size_of kind.now }
+{
+    match kind {
+        Kind::Directory { slots } => ENTRY_LEN.saturating_mul(slots.as_slice().len() as u64),
+        Kind::File { bytes } => bytes.as_slice().len() as u64,
+        Kind::Device { size, .. } => u64::from(*size),
+    }
+}
+
+fn face_of(node: &Node) -> Face
+    ensures { FewSlots node.now.kind → Some (face_of result) ≡ face_seen (Some node.now) }
+{
+    Face {
+        sort: sort_of(&node.kind),
+        count: node.count,
+        size: size_of(&node.kind),
+    }
+}
+
+#[tactic(auto, unfolding(plain_tree::specs::Steps::any_used))]
+fn slot_in_use(slots: &[Option<Slot>]) -> bool
+    ensures { result ≡ any_used slots.now }
+{
+    for slot in slots {
+        if slot.is_some() {
+            return true;
+        }
+    }
+    false
+}
+
+// A slot past the first two is used.
+fn has_entries(slots: &[Option<Slot>]) -> bool
+    ensures { result ≡ any_used (drop 2 slots.now) }
+{
+    slots.len() > FIRST_SLOTS && slot_in_use(&slots[FIRST_SLOTS..])
+}
+
+// No slot past the first two is used.
+fn is_empty(kind: &Kind) -> bool
+    ensures { result ≡ is_empty_kind kind.now }
+{
+    match kind {
+        Kind::Directory { slots } => !has_entries(slots.as_slice()),
+        _ => true,
+    }
+}
+
+// What a node of this number has under the name.
+fn found(tree: &Tree, number: u32, name: &[u8]) -> Option<u32>
+    ensures { number < 2 ^ 16 → result ≡ look (tree_of tree.now).nodes number name.now }
+{
+    let Ok(number) = u16::try_from(number) else {
+        return None;
+    };
+    match look(tree, number, name) {
+        Some(found) => Some(u32::from(found)),
+        None => None,
+    }
+}
+
+// What it has under the name that is looked for.
+fn found_in(tree: &Tree, number: u32, query: &Query, path: &[u8], second: &[u8]) -> Option<u32>
+    ensures { number < 2 ^ 16 → IsSought (path.now ++ second.now) query.now → IsSoughtInOne path.now query.now
+        → result ≡ found_in number ((tree_of tree.now).nodes number) (query_in (path.now ++ second.now) query.now) }
+{
+    match query {
+        Query::Name(element) => found(tree, number, name_in(path, second, element)),
+        _ => None,
+    }
+}
+
+// Whether it is empty, where that is looked for.
+fn empty_in(node: &Node, query: &Query) -> bool
+    ensures { (text : List ℕ) → result ≡ empty_in (Some node.now) (query_in text query.now) }
+{
+    match query {
+        Query::Entries => is_empty(&node.kind),
+        _ => true,
+    }
+}
+
+/// What is seen of the node of this number where it is looked for this, in a call with this path and a second one behind it. It holds
+/// where the node's lock is free, or taken by who looks: nobody else has changes of it in hand.
+pub(crate) fn sight(tree: &Tree, number: u32, query: &Query, path: &[u8], second: &[u8]) -> Sight
+    ensures { ShowsSo (tree_of tree.now) number query.now path.now second.now result }
+{
+    let found = found_in(tree, number, query, path, second);
+    match tree.node(number as usize) {
+        Some(node) => Sight {
+            face: Some(face_of(node)),
+            found,
+            empty: empty_in(node, query),
+        },
+        None => Sight {
+            face: None,
+            found,
+            empty: true,
+        },
+    }
+}

@@ -1,0 +1,369 @@
+//! A call under way, and its walk in the kept tree.
+ghost use Rattle.std.specs.Prelude.{◌≡◌, ◌∷◌, ℕ, false, true, if◌then◌else◌, List, Option, Some, IfOk, IsTrue};
+ghost use Rattle.plain_tree.specs.Calls.{piece};
+ghost use Rattle.plain_tree.specs.Steps.{path_of};
+ghost use Rattle.plain_tree.specs.Tree.{elements, is_absolute};
+ghost use Rattle.plain_tree.specs.Widths.{root};
+ghost use Rattle.plain_tree.specs.declared.call.Call.TheVariants as calls;
+ghost use Rattle.path_walk.specs.Asks.{asks, mark_at, marked_as, op_in, piece_of};
+ghost use Rattle.whole_calls.specs.Wholes.{HasRoomFor, IsCall, WholeAsks, WholeFits, action_in, call_in, first_in, second_in, text_in, whole_of};
+ghost use Rattle.tree_histories.specs.Keeping.{HearsSo, IsNewCall, ReadsTooMuch, more_made, walking};
+ghost use Rattle.tree_histories.specs.Walks.{IsWalk, is_on_new, is_past_old, left_to, step_for, step_in, walk_of};
+
+use crate::paths::{first, next_element, rest_of};
+use path_walk::{Ask, Heard, Mark, Numbers, is_absolute};
+use plain_tree::{Action, Answer, Bytes, Call, NoMemory};
+use std::alloc::Global;
+use std::marker::Model;
+use whole_calls::{Link, Whole};
+
+/// Bytes of a write's piece.
+const PIECE_LEN: usize = 3072;
+
+const ROOT: u16 = 1;
+
+/// Where a walk stands: the directory in which it looks next, and the place in its path from which the next element is sought. A link's
+/// walk is along its old path, or along its new one.
+#[derive(Clone, Copy)]
+pub(crate) struct Walk {
+    pub(crate) directory: u16,
+    from: usize,
+    is_new: bool,
+}
+
+/// A call under way: its place in the trace, how many steps it has made, its control over whole inodes, and its walk, if it is on one.
+#[derive(Drop)]
+pub(crate) struct Standing {
+    id: usize,
+    made: usize,
+    whole: Whole,
+    list: Numbers,
+    walk: Option<Walk>,
+    /// A step of its present operation has run.
+    has_begun: bool,
+}
+
+impl Model for Standing {
+    ghost use Rattle.whole_calls.specs.Wholes.{WholeFits};
+    ghost use Rattle.tree_histories.specs.Keeping.{Under};
+
+    ghost Value = { Under };
+
+    ghost view = { λ s. record { id = s.id; made = s.made; whole = s.whole; listed = s.list; walk = s.walk; has_begun = s.has_begun } };
+
+    ghost invariant = { λ s. WholeFits s.list s.whole };
+}
+
+// Whether no more was heard to be read than the call's buffer has.
+fn has_room(whole: &Whole, heard: &Heard) -> bool
+    ensures room { IsTrue result → HasRoomFor heard.now whole.now }
+    ensures none { result ≡ false → ReadsTooMuch heard.now whole.now }
+{
+    match (whole, heard) {
+        (Whole::Read { buf, .. }, Heard::Read(count)) => *count <= buf.len(),
+        _ => true,
+    }
+}
+
+fn copy(alloc: Global, bytes: &[u8]) -> Result<Bytes, NoMemory>
+    ensures { IfOk result (λ b. b ≡ bytes.now) }
+{
+    Ok(Bytes::new(Vec::from_slice(alloc, bytes)?))
+}
+
+// The piece of a write at this place.
+fn piece(bytes: &[u8], index: usize) -> &[u8]
+    ensures { result.now ≡ piece bytes.now index }
+{
+    let start = PIECE_LEN.saturating_mul(index).min(bytes.len());
+    first(&bytes[start..], PIECE_LEN)
+}
+
+// Whether a link has come to its second path.
+fn is_past_old(at: &Link) -> bool
+    ensures { result ≡ is_past_old at.now }
+{
+    !matches!(at, Link::Join | Link::WalksOld(_))
+}
+
+// Whether the call is a link that has come to its second path.
+fn is_on_new(whole: &Whole) -> bool
+    ensures { result ≡ is_on_new whole.now }
+{
+    match whole {
+        Whole::Link { at, .. } => is_past_old(at),
+        _ => false,
+    }
+}
+
+// The path of the call's steps; of a link the old one, or the new one.
+fn path(whole: &Whole, is_new: bool) -> &[u8]
+    ensures { result.now ≡ path_of (step_for (call_in whole.now) is_new) }
+{
+    match whole {
+        Whole::Open { path, .. } => path.as_slice(),
+        Whole::Link { old, new, .. } => {
+            if is_new {
+                new.as_slice()
+            } else {
+                old.as_slice()
+            }
+        }
+        Whole::Unlink { path, .. } => path.as_slice(),
+        Whole::Mkdir { path, .. } => path.as_slice(),
+        Whole::Chdir { path, .. } => path.as_slice(),
+        _ => &[],
+    }
+}
+
+// Where a path starts; `current` is the hart's directory.
+fn start_of(path: &[u8], current: u16) -> u16
+    ensures { result ≡ (if is_absolute path.now then root else current) }
+{
+    if is_absolute(path) { ROOT } else { current }
+}
+
+// The tree step that the call's next mark is for; of a link the one along its old path, or the one along the new.
+fn step(whole: &Whole, is_new: bool) -> Result<Action, NoMemory>
+    ensures { IfOk result (λ s. s ≡ step_for (call_in whole.now) is_new) }
+{
+    match whole {
+        Whole::Open { path, flags, .. } => {
+            let path = path.clone()?;
+            Ok(Action::Open {
+                path,
+                flags: *flags,
+            })
+        }
+        Whole::Link { old, new, .. } => link_step(old, new, is_new),
+        Whole::Unlink { path, .. } => {
+            let path = path.clone()?;
+            Ok(Action::Unlink { path })
+        }
+        Whole::Mkdir { path, .. } => {
+            let path = path.clone()?;
+            Ok(Action::Mkdir { path })
+        }
+        Whole::Chdir { path, .. } => {
+            let path = path.clone()?;
+            Ok(Action::Chdir { path })
+        }
+        Whole::Write { fd, bytes, .. } => {
+            let bytes = bytes.clone()?;
+            Ok(Action::WritePart { fd: *fd, bytes })
+        }
+        Whole::Read { fd, buf, .. } => Ok(Action::Read {
+            fd: *fd,
+            count: buf.len(),
+        }),
+        Whole::Dup { fd, .. } => Ok(Action::Dup { fd: *fd }),
+        Whole::Fstat { fd, .. } => Ok(Action::Fstat { fd: *fd }),
+        Whole::Close { fd, .. } => Ok(Action::Close { fd: *fd }),
+        Whole::Inherit { child, .. } => Ok(Action::Inherit { child: *child }),
+    }
+}
+
+// A link's step along its old path, or along its new one.
+fn link_step(old: &Bytes, new: &Bytes, is_new: bool) -> Result<Action, NoMemory>
+    ensures { IfOk result (λ s. s ≡ step_for (calls.Link old.now new.now) is_new) }
+{
+    if is_new {
+        let new = new.clone()?;
+        Ok(Action::Enter { new })
+    } else {
+        let old = old.clone()?;
+        Ok(Action::Find { old })
+    }
+}
+
+impl Standing {
+    /// A call that begins, the one at this place of the trace.
+    pub(crate) fn new(alloc: Global, id: usize, call: Call) -> Result<Standing, NoMemory>
+        requires { IsCall call }
+        ensures { IfOk result (λ s. IsNewCall id call s) }
+    {
+        let list = Numbers::new(alloc)?;
+        let whole = Whole::new(call);
+        Ok(Standing {
+            id,
+            made: 0,
+            whole,
+            list,
+            walk: None,
+            has_begun: false,
+        })
+    }
+
+    pub(crate) fn id(&self) -> usize
+        ensures { result ≡ self.now.id }
+    {
+        self.id
+    }
+
+    /// How many steps it has made.
+    pub(crate) fn made(&self) -> usize
+        ensures { result ≡ self.now.made }
+    {
+        self.made
+    }
+
+    /// It has made a step more.
+    pub(crate) fn count(&mut self)
+        ensures { self.new ≡ more_made self.old }
+    {
+        self.made = self.made.saturating_add(1);
+    }
+
+    pub(crate) fn walk(&self) -> Option<Walk>
+        ensures { result ≡ self.now.walk }
+    {
+        self.walk
+    }
+
+    pub(crate) fn set_walk(&mut self, walk: Option<Walk>)
+        ensures { self.new ≡ walking walk self.old }
+    {
+        self.walk = walk;
+    }
+
+    /// Whether a step of its present operation has run before.
+    pub(crate) fn has_begun(&self) -> bool
+        ensures { result ≡ self.now.has_begun }
+    {
+        self.has_begun
+    }
+
+    /// A step of its present operation has run.
+    pub(crate) fn begin(&mut self)
+        ensures { self.new ≡ record self.old { has_begun = true } }
+    {
+        self.has_begun = true;
+    }
+
+    /// Its next operation, where it has listed these inodes.
+    pub(crate) fn ask(&self) -> Ask
+        ensures asks { (listed : List ℕ) → WholeFits listed self.now.whole
+            → asks (whole_of listed self.now.whole) ≡ Some (op_in (text_in self.now.whole) result) }
+        ensures named { (listed : List ℕ) → WholeFits listed self.now.whole → WholeAsks self.now.whole result }
+    {
+        self.whole.ask()
+    }
+
+    /// The two paths of the call, or the one and nothing.
+    pub(crate) fn paths(&self) -> (&[u8], &[u8])
+        ensures { (result.0.now ≡ first_in self.now.whole) × (result.1.now ≡ second_in self.now.whole) }
+    {
+        (self.whole.text(), self.whole.second())
+    }
+
+    /// The mark of its operation at this answer.
+    pub(crate) fn mark(&self, heard: &Heard) -> Option<Mark>
+        ensures { (listed : List ℕ) → mark_at (whole_of listed self.now.whole) heard.now ≡ marked_as (action_in self.now.whole) result }
+    {
+        self.whole.mark(heard)
+    }
+
+    /// It goes on with what it heard; none where it has ended.
+    pub(crate) fn hear(self, heard: &Heard) -> Option<Standing>
+        ensures { HearsSo self heard.now result }
+    {
+        let Standing {
+            id,
+            made,
+            whole,
+            list,
+            walk,
+            has_begun: _,
+        } = self;
+        let mut whole = whole;
+        let mut list = list;
+        let mut says = Answer::Done;
+        if !has_room(&whole, heard) {
+            return None;
+        }
+        if whole.next(heard, &mut list, &mut says) {
+            return None;
+        }
+        Some(Standing {
+            id,
+            made,
+            whole,
+            list,
+            walk,
+            has_begun: false,
+        })
+    }
+
+    /// The walk at the start of its path, where the path has elements; `current` is the hart's directory.
+    pub(crate) fn start(&self, current: u16) -> Option<Walk>
+        ensures { let path = path_of (action_in self.now.whole) in
+            IsWalk (call_in self.now.whole) result (action_in self.now.whole) (if is_absolute path then root else current) (elements path) }
+    {
+        let is_new = is_on_new(&self.whole);
+        let path = path(&self.whole, is_new);
+        let _element = next_element(path)?;
+        Some(Walk {
+            directory: start_of(path, current),
+            from: 0,
+            is_new,
+        })
+    }
+
+    /// The name that the walk looks up next.
+    pub(crate) fn name(&self, walk: Walk) -> &[u8]
+        ensures { result.now ≡ (walk_of (call_in self.now.whole) walk).next }
+    {
+        match next_element(rest_of(path(&self.whole, walk.is_new), walk.from)) {
+            Some((name, _)) => name,
+            None => &[],
+        }
+    }
+
+    /// The walk in this node, which it has found, where its path goes on.
+    pub(crate) fn after(&self, walk: Walk, number: u16) -> Option<Walk>
+        ensures { let before = walk_of (call_in self.now.whole) walk in
+            IsWalk (call_in self.now.whole) result before.step number before.rest }
+    {
+        let path = path(&self.whole, walk.is_new);
+        let (_, rest) = next_element(rest_of(path, walk.from))?;
+        let _element = next_element(rest)?;
+        Some(Walk {
+            directory: number,
+            from: path.len().saturating_sub(rest.len()),
+            is_new: walk.is_new,
+        })
+    }
+
+    /// The tree step that the walk is for.
+    pub(crate) fn step(&self, walk: Walk) -> Result<Action, NoMemory>
+        ensures { IfOk result (λ s. s ≡ (walk_of (call_in self.now.whole) walk).step) }
+    {
+        step(&self.whole, walk.is_new)
+    }
+
+    /// The tree step that this mark is for.
+    pub(crate) fn action(&self, alloc: Global, mark: Mark) -> Result<Action, NoMemory>
+        ensures { IfOk result (λ s. s ≡ step_in (action_in self.now.whole) mark) }
+    {
+        match mark {
+            Mark::Truncate(fd) => Ok(Action::Truncate { fd }),
+            Mark::Bump => Ok(Action::Bump),
+            Mark::Unbump => Ok(Action::Unbump),
+            Mark::Piece(index) => self.piece_step(alloc, index),
+            _ => step(&self.whole, is_on_new(&self.whole)),
+        }
+    }
+
+    // The step of a write's piece.
+    fn piece_step(&self, alloc: Global, index: usize) -> Result<Action, NoMemory>
+        ensures { IfOk result (λ s. s ≡ piece_of (action_in self.now.whole) index) }
+    {
+        match &self.whole {
+            Whole::Write { fd, bytes, .. } => {
+                let bytes = copy(alloc, piece(bytes.as_slice(), index))?;
+                Ok(Action::WritePart { fd: *fd, bytes })
+            }
+            whole => step(whole, is_on_new(whole)),
+        }
+    }
+}

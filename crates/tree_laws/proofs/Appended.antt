@@ -1,0 +1,40 @@
+-- Runs one after the other, as a crate above builds them event by event.
+use Rattle.std.proofs.Common.{◌≡◌, ℕ, refl, sym, subst, List, [], ◌∷◌, ◌++◌, false}
+use Rattle.tree_laws.specs.Runs.{World, Event, Happens, Runs, climbing, NoneClimbs, IsStartBy, Alone}
+
+-- a run, and a run from where it ended
+pub runs_append : (w mid w' : World) (es later : List Event) → Runs w es mid → Runs mid later w' → Runs w (es ++ later) w'
+unfolding Runs
+runs_append w mid w' [] later r s = subst (λ (z : World). Runs z later w') (sym r) s
+runs_append w mid w' (e ∷ es) later r s = (r.0, r.1, runs_append r.0 mid w' es later r.2 s)
+
+-- a run of one event
+pub runs_one : (w w' : World) (e : Event) → Happens w e w' → Runs w (e ∷ []) w'
+unfolding Runs
+runs_one w w' e o = (w', o, refl)
+
+-- one event more
+pub runs_more : (w mid w' : World) (es : List Event) (e : Event) → Runs w es mid → Happens mid e w' → Runs w (es ++ e ∷ []) w'
+runs_more w mid w' es e r o = runs_append w mid w' es (e ∷ []) r (runs_one mid w' e o)
+
+pub runs_none : (w : World) → Runs w [] w
+unfolding Runs
+runs_none w = refl
+
+pub calm_append : (es later : List Event) → NoneClimbs es → NoneClimbs later → NoneClimbs (es ++ later)
+unfolding NoneClimbs
+calm_append [] later k l = l
+calm_append (e ∷ es) later k l = (k.0, calm_append es later k.1 l)
+
+pub calm_more : (es : List Event) (e : Event) → NoneClimbs es → climbing e ≡ false → NoneClimbs (es ++ e ∷ [])
+unfolding NoneClimbs
+calm_more es e k c = calm_append es (e ∷ []) k (c, tt)
+
+pub alone_append : (h : ℕ) (es later : List Event) → Alone h es → Alone h later → Alone h (es ++ later)
+unfolding Alone
+alone_append h [] later k l = l
+alone_append h (e ∷ es) later k l = (k.0, alone_append h es later k.1 l)
+
+pub alone_more : (h : ℕ) (es : List Event) (e : Event) → Alone h es → IsStartBy h e → Alone h (es ++ e ∷ [])
+unfolding Alone
+alone_more h es e k s = alone_append h es (e ∷ []) k (s, tt)

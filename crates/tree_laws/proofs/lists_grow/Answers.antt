@@ -1,0 +1,5 @@
+use Rattle.tree_laws.proofs.Cut.{grows}
+use Rattle.tree_laws.proofs.lists_grow.Goals as goal
+
+pub returns : goal.returns
+returns c = λ t w w' es later r s. grows t w w' es later r s

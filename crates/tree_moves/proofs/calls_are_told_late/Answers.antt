@@ -1,8 +1,0 @@
-use Rattle.plain_tree.specs.Tree.{tree_of}
-use Rattle.tree_moves.specs.Runs.{opened}
-use Rattle.tree_moves.proofs.History.{run_ok, opened_ok, NeverClimbs, starts_calm, apart_calm}
-use Rattle.tree_moves.proofs.Told.{told_late}
-use Rattle.tree_moves.proofs.calls_are_told_late.Goals as goal
-
-pub returns : goal.returns
-returns c = λ base w es h id call told k calm r lt is. told_late NeverClimbs (tree_of base) w h id call told (run_ok NeverClimbs (tree_of base) (opened (tree_of base)) w es apart_calm (starts_calm es calm) (opened_ok NeverClimbs (tree_of base) k) r) lt is

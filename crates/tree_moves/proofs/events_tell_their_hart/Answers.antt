@@ -1,5 +1,0 @@
-use Rattle.tree_moves.proofs.Told.{event_tells}
-use Rattle.tree_moves.proofs.events_tell_their_hart.Goals as goal
-
-pub returns : goal.returns
-returns c = event_tells

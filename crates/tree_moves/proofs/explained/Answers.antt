@@ -1,5 +1,0 @@
-use Rattle.tree_moves.proofs.History.{run_explained, NeverClimbs, starts_calm, apart_calm}
-use Rattle.tree_moves.proofs.explained.Goals as goal
-
-pub returns : goal.returns
-returns c = λ base w es k calm r. run_explained NeverClimbs base w es apart_calm (starts_calm es calm) k r

@@ -1,7 +1,0 @@
-use Rattle.plain_tree.specs.Tree.{tree_of}
-use Rattle.tree_moves.specs.Runs.{opened}
-use Rattle.tree_moves.proofs.History.{run_ok, opened_ok, NeverClimbs, starts_calm, apart_calm}
-use Rattle.tree_moves.proofs.lists_lead_to_the_tree.Goals as goal
-
-pub returns : goal.returns
-returns c = λ base w es k calm r. let inv = run_ok NeverClimbs (tree_of base) (opened (tree_of base)) w es apart_calm (starts_calm es calm) (opened_ok NeverClimbs (tree_of base) k) r in (inv.book.chain, inv.good)

@@ -1,6 +1,0 @@
-use Rattle.tree_moves.proofs.History.{run_explained, IsHart, starts_alone, apart_alone}
-use Rattle.tree_moves.proofs.Serial.{serial}
-use Rattle.tree_moves.proofs.one_hart_is_explained.Goals as goal
-
-pub returns : goal.returns
-returns c = λ base w h es k alone r. (run_explained (IsHart h) base w es (apart_alone h) (starts_alone h es alone) k r, serial base w h es k alone r)

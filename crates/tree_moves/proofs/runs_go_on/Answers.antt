@@ -1,5 +1,0 @@
-use Rattle.tree_moves.proofs.Appended.{runs_append}
-use Rattle.tree_moves.proofs.runs_go_on.Goals as goal
-
-pub returns : goal.returns
-returns c = λ w mid w' es later r s. runs_append w mid w' es later r s

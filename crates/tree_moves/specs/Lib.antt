@@ -1,5 +1,0 @@
-pub mod Moves
-pub mod History
-pub mod Runs
-pub mod Laws
-pub mod Examples
