@@ -1,11 +1,5 @@
 -- A machine's step in its place is a step of its hart's program.
-use Rattle.std.proofs.Common.{◌≡◌, ◌<◌, ℕ, Option, Some, None, Bool, true, false, List, refl, sym, ◌∙◌, ap, length, get_or, set, get_or-set_same, get_or-set_other}
-use Rattle.std.proofs.lemmas.Bool.{eqb-true, eqb-false}
-use Rattle.std.specs.Prelude.{nat_eq, if◌then◌else◌}
-use Rattle.atomic_programs.specs.Prog.{Ret, Do, Did, Waits, Ran, Stops, OperationResult, Ended, StillWaits, WentOn, Broke, went, advance}
-use Rattle.atomic_programs.specs.Calls.{Theory, Began, Refuses, Begins, Start, Step, Refused, is_some, Outcome, WasIdle, DidWait, DidRun, DidEnd, DidStop, WasStopped, changed}
-use Rattle.atomic_programs.specs.Plain.{UnmarkedProgram, Code, Plain, PlainMade, HartMade, plain_moved, plain_tried, plain_prog, plain_unless, plain_step, plain_begun, plain_start, plain_makes, hart_begun, hart_start, hart_moved, hart_tried, hart_prog, hart_step, put_back}
-use Rattle.atomic_programs.specs.Machines.{program_at, programs_in}
+use Rattle.atomic_programs.proofs.Vocabulary.{◌≡◌, ◌<◌, ℕ, Option, Some, None, Bool, true, false, List, refl, sym, ◌∙◌, ap, length, get_or, set, get_or-set_same, get_or-set_other, eqb-true, eqb-false, nat_eq, if◌then◌else◌, Ret, Do, Did, Waits, Ran, Stops, OperationResult, Ended, StillWaits, WentOn, Broke, went, advance, Theory, Began, Refuses, Begins, Start, Step, Refused, is_some, Outcome, WasIdle, DidWait, DidRun, DidEnd, DidStop, WasStopped, changed, UnmarkedProgram, Code, Plain, PlainMade, HartMade, plain_moved, plain_tried, plain_prog, plain_unless, plain_step, plain_begun, plain_start, plain_makes, hart_begun, hart_start, hart_moved, hart_tried, hart_prog, hart_step, put_back, program_at, programs_in}
 
 -- one place of the table was set
 pub programs_in-set : {M T : Type 0} (program : M → T) (calls : List (Option M)) (h : ℕ) (x : Option M) → h < length calls

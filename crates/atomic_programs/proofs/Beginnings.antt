@@ -1,7 +1,5 @@
 -- Lists that grow, and beginnings of a call's sequence.
-use Rattle.std.proofs.Common.{◌≡◌, List, [], ◌∷◌, ◌++◌, refl, sym, ◌∙◌, ap, subst, append_assoc}
-use Rattle.atomic_programs.specs.Logic.{onto, oldest_first}
-use Rattle.atomic_programs.specs.Calls.{Theory, IsBeginning, Begun}
+use Rattle.atomic_programs.proofs.Vocabulary.{◌≡◌, List, [], ◌∷◌, ◌++◌, refl, sym, ◌∙◌, ap, subst, append_assoc, onto, oldest_first, Theory, IsBeginning, Begun}
 
 pub append_nil : {A : Type 0} (xs : List A) → xs ++ [] ≡ xs
 append_nil [] = refl

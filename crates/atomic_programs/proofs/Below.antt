@@ -1,16 +1,8 @@
 -- A call's step is the step of its part.
-use Rattle.std.proofs.Common.{◌≡◌, Option, Some, None, refl, sym, ◌∙◌, ap, subst}
-use Rattle.atomic_programs.specs.Prog.{Prog, Ret, Do, bind, plain, unmarked, asks, advance, Did, OperationResult, WentOn}
-use Rattle.atomic_programs.specs.Logic.{Machine, P}
-use Rattle.atomic_programs.specs.Joined.{ActOf, Lower, Handover, Handlers, lowered}
-use Rattle.atomic_programs.specs.Machines.{moved_to}
-use Rattle.atomic_programs.specs.declared.machines.Stepped.{Stepped}
-use Rattle.atomic_programs.specs.declared.machines.Stepped.TheVariants.{Waits, Ran, Done, Stopped}
-use Rattle.atomic_programs.proofs.Prog.{bind-assoc, plain-bind, advance-bind, moved_bind}
-use Rattle.atomic_programs.specs.Calls.{Theory}
-use Rattle.atomic_programs.specs.Lowered.{Starts, lowered_calls}
+use Rattle.atomic_programs.proofs.Vocabulary.{◌≡◌, Option, Some, None, refl, sym, ◌∙◌, ap, subst, Prog, Ret, Do, bind, plain, unmarked, asks, advance, Did, OperationResult, WentOn, Machine, P, ActOf, Lower, Handover, Handlers, lowered, moved_to, Stepped, Done, Stopped, Theory, Starts, lowered_calls, Running}
+use Rattle.atomic_programs.specs.declared.machines.Stepped.TheVariants.{Waits, Ran}
+use Rattle.atomic_programs.proofs.Basics.{bind-assoc, plain-bind, advance-bind, moved_bind}
 use Rattle.atomic_programs.specs.Below as layers
-use Rattle.atomic_programs.specs.Below.{Running}
 
 module _ (U : Machine) (R : Lower U.World) (handler : Handlers U R) {Heard : Type 0} (answer_to : (op : U.Op) → Heard → U.Answer op) where
   abbrev below : {A : Type 0} → R.Carry → P U A → Prog R.Op R.Answer ⊥ A

@@ -1,8 +1,7 @@
 -- Counting.
-use Rattle.std.proofs.Common.{◌≡◌, ◌≢◌, ℕ, zero, suc, ◌-◌, Some, refl, sym, ap, arith}
-use Rattle.atomic_programs.specs.Prog.{asks}
+use Rattle.atomic_programs.proofs.Vocabulary.{◌≡◌, ◌≢◌, ℕ, zero, suc, ◌-◌, Some, refl, sym, ap, arith, asks, Twice, answer_to, counting, lower, upper}
 use Rattle.atomic_programs.specs.Below as layers
-use Rattle.atomic_programs.specs.Toy.{Twice, answer_to, counting, handler, lower, upper}
+use Rattle.atomic_programs.specs.Toy.{handler}
 
 pub asks_twice : (n : ℕ) → asks (counting n) ≡ Some Twice
 asks_twice zero = refl

@@ -1,20 +1,8 @@
 -- The swap on blocks: its history, its run above, and its code.
-use Rattle.std.proofs.Common.{◌≤◌, ℕ, Bool, true, false, None, Some, List, [], ◌∷◌, length, refl, arith}
-use Rattle.std.specs.Prelude.{nat_eq, if◌then◌else◌}
-use Rattle.atomic_programs.specs.Logic.{PlacesOne}
-use Rattle.atomic_programs.specs.Calls.{Lawful, State, Event, hart_of, IsHonest, AllHonest, next, run, fresh, Sound}
-use Rattle.atomic_programs.specs.Explained.{IsExplained, Leads}
-use Rattle.atomic_programs.specs.Operations.{operations_of}
-use Rattle.atomic_programs.specs.Plain.{IsCode}
-use Rattle.atomic_programs.proofs.Explains.{explains}
+use Rattle.atomic_programs.proofs.Vocabulary.{◌≤◌, ℕ, Bool, true, false, None, Some, List, [], ◌∷◌, length, refl, arith, nat_eq, if◌then◌else◌, PlacesOne, Lawful, State, Event, hart_of, IsHonest, AllHonest, next, run, fresh, Sound, IsExplained, Leads, operations_of, IsCode, whole, Op, Outside, Shows, Base, blocks, handler, theory, begins_at_once, core, Swap, HasNothing, labels, calls, swaps_above, code_above, swaps_noted}
+use Rattle.atomic_programs.proofs.Basics.{explains, joined_places_one, is_code_below}
 use Rattle.atomic_programs.proofs.Leading.{leads}
-use Rattle.atomic_programs.proofs.Joined.{joined_places_one}
-use Rattle.atomic_programs.proofs.Lowered.{is_code_below}
-use Rattle.atomic_programs.specs.Whole.{whole}
-use Rattle.atomic_programs.specs.Blocks.{Op, Outside, Shows, Base, blocks, handler}
-use Rattle.atomic_programs.specs.OfWhole.{theory, begins_at_once, core}
-use Rattle.atomic_programs.specs.Swap.{Step, Swap, HasNothing, labels, calls, swaps, swaps_above, code, code_above, rest}
-use Rattle.atomic_programs.specs.Within.{swaps_noted}
+use Rattle.atomic_programs.specs.Swap.{Step, swaps, code, rest}
 use Rattle.atomic_programs.proofs.Swap.{lawful, keeps}
 use Rattle.atomic_programs.proofs.OfWhole.{calls_lawful, calls_refined, calls_within}
 

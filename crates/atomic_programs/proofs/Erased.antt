@@ -1,10 +1,5 @@
 -- A run with its history, without it, is a run of the code's state.
-use Rattle.std.proofs.Common.{◌≡◌, ℕ, suc, Option, Some, None, Bool, true, false, List, [], ◌∷◌, ◌++◌, refl, sym, ◌∙◌, ap}
-use Rattle.std.specs.Prelude.{nat_eq, if◌then◌else◌}
-use Rattle.atomic_programs.specs.Prog.{Ret, Do, plain, Did, Waits, Ran, Stops, did_in}
-use Rattle.atomic_programs.specs.Logic.{P, OpWithAnswer, own, onto}
-use Rattle.atomic_programs.specs.Calls.{Theory, Began, Refuses, Begins, Run, State, Event, Start, Step, Made, changed, is_some, told, all_told, moved, tried, step_prog, step_unless, step_run, begun, busy_in, start_run, makes, next, run, Outcome, outcomes}
-use Rattle.atomic_programs.specs.Plain.{UnmarkedProgram, Code, IsCode, began_in, Plain, PlainMade, by_kind, plain_moved, plain_tried, plain_prog, plain_unless, plain_step, plain_begun, plain_start, plain_makes, plain_run, plain_outcomes, all_by_kind, prog_of, erase}
+use Rattle.atomic_programs.proofs.Vocabulary.{◌≡◌, ℕ, suc, Option, Some, None, Bool, true, false, List, [], ◌∷◌, ◌++◌, refl, sym, ◌∙◌, ap, nat_eq, if◌then◌else◌, Ret, Do, plain, Did, Waits, Ran, Stops, did_in, P, OpWithAnswer, own, onto, Theory, Began, Refuses, Begins, Run, State, Event, Start, Step, Made, changed, is_some, told, all_told, moved, tried, step_prog, step_unless, step_run, begun, busy_in, start_run, makes, next, run, Outcome, outcomes, UnmarkedProgram, Code, IsCode, began_in, Plain, PlainMade, by_kind, plain_moved, plain_tried, plain_prog, plain_unless, plain_step, plain_begun, plain_start, plain_makes, plain_run, plain_outcomes, all_by_kind, prog_of, erase}
 
 module _ (L : Theory) (C : Code L) where
   -- an event with its history, without it

@@ -1,11 +1,5 @@
 -- Over any list of events the replies are explained by the list of steps that the run has made.
-use Rattle.std.proofs.Common.{◌≡◌, ◌≢◌, ℕ, suc, ◌<◌, ◌≤◌, ◌+◌, Option, Some, None, Bool, true, false, List, [], ◌∷◌, refl, sym, ◌∙◌, ap, subst, arith, ◌⊎◌, inl, inr}
-use Rattle.std.proofs.lemmas.Bool.{eqb-true, eqb-false, eq-eqb, ne_eqb}
-use Rattle.std.specs.Prelude.{nat_eq, if◌then◌else◌}
-use Rattle.atomic_programs.specs.Prog.{Ret, Do, Did, Waits, Ran, Stops, asks, OfNext}
-use Rattle.atomic_programs.specs.Logic.{Machine, P, OpWithAnswer, own, onto, oldest_first, Goes, Grown, Halts, Good, Wp}
-use Rattle.atomic_programs.specs.Calls.{Theory, Began, Refuses, Begins, IsBeginning, Begun, Ends, Right, Lawful, Run, PlacedStep, FinishedCall, State, Event, Start, Step, DidWait, changed, is_some, start_of, placed, told, all_told, unchanged, moved, tried, step_prog, step_unless, step_run, begun, busy_in, start_run, makes, next, run, fresh, HonestStep, IsHonest, AllHonest, Sound}
-use Rattle.atomic_programs.specs.Explained.{In, steps_of, IsOfCall, IsBlocked, Holds, IsExplained}
+use Rattle.atomic_programs.proofs.Vocabulary.{◌≡◌, ◌≢◌, ℕ, suc, ◌<◌, ◌≤◌, ◌+◌, Option, Some, None, Bool, true, false, List, [], ◌∷◌, refl, sym, ◌∙◌, ap, subst, arith, ◌⊎◌, inl, inr, eqb-true, eqb-false, eq-eqb, ne_eqb, nat_eq, if◌then◌else◌, Ret, Do, Did, Waits, Ran, Stops, asks, OfNext, Machine, P, OpWithAnswer, own, onto, oldest_first, Goes, Grown, Halts, Good, Wp, Theory, Began, Refuses, Begins, IsBeginning, Begun, Ends, Right, Lawful, Run, PlacedStep, FinishedCall, State, Event, Start, Step, DidWait, changed, is_some, start_of, placed, told, all_told, unchanged, moved, tried, step_prog, step_unless, step_run, begun, busy_in, start_run, makes, next, run, fresh, HonestStep, IsHonest, AllHonest, Sound, In, steps_of, IsOfCall, IsBlocked, Holds, IsExplained}
 use Rattle.atomic_programs.proofs.Sound.{Wp-others, Grown-all}
 use Rattle.atomic_programs.proofs.History.{Chained, Falling, chain_turned, rising_turned, steps_turned, in_history, In-own, steps_of-placed, steps_of-other, steps_of-none, New, In-placed, Falling-more, Falling-placed, Chained-placed, below_of}
 

@@ -1,21 +1,7 @@
 -- A block is taken by two puts below, in one step above.
-use Rattle.std.proofs.Common.{◌≡◌, ◌≢◌, ◌<◌, ◌≤◌, ◌+◌, ◌⊎◌, inl, inr, ℕ, suc, zero, Bool, true, false, if◌then◌else◌, Option, Some, None, List, [], refl, sym, ◌∙◌, ap, subst, arith}
-use Rattle.atomic_programs.specs.Prog.{Ret, Do, unmarked, Did, Waits, Ran, Stops, did_in}
-use Rattle.atomic_programs.specs.Logic.{Machine, Fine, Good, Wp, Safe, Laws}
-use Rattle.atomic_programs.specs.Calls.{Began, Begins, Begun, Ends, Right, Lawful, Event, AllHonest, run, fresh}
-use Rattle.atomic_programs.specs.Explained.{IsExplained}
-use Rattle.atomic_programs.specs.Operations.{IsCore, operations, operations_of}
-use Rattle.atomic_programs.specs.Plain.{IsCode}
-use Rattle.atomic_programs.specs.Lowered.{BeginsBoth, StartsBoth}
-use Rattle.atomic_programs.proofs.Sound.{s-op}
-use Rattle.atomic_programs.proofs.Operations.{operations_laws}
-use Rattle.atomic_programs.proofs.Lowered.{operations_below, refined, is_code_part}
-use Rattle.atomic_programs.specs.Joined.{Lasts, Both, joined, LowerLaws, Below, Atomic}
-use Rattle.atomic_programs.specs.Whole.{put, if_held}
-use Rattle.atomic_programs.specs.Grab.{Above, Op, Hold, Grab, Drop, Answer, Picks, hold_if, grabbed, exec_above, Kept, machine, grabs, core, World, Lock, Unlock, GetBits, PutBits, Zero, lock_if, bits_if, lock_of, holder, IsOut, Shows, Same, TiedAt, Base, low, first, grab_at, handler, LowOp, low_may, exec, grabs_above, rest, shared_of, lock_in, bits_in, exec_code, may_code, grabs_part, grabs_code}
-use Rattle.atomic_programs.proofs.Joined.{Wp-holding, Here, Silent, s-silent, ToAct, to_act, acted, Acting, s-act}
-use Rattle.atomic_programs.proofs.Maps.{put_same, put_other, put_elim, same_or, Ours, ours_none, ours_some, not_held, held_is, held_here, none_is}
-use Rattle.atomic_programs.proofs.Steps.{not_mine, ours_is, ours_put, put_like}
+use Rattle.atomic_programs.proofs.Vocabulary.{◌≡◌, ◌≢◌, ◌<◌, ◌≤◌, ◌+◌, ◌⊎◌, inl, inr, ℕ, suc, zero, Bool, true, false, if◌then◌else◌, Option, Some, None, List, [], refl, sym, ◌∙◌, ap, subst, arith, Ret, Do, unmarked, Did, Waits, Ran, Stops, did_in, Machine, Fine, Good, Wp, Safe, Laws, Began, Begins, Begun, Ends, Right, Lawful, Event, AllHonest, run, fresh, IsExplained, IsCore, operations, operations_of, IsCode, BeginsBoth, StartsBoth, Lasts, Both, joined, LowerLaws, Below, Atomic, put, if_held, Above, Hold, Grab, Picks, hold_if, grabbed, exec_above, Kept, grabs, GetBits, PutBits, Zero, bits_if, lock_of, holder, TiedAt, low, first, grab_at, LowOp, low_may, grabs_above, rest, shared_of, lock_in, bits_in, exec_code, may_code, grabs_part, grabs_code}
+use Rattle.atomic_programs.proofs.Basics.{s-op, operations_laws, operations_below, refined, is_code_part, Wp-holding, Here, Silent, s-silent, ToAct, to_act, acted, Acting, s-act, put_same, put_other, put_elim, same_or, Ours, ours_none, ours_some, not_held, held_is, held_here, none_is, not_mine, ours_is, ours_put, put_like}
+use Rattle.atomic_programs.specs.Grab.{Op, Drop, Answer, machine, core, World, Lock, Unlock, lock_if, IsOut, Shows, Same, Base, handler, exec}
 
 still : {A : Type 0} (h : ℕ) (o p : Option ℕ) (x y : A) → if_held p h y ≡ if_held o h x → o ≡ Some h → (p ≡ Some h) × (y ≡ x)
 still h o p x y s e = held_is h p y x (s ∙ ap (λ (z : Option ℕ). if_held z h x) e ∙ held_here h x)

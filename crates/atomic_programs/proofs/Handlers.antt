@@ -1,16 +1,7 @@
 -- Each operation above acts at one moment of its program below.
-use Rattle.std.proofs.Common.{◌≡◌, ◌≢◌, ◌<◌, ◌⊎◌, inl, inr, ◌/◌, ◌%◌, ℕ, suc, Bool, true, false, Option, Some, None, List, [], ◌∷◌, length, refl, sym, ◌∙◌, ap, subst, arith}
-use Rattle.atomic_programs.specs.Prog.{Ret, Do, bind, unmarked}
-use Rattle.atomic_programs.specs.Logic.{Machine, P, Wp, Laws}
-use Rattle.atomic_programs.proofs.Prog.{bind-assoc}
-use Rattle.atomic_programs.proofs.Sound.{Wp-more}
-use Rattle.atomic_programs.specs.Joined.{Lasts, Both, joined, Handover, Below, Atomic}
+use Rattle.atomic_programs.proofs.Vocabulary.{◌≡◌, ◌≢◌, ◌<◌, ◌⊎◌, inl, inr, ◌/◌, ◌%◌, ℕ, suc, Bool, true, false, Option, Some, None, List, [], ◌∷◌, length, refl, sym, ◌∙◌, ap, subst, arith, Ret, Do, bind, unmarked, Machine, P, Wp, Laws, Lasts, Both, joined, Handover, Below, Atomic, put, if_held, written, Dinode, Labels, Keeps, whole, take_if, hart_count, Block, World, Lock, Unlock, Get, Read, Put, Join, Leave, PutPart, GetPart, Outside, Passes, Fails, lock_if, bytes_if, get_if, read_if, IsOut, Shows, Same, IsTied, Carry, InHand, Base, at, blocks, act, write_parts, read_or, fetch, look_back, load_or, with_record, record_of, handler}
+use Rattle.atomic_programs.proofs.Basics.{bind-assoc, Wp-more, Wp-holding, Stable, Here, Silent, s-silent, ToAct, to_act, may_act, acted, Acting, s-act, Ours, put_same, put_other, same_or, put_elim, ours_none, ours_some, has_lock, has_buffer, has_none, has_part, tied_stays, hand_stays, blocks_laws, did_same, ours_is, did_lock, did_buffer, did_hand, did_read, did_txn, shows_same, shows_locked, shows_given, slot_new, slot_other, shows_stored, shows_txn, did_part, shows_part}
 use Rattle.atomic_programs.specs.Whole as above
-use Rattle.atomic_programs.specs.Whole.{put, if_held, written, Dinode, Labels, Keeps, whole, take_if}
-use Rattle.atomic_programs.specs.Blocks.{hart_count, Block, World, Lock, Unlock, Get, Read, Put, Join, Leave, PutPart, GetPart, Outside, Passes, Fails, lock_if, bytes_if, get_if, read_if, IsOut, Shows, Same, IsTied, Carry, InHand, Base, at, blocks, act, write_parts, read_or, fetch, look_back, load_or, with_record, record_of, handler}
-use Rattle.atomic_programs.proofs.Joined.{Wp-holding, Stable, Here, Silent, s-silent, ToAct, to_act, may_act, acted, Acting, s-act}
-use Rattle.atomic_programs.proofs.Maps.{Ours, put_same, put_other, same_or, put_elim, ours_none, ours_some}
-use Rattle.atomic_programs.proofs.Steps.{has_lock, has_buffer, has_none, has_part, tied_stays, hand_stays, blocks_laws, did_same, ours_is, did_lock, did_buffer, did_hand, did_read, did_txn, shows_same, shows_locked, shows_given, slot_new, slot_other, shows_stored, shows_txn, did_part, shows_part}
 
 module _ (l : Labels) (laws : Laws (whole l)) (keeps : Keeps l) (h : ℕ) where
   abbrev D : Machine

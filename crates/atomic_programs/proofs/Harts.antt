@@ -1,14 +1,8 @@
 -- The example's code is the theory's.
-use Rattle.std.proofs.Common.{◌≡◌, ℕ, Option, Some, Bool, true, false, List, [], ◌∷◌, ◌++◌, refl, ap}
-use Rattle.std.specs.Prelude.{nat_lt}
-use Rattle.atomic_programs.specs.Prog.{Did, Waits, Ran, Stops, did_in}
-use Rattle.atomic_programs.specs.Calls.{Began, DidRun}
+use Rattle.atomic_programs.proofs.Vocabulary.{◌≡◌, ℕ, Option, Some, Bool, true, false, List, [], ◌∷◌, ◌++◌, refl, ap, nat_lt, Did, Waits, Ran, Stops, did_in, Began, DidRun, IsCode, began_in, hart_moved, Cell, Refusal, with_value, begin_if, fits, exec, swaps, machine_of, event_of, events_of, outcome_of, outcomes_of, code, Kind}
 use Rattle.atomic_programs.specs.Calls as calls
-use Rattle.atomic_programs.specs.Plain.{IsCode, began_in, hart_moved}
-use Rattle.atomic_programs.specs.Cell.{Cell, Refusal, World, with_value, begin_if, fits, exec, swaps}
+use Rattle.atomic_programs.specs.Cell.{World}
 use Rattle.atomic_programs.specs.Cell as cell
-use Rattle.atomic_programs.specs.CellCode.{machine_of, event_of, events_of, outcome_of, outcomes_of, code}
-use Rattle.atomic_programs.specs.declared.cell.Kind.{Kind}
 use Rattle.atomic_programs.specs.declared.cell.Open.TheVariants as OpenAt
 use Rattle.atomic_programs.specs.declared.cell.Machine.{Machine}
 use Rattle.atomic_programs.specs.declared.cell.Machine.TheVariants as MachineAt

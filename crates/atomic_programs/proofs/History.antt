@@ -1,10 +1,5 @@
 -- The list of a run, with the newest first, and turned round.
-use Rattle.std.proofs.Common.{◌≡◌, ℕ, suc, ◌<◌, ◌≤◌, Option, Bool, true, false, List, [], ◌∷◌, refl, ◌∙◌, ap, subst, sym, arith, ◌⊎◌, inl, inr}
-use Rattle.std.proofs.lemmas.Bool.{eq-eqb, ne_eqb}
-use Rattle.std.specs.Prelude.{nat_eq, if◌then◌else◌, ◌≢◌}
-use Rattle.atomic_programs.specs.Logic.{own, onto, Goes}
-use Rattle.atomic_programs.specs.Calls.{Theory, Run, PlacedStep, start_of, placed}
-use Rattle.atomic_programs.specs.Explained.{In, steps_of, Chain, IsRising}
+use Rattle.atomic_programs.proofs.Vocabulary.{◌≡◌, ℕ, suc, ◌<◌, ◌≤◌, Option, Bool, true, false, List, [], ◌∷◌, refl, ◌∙◌, ap, subst, sym, arith, ◌⊎◌, inl, inr, eq-eqb, ne_eqb, nat_eq, if◌then◌else◌, ◌≢◌, own, onto, Goes, Theory, Run, PlacedStep, start_of, placed, In, steps_of, Chain, IsRising}
 
 -- the sequential object came from base to t through these entries, the newest first
 abbrev pub Chained : (L : Theory) → L.M.Tree → List (PlacedStep L) → L.M.Tree → Type 0

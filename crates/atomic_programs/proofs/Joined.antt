@@ -1,11 +1,6 @@
 -- The rules of two machines as one.
-use Rattle.std.proofs.Common.{◌≤◌, length, None, ◌≡◌, ◌≢◌, ◌<◌, ◌+◌, ◌-◌, ℕ, suc, Option, Some, List, [], ◌∷◌, refl, sym, subst, arith, inl}
-use Rattle.atomic_programs.specs.Prog.{Ret, Do, bind, once, unmarked, Did, Waits, Ran, Stops}
-use Rattle.atomic_programs.specs.Logic.{Machine, P, PlacesOne, own, onto, Goes, placed_with, Grown, Fine, Good, Wp, Laws}
+use Rattle.atomic_programs.proofs.Vocabulary.{◌≤◌, length, None, ◌≡◌, ◌≢◌, ◌<◌, ◌+◌, ◌-◌, ℕ, suc, Option, Some, List, [], ◌∷◌, refl, sym, subst, arith, inl, Ret, Do, bind, once, unmarked, Did, Waits, Ran, Stops, Machine, P, PlacesOne, own, onto, Goes, placed_with, Grown, Fine, Good, Wp, Laws, Uses, Lifts, Budget, Affords, AtomicWithin, Lasts, ActOf, Lower, Both, ran_to, placed_at, both, joined, LowerLaws, Handover, holding, Handlers, lowered, Below, AtEnd, Atomic}
 use Rattle.atomic_programs.proofs.Sound.{Wp-weaker, Wp-more, Wp-bind, Wp-others}
-use Rattle.atomic_programs.specs.Lifting.{Uses, Lifts}
-use Rattle.atomic_programs.specs.Spending.{Budget, Affords, AtomicWithin}
-use Rattle.atomic_programs.specs.Joined.{Lasts, ActOf, Lower, Both, ran_to, placed_at, both, joined, LowerLaws, Handover, holding, Handlers, lowered, Below, AtEnd, Atomic}
 
 pub joined_laws : (U : Machine) (R : Lower U.World) → Laws U → LowerLaws U R → Laws (joined U R)
 joined_laws U R above below =

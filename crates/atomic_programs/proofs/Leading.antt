@@ -1,12 +1,6 @@
 -- The steps placed at one event lead from the sequential object before it to the one after it.
-use Rattle.std.proofs.Common.{◌≡◌, ◌≤◌, ℕ, suc, Option, Some, None, Bool, true, false, List, [], ◌∷◌, ◌++◌, length, refl, sym, ◌∙◌, ap, arith, append_assoc}
-use Rattle.std.specs.Prelude.{nat_eq, if◌then◌else◌}
-use Rattle.atomic_programs.specs.Prog.{Ret, Do, Did, Waits, Ran, Stops, asks, OfNext}
-use Rattle.atomic_programs.specs.Logic.{P, OpWithAnswer, own, onto, oldest_first, Goes, PlacesOne, Good, Wp}
-use Rattle.atomic_programs.specs.Calls.{Theory, Began, Refuses, Begins, Begun, Ends, Lawful, Run, PlacedStep, State, Event, Start, Step, start_of, placed, unchanged, moved, tried, step_prog, step_unless, step_run, begun, busy_in, start_run, next, hart_of, is_some, HonestStep, IsHonest, Sound}
-use Rattle.atomic_programs.specs.Explained.{Chain, of_hart, Leads}
-use Rattle.atomic_programs.proofs.Beginnings.{append_nil, oldest_first_more}
-use Rattle.atomic_programs.proofs.Explains.{Keeps, inv_of, holds_of, is_some-false, sound_keeps}
+use Rattle.atomic_programs.proofs.Vocabulary.{◌≡◌, ◌≤◌, ℕ, suc, Option, Some, None, Bool, true, false, List, [], ◌∷◌, ◌++◌, length, refl, sym, ◌∙◌, ap, arith, append_assoc, nat_eq, if◌then◌else◌, Ret, Do, Did, Waits, Ran, Stops, asks, OfNext, P, OpWithAnswer, own, onto, oldest_first, Goes, PlacesOne, Good, Wp, Theory, Began, Refuses, Begins, Begun, Ends, Lawful, Run, PlacedStep, State, Event, Start, Step, start_of, placed, unchanged, moved, tried, step_prog, step_unless, step_run, begun, busy_in, start_run, next, hart_of, is_some, HonestStep, IsHonest, Sound, Chain, of_hart, Leads}
+use Rattle.atomic_programs.proofs.Basics.{append_nil, oldest_first_more, Keeps, inv_of, holds_of, is_some-false, sound_keeps}
 
 -- what an event places, the oldest first
 abbrev entries : (L : Theory) → ℕ → (ℕ → Option (Run L)) → List (ℕ × L.M.Step) → List (PlacedStep L)

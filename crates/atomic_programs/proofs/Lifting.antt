@@ -1,11 +1,6 @@
 -- Programs over a layer in which a hart has more between two operations above.
-use Rattle.std.proofs.Common.{ℕ, suc, List, [], ◌∷◌, Option}
-use Rattle.atomic_programs.specs.Prog.{Ret, Do, once, Did, Waits, Ran, Stops}
-use Rattle.atomic_programs.specs.Logic.{Machine, P, own, onto, Goes, placed_with, Good, Wp}
-use Rattle.atomic_programs.specs.Joined.{Lower, LowerLaws, Both, joined, both, Handlers, Below, Lasts, Atomic}
-use Rattle.atomic_programs.specs.Lifting.{with_more, IfRan}
-use Rattle.atomic_programs.specs.Spending.{Budget, AtomicWithin}
-use Rattle.atomic_programs.proofs.Sound.{Wp-weaker}
+use Rattle.atomic_programs.proofs.Vocabulary.{ℕ, suc, List, [], ◌∷◌, Option, Ret, Do, once, Did, Waits, Ran, Stops, Machine, P, own, onto, Goes, placed_with, Good, Wp, Lower, LowerLaws, Both, joined, both, Handlers, Below, Lasts, Atomic, with_more, IfRan, Budget, AtomicWithin}
+use Rattle.atomic_programs.proofs.Basics.{Wp-weaker}
 
 module _ (U : Machine) (R : Lower U.World) (More : ℕ → U.World → Type 0) where
   goes_on : (t : U.Tree) (ps : List (ℕ × U.Step)) (u : U.Tree) → Goes (joined U R) t ps u → Goes (joined U (with_more R More)) t ps u

@@ -1,14 +1,5 @@
 -- What is shown of calls above holds of them below, and each run below is one of whole operations above.
-use Rattle.std.proofs.Common.{◌≡◌, ◌⊎◌, ℕ, Option, Bool, false, List, [], refl, sym, ◌∙◌, ap, subst, inl, inr}
-use Rattle.atomic_programs.specs.Prog.{Did, Waits, Ran, Stops, did_in}
-use Rattle.atomic_programs.specs.Logic.{Machine}
-use Rattle.atomic_programs.specs.Calls.{Theory, Began, Refuses, Begins, Begun, Ends, Right, Lawful, Event, AllHonest, run, fresh}
-use Rattle.atomic_programs.specs.Explained.{IsExplained}
-use Rattle.atomic_programs.specs.Plain.{IsCode, began_in}
-use Rattle.atomic_programs.specs.Joined.{ActOf, both, Lower, Both, joined, LowerLaws, Handlers, lowered, AtEnd}
-use Rattle.atomic_programs.specs.Lowered.{Starts, began_to, began_both, lowered_calls, BeginsBoth, StartsBoth, AllAtomic, Part, IsPart, code_part, all_below, code_below}
-use Rattle.atomic_programs.specs.Lifting.{BeginsSome, AllLift}
-use Rattle.atomic_programs.specs.Operations.{Core, IsCore, operations, operations_of}
+use Rattle.atomic_programs.proofs.Vocabulary.{◌≡◌, ◌⊎◌, ℕ, Option, Bool, false, List, [], refl, sym, ◌∙◌, ap, subst, inl, inr, Did, Waits, Ran, Stops, did_in, Machine, Theory, Began, Refuses, Begins, Begun, Ends, Right, Lawful, Event, AllHonest, run, fresh, IsExplained, IsCode, began_in, ActOf, both, Lower, Both, joined, LowerLaws, Handlers, lowered, AtEnd, Starts, began_to, began_both, lowered_calls, BeginsBoth, StartsBoth, AllAtomic, Part, IsPart, code_part, all_below, code_below, BeginsSome, AllLift, Core, IsCore, operations, operations_of}
 use Rattle.atomic_programs.proofs.Sound.{Wp-weaker}
 use Rattle.atomic_programs.proofs.Explains.{ends_last, explains}
 use Rattle.atomic_programs.proofs.Joined.{joined_laws, lift}

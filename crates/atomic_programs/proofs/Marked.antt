@@ -1,12 +1,6 @@
 -- It is as lawful, and its code as right.
-use Rattle.std.proofs.Common.{◌≡◌, ℕ, List, [], refl, ◌∙◌}
+use Rattle.atomic_programs.proofs.Vocabulary.{◌≡◌, ℕ, List, [], refl, ◌∙◌, Prog, Ret, Do, bind, Did, Waits, Ran, Stops, Machine, P, Good, Laws, Wp, onto, own, Handlers, Lower, lowered, Theory, Begun, Ends, Lawful, Code, IsCode, carrying, handlers_with_marks, keeping, keeping_code, lower_with_marks, with_marks}
 use Rattle.std.specs.Prelude.{is_some}
-use Rattle.atomic_programs.specs.Prog.{Prog, Ret, Do, bind, Did, Waits, Ran, Stops}
-use Rattle.atomic_programs.specs.Logic.{Machine, P, Good, Laws, Wp, onto, own}
-use Rattle.atomic_programs.specs.Joined.{Handlers, Lower, lowered}
-use Rattle.atomic_programs.specs.Calls.{Theory, Begun, Ends, Lawful}
-use Rattle.atomic_programs.specs.Plain.{Code, IsCode}
-use Rattle.atomic_programs.specs.Marked.{carrying, handlers_with_marks, keeping, keeping_code, lower_with_marks, with_marks}
 
 module _ (M : Machine) where
   laws_kept : Laws M → Laws (with_marks M)

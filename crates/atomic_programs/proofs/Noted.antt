@@ -1,19 +1,6 @@
 -- In every run of lowered calls each operation acts within the run of its own program below.
-use Rattle.std.proofs.Common.{◌≡◌, ◌≢◌, ◌<◌, ◌+◌, ◌-◌, ℕ, suc, Option, Bool, true, false, List, [], ◌∷◌, ◌++◌, refl, sym, ◌∙◌, ap, subst, arith, ◌⊎◌, inl, inr}
-use Rattle.std.specs.Prelude.{nat_eq, if◌then◌else◌}
-use Rattle.std.proofs.lemmas.Bool.{eq-eqb, ne_eqb}
-use Rattle.atomic_programs.specs.Prog.{Ret, Do, bind, Did, Waits, Ran, Stops, asks}
-use Rattle.atomic_programs.specs.Logic.{Machine, P, OpWithAnswer, own, onto, oldest_first, Goes, placed_with, Grown, Good, Wp, Laws}
-use Rattle.atomic_programs.specs.Calls.{Theory, Begins, Begun, Ends, Lawful, Event, AllHonest, run, fresh, is_some}
-use Rattle.atomic_programs.specs.Explained.{IsExplained}
-use Rattle.atomic_programs.specs.Joined.{Lower, Both, joined, LowerLaws, Handover, Handlers, lowered, Lasts, Below, Atomic}
-use Rattle.atomic_programs.specs.Lowered.{Starts, began_to, lowered_calls, StartsBoth, CanBegin, AllAtomic}
-use Rattle.atomic_programs.specs.Operations.{Core, IsCore, operations, operations_of}
-use Rattle.atomic_programs.specs.Noted.{Note, Runs, Places, Notes, noted_steps, noted, After, Within, IsWhole, noted_calls}
-use Rattle.atomic_programs.proofs.Sound.{Wp-weaker, Wp-more, Wp-bind, Wp-others}
-use Rattle.atomic_programs.proofs.Explains.{ends_last, explains}
-use Rattle.atomic_programs.proofs.Operations.{onto_rest, own_one, operations_laws, operations_lawful}
-use Rattle.atomic_programs.proofs.Lowered.{operations_below, begun_both, lowered_lawful}
+use Rattle.atomic_programs.proofs.Vocabulary.{◌≡◌, ◌≢◌, ◌<◌, ◌+◌, ◌-◌, ℕ, suc, Option, Bool, true, false, List, [], ◌∷◌, ◌++◌, refl, sym, ◌∙◌, ap, subst, arith, ◌⊎◌, inl, inr, nat_eq, if◌then◌else◌, eq-eqb, ne_eqb, Ret, Do, bind, Did, Waits, Ran, Stops, asks, Machine, P, OpWithAnswer, own, onto, oldest_first, Goes, placed_with, Grown, Good, Wp, Laws, Theory, Begins, Begun, Ends, Lawful, Event, AllHonest, run, fresh, is_some, IsExplained, Lower, Both, joined, LowerLaws, Handover, Handlers, lowered, Lasts, Below, Atomic, Starts, began_to, lowered_calls, StartsBoth, CanBegin, AllAtomic, Core, IsCore, operations, operations_of, Note, Runs, Places, Notes, noted_steps, noted, After, Within, IsWhole, noted_calls}
+use Rattle.atomic_programs.proofs.Basics.{Wp-weaker, Wp-more, Wp-bind, Wp-others, ends_last, explains, onto_rest, own_one, operations_laws, operations_lawful, operations_below, begun_both, lowered_lawful}
 
 -- no hart's steps are placed by another one
 abbrev pub Alone : Machine → Type 0

@@ -1,10 +1,5 @@
 -- What is noted of a run changes nothing of it.
-use Rattle.std.proofs.Common.{◌≡◌, ℕ, suc, Option, Some, None, Bool, true, false, List, [], ◌∷◌, refl, sym, ◌∙◌, ap, subst}
-use Rattle.std.specs.Prelude.{nat_eq, if◌then◌else◌}
-use Rattle.atomic_programs.specs.Prog.{Ret, Do, Did, Waits, Ran, Stops}
-use Rattle.atomic_programs.specs.Logic.{P, OpWithAnswer, own, onto}
-use Rattle.atomic_programs.specs.Calls.{Theory, Began, Refuses, Begins, Run, PlacedStep, FinishedCall, State, Event, Start, Step, Came, Started, DidRun, DidEnd, Made, changed, is_some, start_of, placed, told, all_told, moved, tried, step_prog, step_unless, step_run, begun, busy_in, start_run, HonestStep, IsHonest, AllHonest, makes, next, run, outcomes, fresh}
-use Rattle.atomic_programs.specs.Noted.{Note, Runs, Places, Notes, noted_steps, with_notes, entry_of, entries_of, SameRuns}
+use Rattle.atomic_programs.proofs.Vocabulary.{◌≡◌, ℕ, suc, Option, Some, None, Bool, true, false, List, [], ◌∷◌, refl, sym, ◌∙◌, ap, subst, nat_eq, if◌then◌else◌, Ret, Do, Did, Waits, Ran, Stops, P, OpWithAnswer, own, onto, Theory, Began, Refuses, Begins, Run, PlacedStep, FinishedCall, State, Event, Start, Step, Came, Started, DidRun, DidEnd, Made, changed, is_some, start_of, placed, told, all_told, moved, tried, step_prog, step_unless, step_run, begun, busy_in, start_run, HonestStep, IsHonest, AllHonest, makes, next, run, outcomes, fresh, Note, Runs, Places, Notes, noted_steps, with_notes, entry_of, entries_of, SameRuns}
 
 module _ (L : Theory) (Written : L.Call → Notes L.M → L.Reply → Type 0) where
   abbrev N : Theory

@@ -1,23 +1,9 @@
 -- Every call over the machine of whole inodes, run on blocks.
-use Rattle.std.proofs.Common.{◌≡◌, ◌<◌, ℕ, Bool, true, false, if◌then◌else◌, Option, None, Some, List, [], ◌∷◌, refl, subst}
-use Rattle.std.specs.Prelude.{nat_lt}
-use Rattle.std.proofs.lemmas.Bool.{ltb-true}
-use Rattle.atomic_programs.specs.Prog.{Did, Waits, Ran, Stops, did_in, asks}
-use Rattle.atomic_programs.specs.Calls.{Began, Refuses, Begins, Lawful, Event, AllHonest, run, fresh, is_some}
-use Rattle.atomic_programs.specs.Explained.{IsExplained}
-use Rattle.atomic_programs.specs.Joined.{Both}
-use Rattle.atomic_programs.specs.Lowered.{BeginsBoth, StartsBoth, CanBegin, AllAtomic, lowered_calls}
-use Rattle.atomic_programs.specs.Operations.{IsCore, operations_of}
-use Rattle.atomic_programs.specs.Noted.{noted_calls}
-use Rattle.atomic_programs.proofs.Operations.{operations_laws}
-use Rattle.atomic_programs.proofs.Lowered.{lowered_lawful, refined}
+use Rattle.atomic_programs.proofs.Vocabulary.{◌≡◌, ◌<◌, ℕ, Bool, true, false, if◌then◌else◌, Option, None, Some, List, [], ◌∷◌, refl, subst, nat_lt, ltb-true, Did, Waits, Ran, Stops, did_in, asks, Began, Refuses, Begins, Lawful, Event, AllHonest, run, fresh, is_some, IsExplained, Both, BeginsBoth, StartsBoth, CanBegin, AllAtomic, lowered_calls, IsCore, operations_of, noted_calls, Labels, Keeps, whole, take_if, hart_count, World, Outside, Shows, Base, blocks, handler, Calls, theory, begins_at_once, core, operation_labels}
+use Rattle.atomic_programs.proofs.Basics.{operations_laws, lowered_lawful, refined, blocks_laws}
 use Rattle.atomic_programs.proofs.Noted.{refined_within}
 use Rattle.atomic_programs.specs.Whole as above
-use Rattle.atomic_programs.specs.Whole.{Labels, Keeps, whole, take_if}
 use Rattle.atomic_programs.specs.Blocks as low
-use Rattle.atomic_programs.specs.Blocks.{hart_count, World, Outside, Shows, Base, blocks, handler}
-use Rattle.atomic_programs.specs.OfWhole.{Calls, theory, begins_at_once, core, operation_labels}
-use Rattle.atomic_programs.proofs.Steps.{blocks_laws}
 use Rattle.atomic_programs.proofs.Handlers.{atomic}
 
 some : (op : above.Op) → above.Answer op

@@ -1,10 +1,5 @@
 -- Every program that is right over a machine shows the run of its own operations.
-use Rattle.std.proofs.Common.{◌≡◌, ◌≢◌, ℕ, Option, List, [], ◌∷◌, ◌++◌, refl, sym, ◌∙◌, ap, subst, inl, inr, arith}
-use Rattle.std.proofs.lemmas.Bool.{eq-eqb, ne_eqb}
-use Rattle.atomic_programs.specs.Prog.{Ret, Do, Did, Waits, Ran, Stops, did_in}
-use Rattle.atomic_programs.specs.Logic.{Machine, P, OpWithAnswer, PlacesOne, own, onto, oldest_first, placed_with, Good, Wp, Laws}
-use Rattle.atomic_programs.specs.Calls.{Theory, Begun, Ends, Lawful}
-use Rattle.atomic_programs.specs.Operations.{Core, IsCore, operations, IsRun, operations_of, bare, bare_calls}
+use Rattle.atomic_programs.proofs.Vocabulary.{◌≡◌, ◌≢◌, ℕ, Option, List, [], ◌∷◌, ◌++◌, refl, sym, ◌∙◌, ap, subst, inl, inr, arith, eq-eqb, ne_eqb, Ret, Do, Did, Waits, Ran, Stops, did_in, Machine, P, OpWithAnswer, PlacesOne, own, onto, oldest_first, placed_with, Good, Wp, Laws, Theory, Begun, Ends, Lawful, Core, IsCore, operations, IsRun, operations_of, bare, bare_calls}
 use Rattle.atomic_programs.proofs.Sound.{Wp-weaker}
 
 pub operations_laws : (L : Machine) (K : Core L) → Laws L → Laws (operations L K)

@@ -1,6 +1,5 @@
 -- Laws of programs.
-use Rattle.std.proofs.Common.{◌≡◌, Option, Some, refl, ap, ◌∙◌}
-use Rattle.atomic_programs.specs.Prog.{Prog, Ret, Do, bind, unmarked, marked, plain, Did, Waits, Ran, Stops, OperationResult, Ended, StillWaits, WentOn, Broke, went, advance, asks, OfNext, did_in, moved_in}
+use Rattle.atomic_programs.proofs.Vocabulary.{◌≡◌, Option, Some, refl, ap, ◌∙◌, Prog, Ret, Do, bind, unmarked, marked, plain, Did, Waits, Ran, Stops, OperationResult, Ended, StillWaits, WentOn, Broke, went, advance, asks, OfNext, did_in, moved_in}
 
 pub bind-assoc : {Op : Type 0} {Answer : Op → Type 0} {M A B C : Type 0} (p : Prog Op Answer M A) (f : A → Prog Op Answer M B) (g : B → Prog Op Answer M C) → bind (bind p f) g ≡ bind p (λ a. bind (f a) g)
 bind-assoc (Ret a) f g = refl

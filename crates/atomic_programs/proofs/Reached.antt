@@ -1,14 +1,7 @@
 -- A sound state goes on to sound ones, and gives the code its premises.
-use Rattle.std.proofs.Common.{◌≡◌, ℕ, Option, Some, None, Bool, true, false, List, [], ◌∷◌, ◌++◌, refl, sym, ◌∙◌, ap, subst}
-use Rattle.atomic_programs.specs.Prog.{Ret, Do, plain, asks, OfNext}
-use Rattle.atomic_programs.specs.Logic.{P}
-use Rattle.atomic_programs.specs.Calls.{Theory, Lawful, Run, State, Event, Start, Step, Outcome, Came, HonestStep, IsHonest, AllHonest, Sound, asked, with_answer, all_asked, makes, next, run, outcomes, fresh}
-use Rattle.atomic_programs.specs.Explained.{IsExplained}
-use Rattle.atomic_programs.specs.Plain.{Code, IsCode, Plain, PlainMade, plain_makes, by_kind, all_by_kind, prog_of, erase, PlainHonestStep, PlainHonest, MayOf, SoundPlain}
-use Rattle.atomic_programs.specs.Shown.{CameTo, Shown}
-use Rattle.atomic_programs.proofs.Explains.{may_make, sound_keeps, explained_by, explains}
+use Rattle.atomic_programs.proofs.Vocabulary.{◌≡◌, ℕ, Option, Some, None, Bool, true, false, List, [], ◌∷◌, ◌++◌, refl, sym, ◌∙◌, ap, subst, Ret, Do, plain, asks, OfNext, P, Theory, Lawful, Run, State, Event, Start, Step, Outcome, Came, HonestStep, IsHonest, AllHonest, Sound, asked, with_answer, all_asked, makes, next, run, outcomes, fresh, IsExplained, Code, IsCode, Plain, PlainMade, plain_makes, by_kind, all_by_kind, prog_of, erase, PlainHonestStep, PlainHonest, MayOf, SoundPlain, CameTo, Shown}
+use Rattle.atomic_programs.proofs.Basics.{may_make, sound_keeps, explained_by, explains, erased, erase-makes}
 use Rattle.atomic_programs.proofs.Tracing.{traced}
-use Rattle.atomic_programs.proofs.Erased.{erased, erase-makes}
 
 pub run-append : (L : Theory) (es fs : List (Event L.Call L.M.Outside)) (s : State L) → run L (es ++ fs) s ≡ run L fs (run L es s)
 run-append L [] fs s = refl

@@ -1,13 +1,7 @@
 -- The calls at the desk do as they should.
-use Rattle.std.proofs.Common.{◌≡◌, ◌<◌, ◌≢◌, ℕ, Option, Some, None, Bool, true, false, List, [], ◌∷◌, ◌++◌, ◌≤◌, length, refl, sym, ◌∙◌, ap, subst, arith, ◌⊎◌, inl, inr}
-use Rattle.std.proofs.lemmas.Bool.{eqb-true, eqb-false, eq-eqb, ne_eqb}
-use Rattle.std.specs.Prelude.{nat_eq, if◌then◌else◌}
-use Rattle.atomic_programs.specs.Prog.{Ret, Do, unmarked}
-use Rattle.atomic_programs.specs.Logic.{own, onto, PlacesOne, Grown, Fine, Good, Wp, Laws}
-use Rattle.atomic_programs.specs.Calls.{Began, Begins, IsBeginning, Begun, Ends, Right, Lawful, Event, changed, run, fresh}
-use Rattle.atomic_programs.specs.Explained.{IsExplained}
-use Rattle.atomic_programs.specs.Desk.{Slot, Empty, Asked, Served, World, Ask, Serve, Collect, Hand, Free, Wipe, Step, Swapped, Gave, serve_if, collect_if, served, IsServedAs, is_for, Others, Idle, IsAsked, machine, Call, Request, Help, Give, Reset, Got, Helped, Given, Wiped, Refusal, Busy, program, unless, reserve_if, start_call, start_if, desk}
-use Rattle.atomic_programs.proofs.Explains.{changed_same, changed_other, explains, all_honest}
+use Rattle.atomic_programs.proofs.Vocabulary.{◌≡◌, ◌<◌, ◌≢◌, ℕ, Option, Some, None, Bool, true, false, List, [], ◌∷◌, ◌++◌, ◌≤◌, length, refl, sym, ◌∙◌, ap, subst, arith, ◌⊎◌, inl, inr, eqb-true, eqb-false, eq-eqb, ne_eqb, nat_eq, if◌then◌else◌, Ret, Do, unmarked, own, onto, PlacesOne, Grown, Fine, Good, Wp, Laws, Began, Begins, IsBeginning, Begun, Ends, Right, Lawful, Event, changed, run, fresh, IsExplained, Slot, Empty, Asked, Served, Ask, Serve, Collect, Hand, Free, Wipe, Gave, serve_if, collect_if, served, IsServedAs, is_for, Others, Idle, IsAsked, Request, Help, Give, Reset, Got, Helped, Given, Wiped, Busy, unless, reserve_if, start_call, start_if, desk}
+use Rattle.atomic_programs.specs.Desk.{World, Step, Swapped, machine, Call, Refusal, program}
+use Rattle.atomic_programs.proofs.Basics.{changed_same, changed_other, explains, all_honest}
 
 fared_same : (s : Slot) → IsServedAs s [] s
 fared_same Empty = (refl, refl)

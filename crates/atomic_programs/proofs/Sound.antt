@@ -1,7 +1,5 @@
 -- The rules of the logic.
-use Rattle.std.proofs.Common.{◌≡◌, ◌≤◌, ◌<◌, ◌+◌, ℕ, List, [], ◌∷◌, ◌++◌, refl, sym, subst, arith, inl, inr, Option}
-use Rattle.atomic_programs.specs.Prog.{Ret, Do, bind, Did, Waits, Ran, Stops}
-use Rattle.atomic_programs.specs.Logic.{Machine, P, own, onto, placed_with, Grown, Good, Wp, Safe, Laws}
+use Rattle.atomic_programs.proofs.Vocabulary.{◌≡◌, ◌≤◌, ◌<◌, ◌+◌, ℕ, List, [], ◌∷◌, ◌++◌, refl, sym, subst, arith, inl, inr, Option, Ret, Do, bind, Did, Waits, Ran, Stops, Machine, P, own, onto, placed_with, Grown, Good, Wp, Safe, Laws}
 use Rattle.atomic_programs.proofs.Prog.{bind-assoc}
 
 pub onto-append : {A : Type 0} (xs ys es : List A) → onto (xs ++ ys) es ≡ onto ys (onto xs es)

@@ -1,8 +1,5 @@
 -- What the steps of a program make of something that its hart has, beside all that is shown of the program.
-use Rattle.std.proofs.Common.{◌≡◌, ℕ, List, refl}
-use Rattle.atomic_programs.specs.Prog.{Ret, Do, bind, Did, Waits, Ran, Stops}
-use Rattle.atomic_programs.specs.Logic.{Machine, P, own, onto, placed_with, Good, Wp}
-use Rattle.atomic_programs.specs.Spending.{Tracks}
+use Rattle.atomic_programs.proofs.Vocabulary.{◌≡◌, ℕ, List, refl, Ret, Do, bind, Did, Waits, Ran, Stops, Machine, P, own, onto, placed_with, Good, Wp, Tracks}
 
 module _ (L : Machine) (h : ℕ) {S : Type 0} (Has : L.World → S → Type 0) where
   -- where the program begins with more

@@ -1,10 +1,6 @@
 -- What holds of each event in any state.
-use Rattle.std.proofs.Common.{◌≡◌, ℕ, suc, Option, Some, None, Bool, true, false, List, [], ◌∷◌, ◌++◌, refl, sym, ◌∙◌, ap, append_assoc, inl, inr}
-use Rattle.atomic_programs.specs.Prog.{Ret, Do, Did, Waits, Ran, Stops}
-use Rattle.atomic_programs.specs.Logic.{P, OpWithAnswer, oldest_first}
-use Rattle.atomic_programs.specs.Calls.{Theory, Began, Refuses, Begins, Run, State, Event, Start, Step, WasStopped, unchanged, moved, tried, step_prog, step_unless, step_run, begun, busy_in, start_run, makes, next, PlacedStep, placed, start_of}
-use Rattle.atomic_programs.specs.Explained.{In, is_quiet, Steady}
-use Rattle.atomic_programs.proofs.Beginnings.{append_nil, oldest_first_more}
+use Rattle.atomic_programs.proofs.Vocabulary.{◌≡◌, ℕ, suc, Option, Some, None, Bool, true, false, List, [], ◌∷◌, ◌++◌, refl, sym, ◌∙◌, ap, append_assoc, inl, inr, Ret, Do, Did, Waits, Ran, Stops, P, OpWithAnswer, oldest_first, Theory, Began, Refuses, Begins, Run, State, Event, Start, Step, WasStopped, unchanged, moved, tried, step_prog, step_unless, step_run, begun, busy_in, start_run, makes, next, PlacedStep, placed, start_of, In, is_quiet, Steady}
+use Rattle.atomic_programs.proofs.Basics.{append_nil, oldest_first_more}
 
 module _ (L : Theory) (s : State L) where
   quiet_moved : (h : ℕ) (r : Run L) (did : OpWithAnswer L.M) (ps : List (ℕ × L.M.Step)) (p : P L.M L.Reply) (w : L.M.World) → is_quiet (moved L h s r did ps p w).came ≡ true → (moved L h s r did ps p w).after ≡ unchanged L s

@@ -1,10 +1,6 @@
 -- What a step below leaves to the others, and what it shows above.
-use Rattle.std.proofs.Common.{◌≡◌, ◌≢◌, ◌⊎◌, inl, inr, ◌/◌, ◌%◌, ℕ, Bool, true, Option, Some, None, refl, sym, ◌∙◌, ap, subst, arith}
-use Rattle.std.proofs.lemmas.Bool.{ne_eqb}
-use Rattle.atomic_programs.specs.Joined.{LowerLaws}
+use Rattle.atomic_programs.proofs.Vocabulary.{◌≡◌, ◌≢◌, ◌⊎◌, inl, inr, ◌/◌, ◌%◌, ℕ, Bool, true, Option, Some, None, refl, sym, ◌∙◌, ap, subst, arith, ne_eqb, LowerLaws, put, if_held, Dinode, Labels, Keeps, whole, Block, World, Shows, Same, IsTied, Carry, InHand, at, blocks}
 use Rattle.atomic_programs.specs.Whole as above
-use Rattle.atomic_programs.specs.Whole.{put, if_held, Dinode, Labels, Keeps, whole}
-use Rattle.atomic_programs.specs.Blocks.{Block, World, Shows, Same, IsTied, Carry, InHand, at, blocks}
 use Rattle.atomic_programs.proofs.Maps.{put_same, put_other, same_or, put_elim, Ours, ours_none, ours_some, not_held, held_is, held_here, none_is}
 
 pub not_mine : {A : Type 0} (h : ℕ) (o : Option ℕ) (x : A) → o ≢ Some h → if_held o h x ≡ None

@@ -1,16 +1,8 @@
 -- The swap is right over whole inodes.
-use Rattle.std.proofs.Common.{◌≡◌, ◌≢◌, ◌<◌, ◌+◌, inl, inr, ℕ, Bool, true, false, Option, Some, None, List, [], ◌∷◌, refl, sym, ◌∙◌, ap, subst, arith}
-use Rattle.std.proofs.lemmas.Bool.{eq-eqb, ne_eqb}
-use Rattle.atomic_programs.specs.Prog.{Ret, Do, unmarked}
-use Rattle.atomic_programs.specs.Logic.{Machine, own, onto, Fine, Good, Wp, Safe, Laws}
-use Rattle.atomic_programs.specs.Calls.{Theory, Began, Begins, Begun, Ends, Right, Lawful}
-use Rattle.atomic_programs.proofs.Sound.{s-op}
-use Rattle.atomic_programs.specs.Whole.{put, if_held, Dinode, World, Op, Take, Store, Give, Exit, Keeps, whole, take_if}
-use Rattle.atomic_programs.specs.Blocks.{IsOut}
-use Rattle.atomic_programs.specs.OfWhole.{theory}
-use Rattle.atomic_programs.specs.Swap.{Step, Swapped, Mine, HasNothing, Swap, program, labels, calls}
-use Rattle.atomic_programs.proofs.Maps.{put_same, put_other, same_or, put_elim, Ours, ours_none, not_held, held_is, held_here, none_is}
-use Rattle.atomic_programs.proofs.Steps.{not_mine, ours_is, ours_put}
+use Rattle.atomic_programs.proofs.Vocabulary.{◌≡◌, ◌≢◌, ◌<◌, ◌+◌, inl, inr, ℕ, Bool, true, false, Option, Some, None, List, [], ◌∷◌, refl, sym, ◌∙◌, ap, subst, arith, eq-eqb, ne_eqb, Ret, Do, unmarked, Machine, own, onto, Fine, Good, Wp, Safe, Laws, Theory, Began, Begins, Begun, Ends, Right, Lawful, put, if_held, Dinode, Exit, Keeps, whole, take_if, IsOut, theory, Mine, HasNothing, Swap, labels, calls}
+use Rattle.atomic_programs.proofs.Basics.{s-op, put_same, put_other, same_or, put_elim, Ours, ours_none, not_held, held_is, held_here, none_is, not_mine, ours_is, ours_put}
+use Rattle.atomic_programs.specs.Whole.{World, Op, Take, Store, Give}
+use Rattle.atomic_programs.specs.Swap.{Step, Swapped, program}
 
 pub has : (h i : ℕ) (v w : World) → Mine h v w → v.lock i ≡ Some h → (w.lock i ≡ Some h) × (w.dino i ≡ v.dino i) × (w.node i ≡ v.node i)
 has h i v w m e =

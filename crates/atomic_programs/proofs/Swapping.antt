@@ -1,14 +1,7 @@
 -- The calls of the cell do as they should.
-use Rattle.std.proofs.Common.{◌≡◌, ◌≢◌, ◌<◌, ◌+◌, ◌-◌, ◌⊎◌, ℕ, Option, Some, None, Bool, true, false, List, [], ◌∷◌, refl, sym, ◌∙◌, ap, subst, arith, inl, inr}
-use Rattle.std.proofs.lemmas.Bool.{eqb-true, eq-eqb, ne_eqb, ltb-true}
-use Rattle.std.specs.Prelude.{nat_eq, nat_lt, if◌then◌else◌}
-use Rattle.atomic_programs.specs.Prog.{Do, unmarked, Did, Waits, Ran}
-use Rattle.atomic_programs.specs.Logic.{own, onto, PlacesOne, Halts, Good, Wp, Safe, Laws}
-use Rattle.atomic_programs.specs.Calls.{Began, Begins, IsBeginning, Begun, Ends, Right, Lawful, Event, AllHonest, run, fresh}
-use Rattle.atomic_programs.specs.Explained.{IsExplained}
-use Rattle.atomic_programs.specs.Cell.{Cell, Outside, Passes, Fails, LeavesIt, LeavesOne, failed, fetch_if, store_if, honest, may, fits, Op, Take, Fetch, Store, Drop, Answer, Step, Swapped, Saw, World, with_value, go, placed_by, if_held, own_of, Inv, IsOut, MayWait, machine, Call, Swap, Look, Refusal, P, program, begin_if, swaps}
-use Rattle.atomic_programs.proofs.Sound.{s-op}
-use Rattle.atomic_programs.proofs.Explains.{explains}
+use Rattle.atomic_programs.proofs.Vocabulary.{◌≡◌, ◌≢◌, ◌<◌, ◌+◌, ◌-◌, ◌⊎◌, ℕ, Option, Some, None, Bool, true, false, List, [], ◌∷◌, refl, sym, ◌∙◌, ap, subst, arith, inl, inr, eqb-true, eq-eqb, ne_eqb, ltb-true, nat_eq, nat_lt, if◌then◌else◌, Do, unmarked, Did, Waits, Ran, own, onto, PlacesOne, Halts, Good, Wp, Safe, Laws, Began, Begins, IsBeginning, Begun, Ends, Right, Lawful, Event, AllHonest, run, fresh, IsExplained, Cell, LeavesIt, LeavesOne, failed, fetch_if, store_if, honest, may, fits, Take, Fetch, Store, Drop, Answer, Swapped, Saw, with_value, go, placed_by, own_of, Inv, MayWait, machine, Call, Look, Refusal, program, begin_if, swaps}
+use Rattle.atomic_programs.specs.Cell.{Outside, Passes, Fails, Op, Step, World, if_held, IsOut, Swap, P}
+use Rattle.atomic_programs.proofs.Basics.{s-op, explains}
 
 pub laws : Laws machine
 laws =

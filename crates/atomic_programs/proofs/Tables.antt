@@ -1,13 +1,5 @@
 -- A hart's step or start in its place, and what a world keeps of it.
-use Rattle.std.proofs.Common.{◌≡◌, ◌<◌, ℕ, zero, suc, Option, Some, None, Bool, true, false, List, [], ◌∷◌, refl, sym, ◌∙◌, ap, subst, length, get_or, set, get_or-set_same, get_or-set_other, length-set}
-use Rattle.std.specs.Prelude.{nat_eq, slice_get}
-use Rattle.std.proofs.lemmas.Bool.{eqb-true, eqb-false}
-use Rattle.std.proofs.lemmas.Option.{slice_get_within, get_or_from_slice_get}
-use Rattle.std.proofs.lemmas.List.{set-set}
-use Rattle.atomic_programs.specs.Calls.{Theory, Lawful, Event, Start, Step, Outcome, changed, is_some, fresh}
-use Rattle.atomic_programs.specs.Plain.{UnmarkedProgram, Code, IsCode, PlainMade, PlainHonest, PlainHonestStep, MayOf, plain_makes, hart_step, hart_start}
-use Rattle.atomic_programs.specs.Machines.{program_at, programs_in}
-use Rattle.atomic_programs.specs.Tables.{PlaceFits, plain_at, IsKept}
+use Rattle.atomic_programs.proofs.Vocabulary.{◌≡◌, ◌<◌, ℕ, zero, suc, Option, Some, None, Bool, true, false, List, [], ◌∷◌, refl, sym, ◌∙◌, ap, subst, length, get_or, set, get_or-set_same, get_or-set_other, length-set, nat_eq, slice_get, eqb-true, eqb-false, slice_get_within, get_or_from_slice_get, set-set, Theory, Lawful, Event, Start, Step, Outcome, changed, is_some, fresh, UnmarkedProgram, Code, IsCode, PlainMade, PlainHonest, PlainHonestStep, MayOf, plain_makes, hart_step, hart_start, program_at, programs_in, PlaceFits, plain_at, IsKept}
 use Rattle.atomic_programs.proofs.Advances.{programs_in-set, hart_steps, hart_starts}
 use Rattle.atomic_programs.proofs.Reached.{sound_fresh, sound_event, sound_may}
 

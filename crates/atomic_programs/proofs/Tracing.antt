@@ -1,11 +1,6 @@
 -- A state's calls are just those that the events with their outcomes show.
-use Rattle.std.proofs.Common.{◌≡◌, ◌≢◌, ℕ, suc, Option, Some, None, Bool, true, false, List, [], ◌∷◌, refl, sym, ◌∙◌, ap, subst, ◌⊎◌, inl, inr}
-use Rattle.atomic_programs.specs.Prog.{Ret, Do, Did, Waits, Ran, Stops}
-use Rattle.atomic_programs.specs.Logic.{P, OpWithAnswer, own, onto}
-use Rattle.atomic_programs.specs.Calls.{Theory, Began, Refuses, Begins, Run, FinishedCall, State, Event, Start, Step, Came, Started, Refused, WasIdle, DidWait, DidRun, DidEnd, DidStop, WasStopped, told, all_told, unchanged, moved, tried, step_prog, step_unless, step_run, begun, busy_in, start_run, makes, next, run, fresh}
-use Rattle.atomic_programs.specs.Explained.{In}
-use Rattle.atomic_programs.specs.Trace.{EventReport, happened, IsTraced}
-use Rattle.atomic_programs.proofs.Explains.{changed_tells, Some-inj}
+use Rattle.atomic_programs.proofs.Vocabulary.{◌≡◌, ◌≢◌, ℕ, suc, Option, Some, None, Bool, true, false, List, [], ◌∷◌, refl, sym, ◌∙◌, ap, subst, ◌⊎◌, inl, inr, Ret, Do, Did, Waits, Ran, Stops, P, OpWithAnswer, own, onto, Theory, Began, Refuses, Begins, Run, FinishedCall, State, Event, Start, Step, Came, Started, Refused, WasIdle, DidWait, DidRun, DidEnd, DidStop, WasStopped, told, all_told, unchanged, moved, tried, step_prog, step_unless, step_run, begun, busy_in, start_run, makes, next, run, fresh, In, EventReport, happened, IsTraced}
+use Rattle.atomic_programs.proofs.Basics.{changed_tells, Some-inj}
 
 module _ (L : Theory) where
   same_set : (V W : EventReport L → Type 0) (s : State L) → ((x : EventReport L) → V x → W x) → ((x : EventReport L) → W x → V x) → IsTraced L V s → IsTraced L W s

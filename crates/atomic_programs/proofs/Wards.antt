@@ -1,24 +1,8 @@
 -- What a start reserves is reserved in both worlds, and its call is a run of its operations above.
-use Rattle.std.proofs.Common.{◌≡◌, ◌≢◌, ◌<◌, ◌+◌, ◌⊎◌, inl, inr, ℕ, Bool, true, false, Option, Some, None, List, [], ◌∷◌, refl, sym, ◌∙◌, ap, subst, arith}
-use Rattle.std.specs.Prelude.{nat_eq}
-use Rattle.std.proofs.lemmas.Bool.{eqb-false, eq-eqb, ne_eqb}
-use Rattle.atomic_programs.specs.Prog.{Ret, once, unmarked, Stops, did_in, asks}
-use Rattle.atomic_programs.specs.Logic.{onto, own, Machine, Fine, Wp, Safe, Laws}
-use Rattle.atomic_programs.specs.Calls.{Began, Begins, Begun, Ends, Right, Lawful, Event, AllHonest, run, fresh, is_some}
-use Rattle.atomic_programs.specs.Explained.{IsExplained}
-use Rattle.atomic_programs.specs.Operations.{IsCore, operations}
-use Rattle.atomic_programs.specs.Joined.{Both, joined, LowerLaws, holding, Below, Atomic}
-use Rattle.atomic_programs.specs.Lowered.{BeginsBoth, StartsBoth}
-use Rattle.atomic_programs.proofs.Sound.{s-op}
-use Rattle.atomic_programs.proofs.Operations.{operations_laws}
-use Rattle.atomic_programs.proofs.Joined.{s-silent, acted, s-act}
-use Rattle.atomic_programs.proofs.Lowered.{operations_below, refined}
+use Rattle.atomic_programs.proofs.Vocabulary.{◌≡◌, ◌≢◌, ◌<◌, ◌+◌, ◌⊎◌, inl, inr, ℕ, Bool, true, false, Option, Some, None, List, [], ◌∷◌, refl, sym, ◌∙◌, ap, subst, arith, nat_eq, eqb-false, eq-eqb, ne_eqb, Ret, once, unmarked, Stops, did_in, asks, onto, own, Machine, Fine, Wp, Safe, Laws, Began, Begins, Begun, Ends, Right, Lawful, Event, AllHonest, run, fresh, is_some, IsExplained, IsCore, operations, Both, joined, LowerLaws, holding, Below, Atomic, BeginsBoth, StartsBoth, put, if_held, given, unless_ward, reserved, start, gifts, Peek, Fill, Release, LowAnswer, gifts_above, gifts_noted}
+use Rattle.atomic_programs.proofs.Basics.{s-op, operations_laws, s-silent, acted, s-act, operations_below, refined, put_same, put_other, same_or, put_elim, Ours, not_held, held_is, held_here, ours_is}
 use Rattle.atomic_programs.proofs.Noted.{refined_within}
-use Rattle.atomic_programs.specs.Whole.{put, if_held}
-use Rattle.atomic_programs.specs.Wards.{World, Op, Give, Free, Answer, given, exec, Mine, machine, Refusal, unless, unless_ward, reserved, start, gifts, core, Peek, Fill, Release, Shows, Base, low, LowOp, LowAnswer, handler, gifts_above, rest}
-use Rattle.atomic_programs.specs.Within.{gifts_noted}
-use Rattle.atomic_programs.proofs.Maps.{put_same, put_other, same_or, put_elim, Ours, not_held, held_is, held_here}
-use Rattle.atomic_programs.proofs.Steps.{ours_is}
+use Rattle.atomic_programs.specs.Wards.{World, Op, Give, Free, Answer, exec, Mine, machine, Refusal, unless, core, Shows, Base, low, LowOp, handler, rest}
 
 -- a ward stays one, with its purse
 ward_stays : (h j : ℕ) (v w : World) → Mine h v w → v.ward j ≡ Some h → (w.ward j ≡ Some h) × (w.purse j ≡ v.purse j)

@@ -1,8 +1,6 @@
 -- What is left of a call over operations above, while one of them runs below.
 use Rattle.std.specs.Prelude.{◌≡◌, Option, Some}
-use Rattle.atomic_programs.specs.Prog.{Prog, Ret, Do, bind, plain, asks}
-use Rattle.atomic_programs.specs.Logic.{Machine, P}
-use Rattle.atomic_programs.specs.Joined.{ActOf, Lower, Handover, Handlers, lowered}
+use Rattle.atomic_programs.specs.Basics.{Prog, Ret, Do, bind, plain, asks, Machine, P, ActOf, Lower, Handover, Handlers, lowered}
 use Rattle.atomic_programs.specs.declared.machines.Stepped.{Stepped}
 use Rattle.atomic_programs.specs.declared.machines.Stepped.TheVariants.{Waits, Ran, Done, Stopped}
 

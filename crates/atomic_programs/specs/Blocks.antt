@@ -1,10 +1,8 @@
 -- The machine below: locks of inodes, records in memory, and buffers of blocks that hold 16 records each. An inode is unlocked
 -- with its record, which the program of the operation that took or stored it hands on.
 use Rattle.std.specs.Prelude.{◌≡◌, ◌≢◌, ◌<◌, ◌/◌, ◌%◌, ℕ, Bool, true, false, Option, Some, None, suc, List, [], ◌∷◌}
-use Rattle.atomic_programs.specs.Prog.{Prog, Ret, Do, bind, once, unmarked, Did, Waits, Ran, Stops}
-use Rattle.atomic_programs.specs.Joined.{Act, Lower, Handover, holding}
+use Rattle.atomic_programs.specs.Basics.{Prog, Ret, Do, bind, once, unmarked, Did, Waits, Ran, Stops, Act, Lower, Handover, holding, put, if_held, Dinode}
 use Rattle.atomic_programs.specs.Whole as above
-use Rattle.atomic_programs.specs.Whole.{put, if_held, Dinode}
 
 -- no other hart starts a call
 abbrev pub hart_count : ℕ

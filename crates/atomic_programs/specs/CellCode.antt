@@ -1,9 +1,6 @@
 -- The programs that the example's machines stand for, what its world is as programs, and what it keeps.
 use Rattle.std.specs.Prelude.{◌≡◌, ℕ, zero, suc, Bool, Option, Some, None, List, [], ◌∷◌, nat_lt}
-use Rattle.atomic_programs.specs.Prog.{Prog, bind, once, unmarked, plain}
-use Rattle.atomic_programs.specs.Calls.{Event as EventOf, Start as StartOf, Step as StepOf, Outcome as OutcomeOf, Started as WasStarted, Refused as WasRefused, WasIdle, DidWait, DidRun, DidEnd, DidStop, WasStopped}
-use Rattle.atomic_programs.specs.Plain.{Code, Plain}
-use Rattle.atomic_programs.specs.Machines.{answered}
+use Rattle.atomic_programs.specs.Basics.{Prog, bind, once, unmarked, plain, Event as EventOf, Start as StartOf, Step as StepOf, Outcome as OutcomeOf, Started as WasStarted, Refused as WasRefused, WasIdle, DidWait, DidRun, DidEnd, DidStop, WasStopped, Code, Plain, answered}
 use Rattle.atomic_programs.specs.Tables.{PlaceFits, plain_at, IsKept}
 use Rattle.atomic_programs.specs.Cell as cell
 use Rattle.atomic_programs.specs.Cell.{Cell, Outside, Passes, Fails, opened, stored_and, dropped, exec, may, honest, begin_if, swaps}

@@ -1,8 +1,6 @@
 -- What explains a run: one list of steps, the oldest first.
 use Rattle.std.specs.Prelude.{◌≡◌, ◌⊎◌, ℕ, ◌<◌, ◌≤◌, Bool, true, false, Option, Some, None, nat_eq, if◌then◌else◌, List, [], ◌∷◌, suc, ◌++◌, length}
-use Rattle.atomic_programs.specs.Prog.{Do, asks, OfNext}
-use Rattle.atomic_programs.specs.Logic.{P, oldest_first}
-use Rattle.atomic_programs.specs.Calls.{Theory, IsBeginning, Run, PlacedStep, FinishedCall, State, Event, Start, Step, Outcome, Started, Refused, WasIdle, DidWait, DidRun, DidEnd, DidStop, WasStopped, makes, next, unchanged, IsHonest}
+use Rattle.atomic_programs.specs.Basics.{Do, asks, OfNext, P, oldest_first, Theory, IsBeginning, Run, PlacedStep, FinishedCall, State, Event, Start, Step, Outcome, Started, Refused, WasIdle, DidWait, DidRun, DidEnd, DidStop, WasStopped, makes, next, unchanged, IsHonest}
 
 abbrev pub In : {A : Type 0} → A → List A → Type 0
 In x [] = ⊥

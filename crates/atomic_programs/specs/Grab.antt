@@ -1,13 +1,6 @@
 -- A second example: a block is taken below by two puts, of the bitmap and of the block, and above in one step.
 use Rattle.std.specs.Prelude.{◌≡◌, ◌≢◌, ◌<◌, ℕ, suc, zero, Bool, true, false, if◌then◌else◌, Option, Some, None, []}
-use Rattle.atomic_programs.specs.Prog.{Prog, Ret, Do, once, unmarked, Did, Waits, Ran}
-use Rattle.atomic_programs.specs.Logic.{Machine}
-use Rattle.atomic_programs.specs.Calls.{Theory, Begins}
-use Rattle.atomic_programs.specs.Operations.{Core, all_of, operations_of}
-use Rattle.atomic_programs.specs.Joined.{Act, Lower, Handover, holding, Both}
-use Rattle.atomic_programs.specs.Lowered.{lowered_calls, Part, code_part}
-use Rattle.atomic_programs.specs.Plain.{Code}
-use Rattle.atomic_programs.specs.Whole.{put, if_held}
+use Rattle.atomic_programs.specs.Basics.{Prog, Ret, Do, once, unmarked, Did, Waits, Ran, Machine, Theory, Begins, Core, all_of, operations_of, Act, Lower, Handover, holding, Both, lowered_calls, Part, code_part, Code, put, if_held}
 
 -- above: locks of inodes, and blocks with the inode that has each
 pub record Above : Type 0 where

@@ -1,10 +1,6 @@
 -- Single programs above, and the calls of a theory, that run below as they do above.
 use Rattle.std.specs.Prelude.{◌≡◌, ℕ, Bool, List, Option}
-use Rattle.atomic_programs.specs.Prog.{Ret, Do, Did, Waits, Ran, Stops}
-use Rattle.atomic_programs.specs.Logic.{Machine, P, Wp}
-use Rattle.atomic_programs.specs.Calls.{Theory, Begins}
-use Rattle.atomic_programs.specs.Joined.{Lower, Both, joined, Handlers, lowered, AtEnd, Lasts}
-use Rattle.atomic_programs.specs.Lowered.{Starts}
+use Rattle.atomic_programs.specs.Basics.{Ret, Do, Did, Waits, Ran, Stops, Machine, P, Wp, Theory, Begins, Lower, Both, joined, Handlers, lowered, AtEnd, Lasts, Starts}
 
 -- each operation that the program makes, whatever the ones before it answer, is so, with its mark
 abbrev pub Uses : (U : Machine) → ((op : U.Op) → (U.Answer op → Option U.Mark) → Type 1) → {A : Type 0} → P U A → Type 1

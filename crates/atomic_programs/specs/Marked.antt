@@ -1,11 +1,7 @@
 -- A theory whose operations tell at which answers they are marked: so code knows of a program, once its marks are left out, where they
 -- were.
 use Rattle.std.specs.Prelude.{Bool, is_some}
-use Rattle.atomic_programs.specs.Prog.{Prog, Ret, Do}
-use Rattle.atomic_programs.specs.Logic.{Machine}
-use Rattle.atomic_programs.specs.Joined.{Handlers, Lower}
-use Rattle.atomic_programs.specs.Calls.{Theory}
-use Rattle.atomic_programs.specs.Plain.{Code}
+use Rattle.atomic_programs.specs.Basics.{Prog, Ret, Do, Machine, Handlers, Lower, Theory, Code}
 
 abbrev pub with_marks : Machine → Machine
 with_marks M =

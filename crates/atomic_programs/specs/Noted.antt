@@ -1,12 +1,7 @@
 -- Layers, event by event: the operations below as they run, and among them those above as they act.
 use Rattle.std.specs.Prelude.{◌≡◌, ◌⊎◌, ℕ, List, [], ◌∷◌}
-use Rattle.atomic_programs.specs.Prog.{Ret, Do}
-use Rattle.atomic_programs.specs.Logic.{Machine, P, OpWithAnswer}
-use Rattle.atomic_programs.specs.Calls.{Theory, PlacedStep, Event, AllHonest, outcomes, run, fresh}
+use Rattle.atomic_programs.specs.Basics.{Ret, Do, Machine, P, OpWithAnswer, Theory, PlacedStep, Event, AllHonest, outcomes, run, fresh, Lower, joined, Handlers, Starts, lowered_calls, Core, operations, operations_of}
 use Rattle.atomic_programs.specs.Explained.{history}
-use Rattle.atomic_programs.specs.Joined.{Lower, joined, Handlers}
-use Rattle.atomic_programs.specs.Lowered.{Starts, lowered_calls}
-use Rattle.atomic_programs.specs.Operations.{Core, operations, operations_of}
 
 -- An operation ran, with its answer; or a step was placed.
 pub data Note (E S : Type 0) : Type 0 where

@@ -1,12 +1,7 @@
 -- Calls over the machine of whole inodes, with any history; and the history that is the machine's own operations.
 use Rattle.std.specs.Prelude.{◌≡◌, ℕ, nat_lt, if◌then◌else◌, List, [], ◌∷◌}
-use Rattle.atomic_programs.specs.Prog.{Prog}
-use Rattle.atomic_programs.specs.Calls.{Theory, Refuses, Begins}
-use Rattle.atomic_programs.specs.Logic.{OpWithAnswer}
-use Rattle.atomic_programs.specs.Operations.{Core, Makes, all_of}
-use Rattle.atomic_programs.specs.Lowered.{Starts}
+use Rattle.atomic_programs.specs.Basics.{Prog, Theory, Refuses, Begins, OpWithAnswer, Core, Makes, all_of, Starts, World, Op, Answer, exec, Labels, whole}
 use Rattle.atomic_programs.specs.Blocks.{hart_count, blocks}
-use Rattle.atomic_programs.specs.Whole.{World, Op, Answer, exec, Labels, whole}
 
 -- calls over the machine with these labels
 pub record Calls (l : Labels) : Type 1 where

@@ -1,9 +1,8 @@
 -- What a run of the code comes to.
 use Rattle.std.specs.Prelude.{◌≡◌, List}
-use Rattle.atomic_programs.specs.Calls.{Theory, State, Event, Outcome, AllHonest, all_asked, run, outcomes, fresh}
+use Rattle.atomic_programs.specs.Basics.{Theory, State, Event, Outcome, AllHonest, all_asked, run, outcomes, fresh, Code, Plain, erase, all_by_kind}
 use Rattle.atomic_programs.specs.Explained.{IsExplained, In}
 use Rattle.atomic_programs.specs.Trace.{IsTraced, happened}
-use Rattle.atomic_programs.specs.Plain.{Code, Plain, erase, all_by_kind}
 
 module _ (L : Theory) (C : Code L) where
   -- What was asked of a state with its history came to these outcomes and this state of the code: there are answers from

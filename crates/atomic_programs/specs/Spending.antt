@@ -1,8 +1,6 @@
 -- Programs with a budget: what their operations spend, and a layer below that keeps account of it.
 use Rattle.std.specs.Prelude.{◌≡◌, ℕ, suc, List, Option}
-use Rattle.atomic_programs.specs.Prog.{Ret, Do, Ran, once}
-use Rattle.atomic_programs.specs.Logic.{Machine, P, Wp}
-use Rattle.atomic_programs.specs.Joined.{Lower, Both, joined, Handlers, Below, Lasts}
+use Rattle.atomic_programs.specs.Basics.{Ret, Do, Ran, once, Machine, P, Wp, Lower, Both, joined, Handlers, Below, Lasts}
 
 -- how much has been spent after an operation, and how much may be
 pub record Budget (U : Machine) : Type 1 where

@@ -1,13 +1,6 @@
 -- A call over whole inodes with its history: a record is swapped for another one.
 use Rattle.std.specs.Prelude.{◌≡◌, ◌≢◌, ℕ, Bool, false, Option, Some, None, List, [], ◌∷◌}
-use Rattle.atomic_programs.specs.Prog.{Prog, Ret, Do, unmarked}
-use Rattle.atomic_programs.specs.Calls.{Theory}
-use Rattle.atomic_programs.specs.Lowered.{lowered_calls, code_below}
-use Rattle.atomic_programs.specs.Plain.{Code}
-use Rattle.atomic_programs.specs.Operations.{operations_of}
-use Rattle.atomic_programs.specs.Whole.{put, if_held, Dinode, World, Op, Take, Store, Give, Enter, Exit, Look, Write, Answer, Labels, whole}
-use Rattle.atomic_programs.specs.Logic.{Machine, P}
-use Rattle.atomic_programs.specs.Joined.{Both, joined, lowered}
+use Rattle.atomic_programs.specs.Basics.{Prog, Ret, Do, unmarked, Theory, lowered_calls, code_below, Code, operations_of, put, if_held, Dinode, World, Op, Take, Store, Give, Enter, Exit, Look, Write, Answer, Labels, whole, Machine, P, Both, joined, lowered}
 use Rattle.atomic_programs.specs.Blocks as low
 use Rattle.atomic_programs.specs.Blocks.{IsOut}
 use Rattle.atomic_programs.specs.OfWhole.{Calls, theory, begins_at_once, core}

@@ -1,8 +1,6 @@
 -- A table of machines, a place for each hart, over the state that the code has.
 use Rattle.std.specs.Prelude.{◌≡◌, ℕ, Bool, Option, Some, None, List, length, get_or}
-use Rattle.atomic_programs.specs.Calls.{Theory}
-use Rattle.atomic_programs.specs.Plain.{UnmarkedProgram, Code, Plain, SoundPlain}
-use Rattle.atomic_programs.specs.Machines.{programs_in}
+use Rattle.atomic_programs.specs.Basics.{Theory, UnmarkedProgram, Code, Plain, SoundPlain, programs_in}
 
 -- what a machine's own values keep, of a place of the table
 abbrev pub PlaceFits : {M : Type 0} → (ℕ → M → Type 0) → ℕ → Option M → Type 0

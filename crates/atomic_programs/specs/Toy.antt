@@ -1,8 +1,6 @@
 -- A toy: above, an operation that raises a number by two; below, it is two steps. A call raises it so many times.
 use Rattle.std.specs.Prelude.{ℕ, zero, suc, ◌+◌, [], Some}
-use Rattle.atomic_programs.specs.Prog.{Prog, Ret, Do, Did, Ran, unmarked}
-use Rattle.atomic_programs.specs.Logic.{Machine, P}
-use Rattle.atomic_programs.specs.Joined.{Handlers, Handover, Lower}
+use Rattle.atomic_programs.specs.Basics.{Prog, Ret, Do, Did, Ran, unmarked, Machine, P, Handlers, Handover, Lower}
 use Rattle.atomic_programs.specs.Below as layers
 use Rattle.atomic_programs.specs.declared.toy.Count.{Count}
 use Rattle.atomic_programs.specs.declared.toy.Part.{Part}

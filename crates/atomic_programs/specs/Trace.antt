@@ -1,6 +1,6 @@
 -- What the events of a list came to, and what a state says of them.
 use Rattle.std.specs.Prelude.{◌≡◌, ℕ, Some, List, [], ◌∷◌}
-use Rattle.atomic_programs.specs.Calls.{Theory, Run, FinishedCall, State, Event, Start, Step, Came, Started, DidEnd, makes, next}
+use Rattle.atomic_programs.specs.Basics.{Theory, Run, FinishedCall, State, Event, Start, Step, Came, Started, DidEnd, makes, next}
 use Rattle.atomic_programs.specs.Explained.{In}
 
 -- an event with its number and its outcome

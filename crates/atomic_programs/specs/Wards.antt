@@ -1,13 +1,7 @@
 -- An example of a start that reserves an idle hart for its call: what is in a hart's purse is handed to another hart, below in
 -- two steps. The call has no history; it is explained by its operations.
 use Rattle.std.specs.Prelude.{◌≡◌, ◌≢◌, ℕ, Bool, true, false, nat_eq, Option, Some, None, []}
-use Rattle.atomic_programs.specs.Prog.{Prog, Do, once, unmarked, Did, Ran}
-use Rattle.atomic_programs.specs.Logic.{Machine}
-use Rattle.atomic_programs.specs.Calls.{Theory, Began, Refuses, Begins}
-use Rattle.atomic_programs.specs.Operations.{Core, operations_of}
-use Rattle.atomic_programs.specs.Joined.{Act, Lower, Handover, holding, Both}
-use Rattle.atomic_programs.specs.Lowered.{lowered_calls}
-use Rattle.atomic_programs.specs.Whole.{put, if_held}
+use Rattle.atomic_programs.specs.Basics.{Prog, Do, once, unmarked, Did, Ran, Machine, Theory, Began, Refuses, Begins, Core, operations_of, Act, Lower, Handover, holding, Both, lowered_calls, put, if_held}
 
 -- each hart's purse, and the hart for whose call it is reserved
 pub record World : Type 0 where

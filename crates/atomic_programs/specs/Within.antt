@@ -1,7 +1,6 @@
 -- The swaps and the gifts below, event by event: each operation below that runs, and those above as they act.
-use Rattle.atomic_programs.specs.Calls.{Theory}
+use Rattle.atomic_programs.specs.Basics.{Theory, Dinode, whole}
 use Rattle.atomic_programs.specs.Noted.{Notes, IsWhole, with_notes}
-use Rattle.atomic_programs.specs.Whole.{Dinode, whole}
 use Rattle.atomic_programs.specs.Blocks as low
 use Rattle.atomic_programs.specs.OfWhole.{core}
 use Rattle.atomic_programs.specs.Swap.{Step, Swap, program, labels, swaps_above}

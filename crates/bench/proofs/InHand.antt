@@ -1,19 +1,6 @@
 -- What a get, a read and a giving back make of what the hart has in its hand.
-use Rattle.std.proofs.Common.{◌≡◌, ℕ, zero, suc, ◌+◌, ◌≤◌, Bool, true, false, List, Option, Some, None, refl, sym, ap, ◌∙◌, subst, arith, if◌then◌else◌}
-use Rattle.std.specs.Option.{option_and_then}
-use Rattle.std.specs.List.{find}
-use Rattle.std.specs.Prelude.{Result, Ok, Err, OnOk, OnErr}
-use Rattle.sleep_lock.specs.SleepLock.{GuardState}
-use Rattle.buffer_cache.specs.Buffers.{BufferState}
-use Rattle.buffer_cache.specs.Getting.{get_of, get_by, get_new, guard_of}
-use Rattle.buffer_cache.specs.Lists.{count_of}
-use Rattle.buffer_cache.specs.Seats.{SeatState, given_back, has_block, holder_of, is_free, is_held_by, is_out, seat_of, unused_from, with_content, with_holder, with_seat, IsHeld}
-use Rattle.buffer_cache.specs.declared.got.Got.{Got}
+use Rattle.bench.proofs.Vocabulary.{◌≡◌, ℕ, zero, suc, ◌+◌, ◌≤◌, Bool, true, false, List, Option, Some, None, refl, sym, ap, ◌∙◌, subst, arith, if◌then◌else◌, option_and_then, find, Result, Ok, Err, OnOk, OnErr, GuardState, BufferState, get_of, get_by, get_new, guard_of, count_of, SeatState, given_back, has_block, holder_of, is_free, is_held_by, is_out, seat_of, unused_from, with_content, with_holder, with_seat, IsHeld, Got, held_seat, count_first, IfGot, back_hand, got_hand, HasNone, HasOne, this_hart}
 use Rattle.buffer_cache.specs.declared.got.Got.TheVariants as got
-use Rattle.buffer_cache.proofs.Seated.{held_seat}
-use Rattle.fs_machine.proofs.Owning.{count_first}
-use Rattle.inodes_on_blocks.proofs.Hands.{IfGot, back_hand, got_hand}
-use Rattle.bench.specs.InHand.{HasNone, HasOne, this_hart}
 
 pub none_unused : (n count : ℕ) → HasNone (unused_from n count)
 unfolding unused_from

@@ -1,1 +1,3 @@
+pub mod Lemmas
+pub mod Vocabulary
 mod InHand

@@ -1,9 +1,6 @@
 -- What the hart of the workloads has in its hand.
 use Rattle.std.specs.Prelude.{◌≡◌, ℕ, List}
-use Rattle.sleep_lock.specs.SleepLock.{GuardState}
-use Rattle.buffer_cache.specs.Buffers.{BufferState}
-use Rattle.buffer_cache.specs.Lists.{count_of}
-use Rattle.buffer_cache.specs.Seats.{SeatState, is_held_by}
+use Rattle.bench.specs.Vocabulary.{GuardState, BufferState, count_of, SeatState, is_held_by}
 
 abbrev pub this_hart : ℕ
 this_hart = 1

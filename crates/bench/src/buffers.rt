@@ -1,6 +1,6 @@
 //! Buffers over a disk in memory.
 ghost use Rattle.std.specs.Prelude.{◌≡◌, ◌<◌, IfOk, IfSome, length};
-ghost use Rattle.buffer_cache.specs.Seats.{IsHeld, seen};
+ghost use Rattle.bench.specs.Vocabulary.{IsHeld, seen};
 ghost use Rattle.bench.specs.InHand.{HasNone, HasOne};
 
 use crate::workload::WorkloadError;

@@ -1,10 +1,6 @@
 //! Transactions over a disk in memory.
 ghost use Rattle.std.specs.Prelude.{◌≡◌, ◌≢◌, [], IfOk, IsTrue};
-ghost use Rattle.block_device.specs.Blocks.{blocks_of};
-ghost use Rattle.fs_layout.specs.Recovered.{logged};
-ghost use Rattle.group_log.specs.Group.{HasRoom, IsMember};
-ghost use Rattle.group_log.specs.Soundness.{IsHome, IsPlaced};
-ghost use Rattle.group_log.specs.declared.phase.Phase.TheVariants.{Halted};
+ghost use Rattle.bench.specs.Vocabulary.{blocks_of, logged, HasRoom, IsMember, IsHome, IsPlaced, Halted};
 
 use crate::workload::WorkloadError;
 use block_device::{BLOCK_LEN, Device, MemoryDisk};

@@ -1,7 +1,5 @@
 -- The first number below a limit that passes a test.
-use Rattle.std.proofs.Common.{◌≡◌, ◌≢◌, ℕ, zero, suc, ◌<◌, Bool, true, false, Option, Some, None, if◌then◌else◌, refl, arith, ⊎_elim}
-use Rattle.std.proofs.lemmas.Bool.{cases_eq}
-use Rattle.bitmap_alloc.specs.First.{else_this, first_below}
+use Rattle.bitmap_alloc.proofs.Vocabulary.{◌≡◌, ◌≢◌, ℕ, zero, suc, ◌<◌, Bool, true, false, Option, Some, None, if◌then◌else◌, refl, arith, ⊎_elim, cases_eq, else_this, first_below}
 
 -- none below the limit passes
 pub none_below : (p : ℕ → Bool) (n : ℕ) → ((k : ℕ) → k < n → p k ≡ false) → first_below p n ≡ None

@@ -1,10 +1,5 @@
 -- The first clear bit, by the first byte that isn't full.
-use Rattle.std.proofs.Common.{◌≡◌, ◌≢◌, ℕ, ◌+◌, ◌*◌, ◌/◌, ◌%◌, ◌<◌, ◌≤◌, List, get_or, false, not, Some, None, refl, sym, arith, ⊎_elim}
-use Rattle.std.proofs.lemmas.Nat.Bits.{bit_at_ones}
-use Rattle.std.proofs.lemmas.Bool.{cases_eq}
-use Rattle.std.specs.Int.{bit_at}
-use Rattle.fs_layout.specs.Bits.{bit_of}
-use Rattle.bitmap_alloc.specs.First.{first_clear_below}
+use Rattle.bitmap_alloc.proofs.Vocabulary.{◌≡◌, ◌≢◌, ℕ, ◌+◌, ◌*◌, ◌/◌, ◌%◌, ◌<◌, ◌≤◌, List, get_or, false, not, Some, None, refl, sym, arith, ⊎_elim, bit_at_ones, cases_eq, bit_at, bit_of, first_clear_below}
 use Rattle.bitmap_alloc.proofs.First.{none_below, this_below}
 
 set_bit_is : (bitmap : List ℕ) (k : ℕ) → bit_at (get_or bitmap (k / 8) 0) (k % 8) ≡ 1 → not (bit_of bitmap k) ≡ false

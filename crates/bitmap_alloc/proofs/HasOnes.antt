@@ -1,12 +1,6 @@
 -- Each part has an operation to make.
-use Rattle.fs_machine.proofs.HasOnes.{HasOne, first, fetch_has}
-use Rattle.fs_machine.specs.declared.hand.Hand.{Hand}
-use Rattle.fs_machine.specs.Fetching.{fetch_left}
-use Rattle.bitmap_alloc.specs.FreeingBlocks.{free_left}
-use Rattle.bitmap_alloc.specs.Taking.{take_left}
-use Rattle.bitmap_alloc.specs.declared.free_block.FreeBlock.{FreeBlock}
+use Rattle.bitmap_alloc.proofs.Vocabulary.{HasOne, first, fetch_has, Hand, fetch_left, free_left, take_left, FreeBlock, TakeBlock}
 use Rattle.bitmap_alloc.specs.declared.free_block.FreeBlock.TheVariants as free
-use Rattle.bitmap_alloc.specs.declared.take_block.TakeBlock.{TakeBlock}
 use Rattle.bitmap_alloc.specs.declared.take_block.TakeBlock.TheVariants as take
 
 pub free_has : (m : FreeBlock) (h : Hand) → HasOne (free_left m h)

@@ -1,3 +1,5 @@
+pub mod Lemmas
+pub mod Vocabulary
 pub mod First
 pub mod FirstClear
 pub mod HasOnes

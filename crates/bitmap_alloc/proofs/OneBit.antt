@@ -1,12 +1,5 @@
 -- One bit of a bitmap changed.
-use Rattle.std.proofs.Common.{◌≡◌, ◌≢◌, ℕ, ◌-◌, ◌/◌, ◌%◌, ◌^◌, ◌<◌, get_or, true, false, bit_and, bit_or, arith, eq-eqb, w8}
-use Rattle.std.specs.Int.{bit_at}
-use Rattle.std.proofs.lemmas.Nat.Bits.{bit_at_or, bit_at_and, bit_at_not, bit_at-pow_same, bit_at-pow_other}
-use Rattle.std.proofs.lemmas.Nat.{pow_below}
-use Rattle.std.proofs.lemmas.Bool.{ne_eqb}
-use Rattle.fs_layout.proofs.Bitmaps.{changed_bit}
-use Rattle.bitmap_alloc.specs.Bytes.{with_bit, without_bit}
-use Rattle.bitmap_alloc.specs.Laws.{SetsOneBit, ClearsOneBit}
+use Rattle.bitmap_alloc.proofs.Vocabulary.{◌≡◌, ◌≢◌, ℕ, ◌-◌, ◌/◌, ◌%◌, ◌^◌, ◌<◌, get_or, true, false, bit_and, bit_or, arith, eq-eqb, w8, bit_at, bit_at_or, bit_at_and, bit_at_not, bit_at-pow_same, bit_at-pow_other, pow_below, ne_eqb, changed_bit, with_bit, without_bit, SetsOneBit, ClearsOneBit}
 
 set_there : (old k : ℕ) → bit_at (bit_or old (2 ^ k)) k ≡ 1
 set_there old k = omega (arith, bit_at_or old (2 ^ k) k, bit_at-pow_same k)

@@ -1,15 +1,5 @@
 -- The programs, whatever their operations answer.
-use Rattle.std.proofs.Common.{◌≡◌, ◌+◌, ℕ, List, [], ◌∷◌, Bool, true, false, not, Option, Some, None, refl}
-use Rattle.std.specs.Option.{unwrap_or}
-use Rattle.fs_layout.specs.Bits.{bit_of}
-use Rattle.atomic_programs.specs.Prog.{Do, bind, unmarked}
-use Rattle.fs_machine.specs.Steps.{Get, Read, Put}
-use Rattle.fs_machine.specs.Machines.{P}
-use Rattle.fs_machine.specs.Programs.{fetch, read_unless}
-use Rattle.bitmap_alloc.specs.First.{first_clear_below}
-use Rattle.bitmap_alloc.specs.Bytes.{marked_by, without_bit, zeros}
-use Rattle.bitmap_alloc.specs.Programs.{give_zeros, zero_block, zero_found, take_first, clear_bit}
-use Rattle.bitmap_alloc.specs.Laws.{Oracle, outcome, recorded, fetched, Takes, TakesTheFirst, FreesByTheBitmap}
+use Rattle.bitmap_alloc.proofs.Vocabulary.{◌≡◌, ◌+◌, ℕ, List, [], ◌∷◌, Bool, true, false, not, Option, Some, None, refl, unwrap_or, bit_of, Do, bind, unmarked, Get, Read, Put, P, fetch, read_unless, first_clear_below, marked_by, without_bit, zeros, give_zeros, zero_block, zero_found, take_first, clear_bit, Oracle, outcome, recorded, fetched, Takes, TakesTheFirst, FreesByTheBitmap}
 use Rattle.bitmap_alloc.proofs.First.{FirstIs, first_is}
 
 -- a fetch records nothing, and goes on with the bytes that were fetched

@@ -1,6 +1,6 @@
 -- The bytes of a block that is taken or given back, and of the bitmap that says so.
 use Rattle.std.specs.Prelude.{ℕ, ◌-◌, ◌/◌, ◌%◌, ◌^◌, List, replicate, bit_and, bit_or, Option, Some, None, slice_index, slice_set}
-use Rattle.fs_layout.specs.Widths.{block_len}
+use Rattle.bitmap_alloc.specs.Vocabulary.{block_len}
 
 -- a bitmap with this block's bit set
 unfoldable pub with_bit : ℕ → List ℕ → List ℕ

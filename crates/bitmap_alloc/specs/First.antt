@@ -1,6 +1,6 @@
 -- The first clear bit of a bitmap block.
 use Rattle.std.specs.Prelude.{ℕ, zero, suc, List, Bool, not, Option, Some, None, if◌then◌else◌}
-use Rattle.fs_layout.specs.Bits.{bit_of}
+use Rattle.bitmap_alloc.specs.Vocabulary.{bit_of}
 
 -- what stands, else this number where it passes the test
 abbrev pub else_this : (ℕ → Bool) → ℕ → Option ℕ → Option ℕ

@@ -1,15 +1,9 @@
 -- A block given back.
 use Rattle.std.specs.Prelude.{IsSome}
-use Rattle.std.specs.Option.{MatchOption}
-use Rattle.atomic_programs.specs.Prog.{bind}
-use Rattle.fs_machine.specs.Machines.{P}
+use Rattle.bitmap_alloc.specs.Vocabulary.{MatchOption, bind, P, Hand, Place, buffer_at, block_at, bytes_at, fetch_left, fetch_asked, fetch_block, fetch_place, FetchReady}
 use Rattle.bitmap_alloc.specs.Programs.{clear_bit}
-use Rattle.fs_machine.specs.declared.hand.Hand.{Hand}
-use Rattle.fs_machine.specs.declared.hand.Place.{Place}
 use Rattle.fs_machine.specs.declared.op.Op.{Op}
 use Rattle.fs_machine.specs.declared.op.Op.TheVariants as ops
-use Rattle.fs_machine.specs.Hands.{buffer_at, block_at, bytes_at}
-use Rattle.fs_machine.specs.Fetching.{fetch_left, fetch_asked, fetch_block, fetch_place, FetchReady}
 use Rattle.bitmap_alloc.specs.declared.free_block.FreeBlock.{FreeBlock}
 use Rattle.bitmap_alloc.specs.declared.free_block.FreeBlock.TheVariants.{Bitmap, Unmark}
 

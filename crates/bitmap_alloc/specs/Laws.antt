@@ -1,10 +1,6 @@
 -- What the programs do, whatever their operations answer.
 use Rattle.std.specs.Prelude.{◌≡◌, ◌==◌, ℕ, ◌+◌, ◌*◌, ◌<◌, List, [], ◌∷◌, ◌++◌, length, true, false, Option, Some, None, if◌then◌else◌}
-use Rattle.std.specs.Option.{unwrap_or}
-use Rattle.fs_layout.specs.Bits.{bit_of}
-use Rattle.atomic_programs.specs.Prog.{Ret, Do}
-use Rattle.fs_machine.specs.Steps.{Op, Answer, Get, Read, Put}
-use Rattle.fs_machine.specs.Machines.{P}
+use Rattle.bitmap_alloc.specs.Vocabulary.{unwrap_or, bit_of, Ret, Do, Op, Answer, Get, Read, Put, P}
 use Rattle.bitmap_alloc.specs.Bytes.{with_bit, without_bit, zeros}
 use Rattle.bitmap_alloc.specs.Programs.{take_block, free_block}
 

@@ -1,3 +1,4 @@
+pub mod Vocabulary
 pub mod Bytes
 pub mod First
 pub mod FreeingBlocks

@@ -1,8 +1,6 @@
 -- Blocks taken and given back: programs over what all harts share. Nothing is marked in them.
 use Rattle.std.specs.Prelude.{ℕ, List, Option, Some, None}
-use Rattle.atomic_programs.specs.Prog.{Prog, Ret, Do, bind, unmarked}
-use Rattle.fs_machine.specs.Steps.{Op, Answer, Put}
-use Rattle.fs_machine.specs.Programs.{fetch}
+use Rattle.bitmap_alloc.specs.Vocabulary.{Prog, Ret, Do, bind, unmarked, Op, Answer, Put, fetch}
 use Rattle.bitmap_alloc.specs.First.{first_clear_below}
 use Rattle.bitmap_alloc.specs.Bytes.{marked_by, without_bit, zeros}
 

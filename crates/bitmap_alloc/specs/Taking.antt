@@ -1,18 +1,11 @@
 -- A block taken.
 use Rattle.std.specs.Prelude.{◌≡◌, ◌<◌, ◌≤◌, ℕ, Option, Some, None, IsSome, IfSome}
-use Rattle.std.specs.Option.{MatchOption}
-use Rattle.fs_layout.specs.Widths.{bits_per_block}
-use Rattle.atomic_programs.specs.Prog.{Do, bind, unmarked}
+use Rattle.bitmap_alloc.specs.Vocabulary.{MatchOption, bits_per_block, Do, bind, unmarked, P, Hand, Place, buffer_at, block_at, bytes_at, fetch_left, fetch_asked, fetch_block, fetch_place, FetchReady}
 use Rattle.fs_machine.specs.Steps as steps
-use Rattle.fs_machine.specs.Machines.{P}
 use Rattle.bitmap_alloc.specs.Bytes.{marked_by}
 use Rattle.bitmap_alloc.specs.Programs.{give_zeros, take_first, zero_found}
-use Rattle.fs_machine.specs.declared.hand.Hand.{Hand}
-use Rattle.fs_machine.specs.declared.hand.Place.{Place}
 use Rattle.fs_machine.specs.declared.op.Op.{Op}
 use Rattle.fs_machine.specs.declared.op.Op.TheVariants as ops
-use Rattle.fs_machine.specs.Hands.{buffer_at, block_at, bytes_at}
-use Rattle.fs_machine.specs.Fetching.{fetch_left, fetch_asked, fetch_block, fetch_place, FetchReady}
 use Rattle.bitmap_alloc.specs.declared.take_block.TakeBlock.{TakeBlock}
 use Rattle.bitmap_alloc.specs.declared.take_block.TakeBlock.TheVariants.{Bitmap, Mark, Block, Zero}
 

@@ -1,6 +1,6 @@
 //! The bytes of a bitmap block with a bit changed.
 ghost use Rattle.std.specs.Prelude.{◌≡◌, ◌<◌};
-ghost use Rattle.fs_layout.specs.Widths.{bits_per_block};
+ghost use Rattle.bitmap_alloc.specs.Vocabulary.{bits_per_block};
 ghost use Rattle.bitmap_alloc.specs.Bytes.{with_bit, without_bit};
 
 use fs_layout::widths::{BITS_PER_BLOCK, Block};

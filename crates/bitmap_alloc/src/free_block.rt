@@ -1,13 +1,8 @@
 //! A block given back.
 ghost use Rattle.std.specs.Prelude.{◌≡◌, ℕ, None, IsSome, IfSome, IfNone};
-ghost use Rattle.std.specs.Option.{MatchOption};
-ghost use Rattle.fs_machine.specs.Tied.{bytes_of};
+ghost use Rattle.bitmap_alloc.specs.Vocabulary.{MatchOption, bytes_of, buffer_at, bytes_at, with_buffer, with_bytes, with_content, IsAfter, answer_in, Goes, left_after, bare, Hand as HandState};
 ghost use Rattle.bitmap_alloc.specs.Bytes.{without_bit};
 ghost use Rattle.bitmap_alloc.specs.Programs.{free_block};
-ghost use Rattle.fs_machine.specs.Hands.{buffer_at, bytes_at, with_buffer, with_bytes, with_content};
-ghost use Rattle.fs_machine.specs.Ops.{IsAfter, answer_in};
-ghost use Rattle.fs_machine.specs.Controls.{Goes, left_after, bare};
-ghost use Rattle.fs_machine.specs.declared.hand.Hand.{Hand as HandState};
 ghost use Rattle.bitmap_alloc.specs.FreeingBlocks.{free_left, free_asked, free_place, FreeReady};
 
 use crate::bits::clear;

@@ -1,12 +1,8 @@
 // What a block's buffer has, as a bitmap.
 ghost use Rattle.std.specs.Prelude.{◌≡◌, ◌<◌, Some, IsSome, ◌≤◌, IfSome, None};
-ghost use Rattle.std.specs.Option.{MatchOption};
-ghost use Rattle.fs_machine.specs.Tied.{bytes_of};
-ghost use Rattle.fs_machine.specs.Hands.{buffer_at, bytes_at, with_bytes, with_content};
+ghost use Rattle.bitmap_alloc.specs.Vocabulary.{MatchOption, bytes_of, buffer_at, bytes_at, with_bytes, with_content, bits_per_block, First};
 ghost use Rattle.bitmap_alloc.specs.Bytes.{with_bit, zeros};
 ghost use Rattle.bitmap_alloc.specs.First.{first_clear_below};
-ghost use Rattle.fs_layout.specs.Widths.{bits_per_block};
-ghost use Rattle.fs_machine.specs.declared.hand.Place.TheVariants.{First};
 
 use crate::bits::set;
 use crate::search::first_clear;

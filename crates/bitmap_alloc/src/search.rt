@@ -1,6 +1,6 @@
 //! The search of a bitmap block.
 ghost use Rattle.std.specs.Prelude.{◌≡◌, ◌≢◌, ◌<◌, ◌≤◌, ℕ, IfSome, slice_index};
-ghost use Rattle.std.specs.Int.{bit_at};
+ghost use Rattle.bitmap_alloc.specs.Vocabulary.{bit_at};
 ghost use Rattle.bitmap_alloc.specs.First.{first_clear_below};
 
 use fs_layout::widths::{BITS_PER_BLOCK, BLOCK_LEN, Block};

@@ -1,11 +1,7 @@
 //! A block taken.
 ghost use Rattle.std.specs.Prelude.{◌≡◌, ◌≤◌, ℕ, Option, None, IsSome, IfSome, IfNone};
-ghost use Rattle.fs_layout.specs.Widths.{bits_per_block};
+ghost use Rattle.bitmap_alloc.specs.Vocabulary.{bits_per_block, buffer_at, with_buffer, IsAfter, answer_in, Goes, left_after, bare, Hand as HandState};
 ghost use Rattle.bitmap_alloc.specs.Programs.{take_block};
-ghost use Rattle.fs_machine.specs.Hands.{buffer_at, with_buffer};
-ghost use Rattle.fs_machine.specs.Ops.{IsAfter, answer_in};
-ghost use Rattle.fs_machine.specs.Controls.{Goes, left_after, bare};
-ghost use Rattle.fs_machine.specs.declared.hand.Hand.{Hand as HandState};
 ghost use Rattle.bitmap_alloc.specs.Taking.{take_left, take_asked, take_place, TakeReady};
 
 use crate::place::{clear_at, set_at, zero_at};

@@ -1,13 +1,5 @@
 -- What a change of one seat does to each block's seat.
-use Rattle.std.proofs.Common.{◌≡◌, ◌≢◌, inl, inr, ℕ, ◌+◌, ◌≤◌, List, [], ◌∷◌, ◌++◌, Bool, true, false, cond, not, ◌&&◌, ◌==◌, refl, sym, ◌∙◌, ap, subst, arith, Option, Some, None, is_none, if◌then◌else◌}
-use Rattle.std.specs.Option.{option_map, option_and_then, unwrap_or}
-use Rattle.std.proofs.lemmas.Bool.{cases_eq}
-use Rattle.std.proofs.lemmas.Bool.Decides.{nat_tests}
-use Rattle.std.proofs.lemmas.Option.{same_Some, none-some}
-use Rattle.std.specs.List.{find}
-use Rattle.block_device.specs.Blocks.{block_at}
-use Rattle.buffer_cache.specs.Lists.{change_first, count_of}
-use Rattle.buffer_cache.specs.Seats.{SeatState, is_number, has_block, is_free, seat_of, kept, seen_in, with_seat, given_back, without_holder, as_new, AllClean, IsCleanSeat}
+use Rattle.buffer_cache.proofs.Vocabulary.{◌≡◌, ◌≢◌, inl, inr, ℕ, ◌+◌, ◌≤◌, List, [], ◌∷◌, ◌++◌, Bool, true, false, cond, not, ◌&&◌, ◌==◌, refl, sym, ◌∙◌, ap, subst, arith, Option, Some, None, is_none, if◌then◌else◌, option_map, option_and_then, unwrap_or, cases_eq, nat_tests, same_Some, none-some, find, block_at, change_first, count_of, SeatState, is_number, has_block, is_free, seat_of, kept, seen_in, with_seat, given_back, without_holder, as_new, AllClean, IsCleanSeat}
 use Rattle.buffer_cache.proofs.Firsts.{pick, none_first}
 
 pub equal : (i n : ℕ) → (i == n) ≡ true → i ≡ n

@@ -1,17 +1,5 @@
 -- The chains of the buffers.
-use Rattle.std.proofs.Common.{◌≡◌, inl, inr, ℕ, zero, suc, ◌+◌, ◌-◌, ◌%◌, ◌<◌, ◌≤◌, List, [], ◌∷◌, ◌++◌, length, length-set, get_or, set, map, Bool, true, false, cond, refl, sym, ◌∙◌, ap, subst, arith, ◌==◌, if◌then◌else◌, nat_lt, Option, Some, None}
-use Rattle.std.specs.List.{position, range_with_len}
-use Rattle.std.proofs.lemmas.Bool.{cases_lt}
-use Rattle.std.proofs.lemmas.Bool.Decides.{nat_tests}
-use Rattle.std.proofs.lemmas.List.{get_or-set_same, get_or-set_other, map-set}
-use Rattle.std.proofs.Math.ListN.{get_or-map}
-use Rattle.std.proofs.Math.Seq.{map-set_same}
-use Rattle.buffer_cache.specs.Lists.{change_first, count_of}
-use Rattle.buffer_cache.specs.Order.{is_same, numbered}
-use Rattle.buffer_cache.specs.Seats.{SeatState, has_block, seat_of, with_holder, without_holder, unused, unused_from}
-use Rattle.buffer_cache.specs.Links.{IsPath, follow, IsRing, head_of, block_in, head_behind, AreGrouped, IsChained}
-use Rattle.buffer_cache.specs.Getting.{get_of}
-use Rattle.buffer_cache.specs.declared.got.Got.{Got}
+use Rattle.buffer_cache.proofs.Vocabulary.{◌≡◌, inl, inr, ℕ, zero, suc, ◌+◌, ◌-◌, ◌%◌, ◌<◌, ◌≤◌, List, [], ◌∷◌, ◌++◌, length, length-set, get_or, set, map, Bool, true, false, cond, refl, sym, ◌∙◌, ap, subst, arith, ◌==◌, if◌then◌else◌, nat_lt, Option, Some, None, position, range_with_len, cases_lt, nat_tests, get_or-set_same, get_or-set_other, map-set, get_or-map, map-set_same, change_first, count_of, is_same, numbered, SeatState, has_block, seat_of, with_holder, without_holder, unused, unused_from, IsPath, follow, IsRing, head_of, block_in, head_behind, AreGrouped, IsChained, get_of, Got}
 use Rattle.buffer_cache.proofs.Firsts.{pick, position_some, first_passes, length-change_first}
 use Rattle.buffer_cache.proofs.Blocks.{is_block}
 use Rattle.buffer_cache.proofs.Seated.{get_out, get_in}

@@ -1,11 +1,5 @@
 -- Forty-six buffers are enough.
-use Rattle.std.proofs.Common.{◌≡◌, inl, inr, ℕ, zero, suc, ◌+◌, ◌*◌, ◌<◌, ◌≤◌, List, [], ◌∷◌, length, Bool, true, false, cond, not, ◌&&◌, ◌==◌, refl, sym, ◌∙◌, ap, subst, arith, Option, Some, None, IsSome, is_some, is_none, if◌then◌else◌}
-use Rattle.std.proofs.lemmas.Bool.{cases_eq}
-use Rattle.std.proofs.lemmas.Bool.Decides.{nat_tests}
-use Rattle.std.proofs.lemmas.Option.{none-some}
-use Rattle.std.specs.List.{find}
-use Rattle.buffer_cache.specs.Lists.{count_of}
-use Rattle.buffer_cache.specs.Seats.{SeatState, is_number, is_held_by, is_out, is_pinned, is_free, IsBelow, HoldersBelow}
+use Rattle.buffer_cache.proofs.Vocabulary.{◌≡◌, inl, inr, ℕ, zero, suc, ◌+◌, ◌*◌, ◌<◌, ◌≤◌, List, [], ◌∷◌, length, Bool, true, false, cond, not, ◌&&◌, ◌==◌, refl, sym, ◌∙◌, ap, subst, arith, Option, Some, None, IsSome, is_some, is_none, if◌then◌else◌, cases_eq, nat_tests, none-some, find, count_of, SeatState, is_number, is_held_by, is_out, is_pinned, is_free, IsBelow, HoldersBelow}
 
 -- where none is free each is pinned or out
 none_free : (ss : List SeatState) → find is_free ss ≡ None → length ss ≤ count_of is_pinned ss + count_of is_out ss

@@ -1,9 +1,5 @@
 -- The first of a list that passes a test: where it stands, and what changing it does to counts.
-use Rattle.std.proofs.Common.{◌≡◌, ℕ, zero, suc, ◌+◌, ◌<◌, ◌≤◌, List, [], ◌∷◌, ◌++◌, length, get_or, set, Bool, true, false, cond, not, refl, sym, ◌∙◌, ap, subst, arith, Option, Some, None, IsSome, is_some, if◌then◌else◌, nat_lt}
-use Rattle.std.proofs.lemmas.Bool.Decides.{nat_tests}
-use Rattle.std.specs.List.{position, position_or_len, count_by, find}
-use Rattle.std.proofs.lemmas.List.Recursion.{is_count_by}
-use Rattle.buffer_cache.specs.Lists.{change_first, change_to_end, count_of}
+use Rattle.buffer_cache.proofs.Vocabulary.{◌≡◌, ℕ, zero, suc, ◌+◌, ◌<◌, ◌≤◌, List, [], ◌∷◌, ◌++◌, length, get_or, set, Bool, true, false, cond, not, refl, sym, ◌∙◌, ap, subst, arith, Option, Some, None, IsSome, is_some, if◌then◌else◌, nat_lt, nat_tests, position, position_or_len, count_by, find, is_count_by, change_first, change_to_end, count_of}
 
 pub pick : (t : Bool) (P : Bool → Type 0) → (t ≡ true → P true) → (t ≡ false → P false) → P t
 pick true P yes_ no_ = yes_ refl

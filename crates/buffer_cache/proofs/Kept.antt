@@ -1,18 +1,5 @@
 -- What is kept of the buffers, as it is seen.
-use Rattle.std.proofs.Common.{◌≡◌, ℕ, ◌<◌, ◌≤◌, List, length, set, Bool, refl, sym, ◌∙◌, ap, subst, arith, Option, Some, None, IsSome}
-use Rattle.std.specs.Option.{MatchOption, option_map, option_and_then}
-use Rattle.std.specs.List.{position, find}
-use Rattle.std.proofs.lemmas.Option.{same_Some, none-some}
-use Rattle.sleep_lock.specs.SleepLock.{GuardState}
-use Rattle.sleep_lock.specs.Row.{unlocked}
-use Rattle.buffer_cache.specs.Buffers.{BufferState}
-use Rattle.buffer_cache.specs.Lists.{change_to_end, count_of}
-use Rattle.buffer_cache.specs.Seats.{SeatState, unused, has_block, is_free, seat_of, slot_of, kept, with_holder, without_holder, with_content, with_pin, as_new, with_seat, given_back, unused_from, IsHeld, IsGuardOf}
-use Rattle.buffer_cache.specs.Rows.{has_number, IsSeated}
-use Rattle.buffer_cache.specs.Order.{numbered, in_order, numbers, is_same, IsOrdered, IsKept}
-use Rattle.buffer_cache.specs.Getting.{get_of, guard_of}
-use Rattle.buffer_cache.specs.declared.got.Got.{Got}
-use Rattle.buffer_cache.specs.declared.got.Got.TheVariants.{Held}
+use Rattle.buffer_cache.proofs.Vocabulary.{◌≡◌, ℕ, ◌<◌, ◌≤◌, List, length, set, Bool, refl, sym, ◌∙◌, ap, subst, arith, Option, Some, None, IsSome, MatchOption, option_map, option_and_then, position, find, same_Some, none-some, GuardState, unlocked, BufferState, change_to_end, count_of, SeatState, unused, has_block, is_free, seat_of, slot_of, kept, with_holder, without_holder, with_content, with_pin, as_new, with_seat, given_back, unused_from, IsHeld, IsGuardOf, has_number, IsSeated, numbered, in_order, numbers, is_same, IsOrdered, IsKept, get_of, guard_of, Got, Held}
 use Rattle.buffer_cache.proofs.Firsts.{position_some, place_change, no_place, first_counted, first_passes, none_counted}
 use Rattle.buffer_cache.proofs.Blocks.{is_block}
 use Rattle.buffer_cache.proofs.Seated.{Row, same_number, seated_at, slot_within, get_out, get_in, get_free, held_seat, held_cached, seated_filled, seated_pinned, seated_given_back}

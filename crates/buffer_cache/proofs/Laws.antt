@@ -1,21 +1,5 @@
 -- What each call keeps, in the words of its contract.
-use Rattle.std.proofs.Common.{◌∷◌, is_some, cond, ◌≡◌, ◌≢◌, ◌⊎◌, inl, inr, ℕ, ◌<◌, ◌≤◌, List, [], length, Bool, true, false, ◌==◌, refl, sym, ◌∙◌, ap, subst, arith, Option, Some, None, IsSome, is_none, not, ◌&&◌, if◌then◌else◌}
-use Rattle.std.specs.Prelude.{slice_set, ◌↔◌, IfSome, Result, Ok, Err, OnOk, OnErr}
-use Rattle.std.specs.Option.{MatchOption, option_map, option_and_then, unwrap_or}
-use Rattle.std.proofs.lemmas.Bool.{cases_eq}
-use Rattle.std.proofs.lemmas.Bool.Decides.{nat_tests}
-use Rattle.std.proofs.lemmas.Option.{same_Some, none-some}
-use Rattle.std.specs.List.{find}
-use Rattle.sleep_lock.specs.SleepLock.{GuardState}
-use Rattle.sleep_lock.proofs.Locks.{IfSome_each}
-use Rattle.block_device.specs.Blocks.{block_at}
-use Rattle.block_device.specs.BlockLaws.{block_at-set_same}
-use Rattle.buffer_cache.specs.Buffers.{BufferState}
-use Rattle.buffer_cache.specs.Lists.{change_first, count_of}
-use Rattle.buffer_cache.specs.Seats.{is_any, is_unused, is_settled, UnusedFirst, is_number, SeatState, has_block, without_holder, Passes, Keeps, IsPinned, IsRecorded, is_recorded, is_held_by, is_pinned, is_free, seat_of, holder_of, kept, seen_in, with_seat, given_back, with_holder, with_content, with_pin, as_new, IsGuardOf, IsHeld, KeepsHeld, KeepsOthers, IsSound}
-use Rattle.buffer_cache.specs.Getting.{get_of, get_by, get_new, guard_of, IfHeld}
-use Rattle.buffer_cache.specs.declared.got.Got.{Got}
-use Rattle.buffer_cache.specs.declared.got.Got.TheVariants.{Held, Waits}
+use Rattle.buffer_cache.proofs.Vocabulary.{◌∷◌, is_some, cond, ◌≡◌, ◌≢◌, ◌⊎◌, inl, inr, ℕ, ◌<◌, ◌≤◌, List, [], length, Bool, true, false, ◌==◌, refl, sym, ◌∙◌, ap, subst, arith, Option, Some, None, IsSome, is_none, not, ◌&&◌, if◌then◌else◌, slice_set, ◌↔◌, IfSome, Result, Ok, Err, OnOk, OnErr, MatchOption, option_map, option_and_then, unwrap_or, cases_eq, nat_tests, same_Some, none-some, find, GuardState, IfSome_each, block_at, block_at-set_same, BufferState, change_first, count_of, is_any, is_unused, is_settled, UnusedFirst, is_number, SeatState, has_block, without_holder, Passes, Keeps, IsPinned, IsRecorded, is_recorded, is_held_by, is_pinned, is_free, seat_of, holder_of, kept, seen_in, with_seat, given_back, with_holder, with_content, with_pin, as_new, IsGuardOf, IsHeld, KeepsHeld, KeepsOthers, IsSound, get_of, get_by, get_new, guard_of, IfHeld, Got, Held, Waits}
 use Rattle.buffer_cache.proofs.Firsts.{pick}
 use Rattle.buffer_cache.proofs.Seated.{held_seat, held_unread}
 use Rattle.buffer_cache.proofs.Blocks.{seat_back_here, seat_with_other, seat_with_here, seat_back_other, seat_new_here, seat_new_other, new_seen, kept_with, kept_back}

@@ -1,3 +1,5 @@
+pub mod Lemmas
+pub mod Vocabulary
 pub mod Firsts
 pub mod Seated
 pub mod Made

@@ -1,12 +1,5 @@
 -- Buffers that are made.
-use Rattle.std.proofs.Common.{◌≡◌, ℕ, zero, suc, ◌+◌, ◌<◌, ◌≤◌, List, [], ◌∷◌, ◌++◌, length, ◌==◌, Bool, true, false, cond, refl, sym, ◌∙◌, ap, subst, arith, None}
-use Rattle.std.specs.Prelude.{slice_get}
-use Rattle.std.proofs.lemmas.Bool.Decides.{nat_tests}
-use Rattle.sleep_lock.specs.Row.{row_of}
-use Rattle.buffer_cache.specs.Buffers.{BufferState}
-use Rattle.buffer_cache.specs.Lists.{count_of}
-use Rattle.buffer_cache.specs.Seats.{SeatState, unused, unused_from}
-use Rattle.buffer_cache.specs.Rows.{has_number, SlotFits, AllSeated, IsSeated}
+use Rattle.buffer_cache.proofs.Vocabulary.{◌≡◌, ℕ, zero, suc, ◌+◌, ◌<◌, ◌≤◌, List, [], ◌∷◌, ◌++◌, length, ◌==◌, Bool, true, false, cond, refl, sym, ◌∙◌, ap, subst, arith, None, slice_get, nat_tests, row_of, BufferState, count_of, SeatState, unused, unused_from, has_number, SlotFits, AllSeated, IsSeated}
 use Rattle.buffer_cache.proofs.Firsts.{pick}
 
 -- buffers that aren't valid

@@ -1,10 +1,5 @@
 -- A number of the order moved to its end.
-use Rattle.std.proofs.Common.{◌≡◌, ℕ, suc, ◌+◌, ◌<◌, ◌≤◌, List, [], ◌∷◌, ◌++◌, length, get_or, set, Bool, cond, sym, ◌∙◌, ap, subst, arith, if◌then◌else◌, ◌==◌}
-use Rattle.std.specs.List.{range_with_len}
-use Rattle.std.proofs.lemmas.List.{append_assoc}
-use Rattle.buffer_cache.specs.Lists.{change_to_end, count_of}
-use Rattle.buffer_cache.specs.Order.{is_same}
-use Rattle.buffer_cache.specs.Links.{first_or, IsPath, follow, IsRing}
+use Rattle.buffer_cache.proofs.Vocabulary.{◌≡◌, ℕ, suc, ◌+◌, ◌<◌, ◌≤◌, List, [], ◌∷◌, ◌++◌, length, get_or, set, Bool, cond, sym, ◌∙◌, ap, subst, arith, if◌then◌else◌, ◌==◌, range_with_len, append_assoc, change_to_end, count_of, is_same, first_or, IsPath, follow, IsRing}
 use Rattle.buffer_cache.proofs.Firsts.{pick}
 use Rattle.buffer_cache.proofs.Seated.{same_number}
 use Rattle.buffer_cache.proofs.Ordered.{range_apart}

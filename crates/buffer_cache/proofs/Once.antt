@@ -1,9 +1,6 @@
 -- A list of which at most one passes a test: where that stands.
-use Rattle.std.proofs.Common.{◌≡◌, ℕ, zero, suc, ◌+◌, ◌<◌, ◌≤◌, List, [], ◌∷◌, length, Bool, true, false, cond, not, ◌∙◌, ap, arith, Some, None, nat_lt}
-use Rattle.std.specs.List.{position, position_or_len, slice_get}
-use Rattle.std.proofs.lemmas.Bool.Decides.{nat_tests}
-use Rattle.std.proofs.lemmas.Option.{slice_get_within, same_Some, none-some}
-use Rattle.buffer_cache.specs.Lists.{count_of}
+use Rattle.buffer_cache.proofs.Vocabulary.{◌≡◌, ℕ, zero, suc, ◌+◌, ◌<◌, ◌≤◌, List, [], ◌∷◌, length, Bool, true, false, cond, not, ◌∙◌, ap, arith, Some, None, nat_lt, position, position_or_len, nat_tests, slice_get_within, same_Some, none-some, count_of}
+use Rattle.std.specs.List.{slice_get}
 use Rattle.buffer_cache.proofs.Firsts.{pick}
 
 -- what passes is counted

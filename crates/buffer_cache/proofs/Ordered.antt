@@ -1,16 +1,6 @@
 -- The seats in their places, and in the order of giving back.
-use Rattle.std.proofs.Common.{◌≡◌, ◌≢◌, ℕ, zero, suc, ◌+◌, ◌<◌, ◌≤◌, List, [], ◌∷◌, ◌++◌, length, get_or, set, map, Bool, true, false, cond, refl, sym, ◌∙◌, ap, subst, arith, Option, Some, None, IsSome, if◌then◌else◌, ◌==◌, inl, inr}
-use Rattle.std.specs.Prelude.{slice_get, option_map}
-use Rattle.std.specs.List.{position, find, range_with_len}
-use Rattle.std.proofs.lemmas.Bool.{cases_lt}
-use Rattle.std.proofs.lemmas.Bool.Decides.{nat_tests}
-use Rattle.std.proofs.lemmas.List.{get_or-set_same, get_or-set_other, get_or_past, get_or_default, length-map}
-use Rattle.std.proofs.Math.Seq.{map-set_same}
-use Rattle.std.proofs.lemmas.List.FromFn.{length-range_with_len, get_or-range_with_len}
-use Rattle.std.proofs.lemmas.Option.{slice_get_read, slice_get_within, slice_get-map, get_or_from_slice_get, same_Some}
-use Rattle.buffer_cache.specs.Lists.{change_first, change_to_end, count_of}
-use Rattle.buffer_cache.specs.Seats.{SeatState, unused, unused_from}
-use Rattle.buffer_cache.specs.Order.{numbered, in_order, numbers, is_same, IsOrdered}
+use Rattle.buffer_cache.proofs.Vocabulary.{◌≡◌, ◌≢◌, ℕ, zero, suc, ◌+◌, ◌<◌, ◌≤◌, List, [], ◌∷◌, ◌++◌, length, get_or, set, map, Bool, true, false, cond, refl, sym, ◌∙◌, ap, subst, arith, Option, Some, None, IsSome, if◌then◌else◌, ◌==◌, inl, inr, slice_get, position, find, range_with_len, cases_lt, nat_tests, get_or-set_same, get_or-set_other, get_or_past, get_or_default, length-map, map-set_same, length-range_with_len, get_or-range_with_len, slice_get_read, slice_get_within, slice_get-map, get_or_from_slice_get, same_Some, change_first, change_to_end, count_of, SeatState, unused, unused_from, numbered, in_order, numbers, is_same, IsOrdered}
+use Rattle.std.specs.Prelude.{option_map}
 use Rattle.buffer_cache.proofs.Firsts.{pick, position_some, place_first, place_change, no_place, first_passes, first_counted, none_counted, none_first, count_push}
 use Rattle.buffer_cache.proofs.Once.{counted_at}
 use Rattle.buffer_cache.proofs.Seated.{same_number}

@@ -1,13 +1,5 @@
 -- Rings of linked numbers: one is taken out, and put in behind another.
-use Rattle.std.proofs.Common.{◌≡◌, ◌≢◌, ℕ, zero, suc, ◌+◌, ◌<◌, ◌≤◌, List, [], ◌∷◌, ◌++◌, length, length-set, get_or, set, Bool, true, cond, refl, sym, ◌∙◌, ap, subst, arith, ◌==◌, inl, inr, Some}
-use Rattle.std.specs.List.{range_with_len}
-use Rattle.std.proofs.lemmas.Bool.{cases_lt}
-use Rattle.std.proofs.lemmas.Bool.Decides.{nat_tests}
-use Rattle.std.proofs.lemmas.List.{get_or-set_same, get_or-set_other}
-use Rattle.std.proofs.lemmas.List.FromFn.{length-range_with_len}
-use Rattle.buffer_cache.specs.Lists.{count_of}
-use Rattle.buffer_cache.specs.Order.{is_same}
-use Rattle.buffer_cache.specs.Links.{first_or, IsPath, follow, IsRing}
+use Rattle.buffer_cache.proofs.Vocabulary.{◌≡◌, ◌≢◌, ℕ, zero, suc, ◌+◌, ◌<◌, ◌≤◌, List, [], ◌∷◌, ◌++◌, length, length-set, get_or, set, Bool, true, cond, refl, sym, ◌∙◌, ap, subst, arith, ◌==◌, inl, inr, Some, range_with_len, cases_lt, nat_tests, get_or-set_same, get_or-set_other, length-range_with_len, count_of, is_same, first_or, IsPath, follow, IsRing}
 use Rattle.buffer_cache.proofs.Firsts.{pick}
 use Rattle.buffer_cache.proofs.Once.{counted_at}
 use Rattle.buffer_cache.proofs.Seated.{same_number}

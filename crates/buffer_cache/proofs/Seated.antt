@@ -1,21 +1,5 @@
 -- How the slots go on with their seats.
-use Rattle.std.proofs.Common.{◌≡◌, ◌≢◌, ℕ, zero, suc, ◌+◌, ◌<◌, ◌≤◌, List, [], ◌∷◌, length, get_or, set, Bool, true, false, cond, not, ◌&&◌, refl, sym, ◌∙◌, ap, subst, arith, Option, Some, None, IsSome, is_some, is_none, if◌then◌else◌, ◌==◌}
-use Rattle.std.specs.Prelude.{slice_get, slice_set, Result, Ok, Err, OnOk, OnErr}
-use Rattle.std.specs.Option.{MatchOption}
-use Rattle.std.specs.List.{position, find}
-use Rattle.std.proofs.lemmas.Bool.Decides.{nat_tests}
-use Rattle.std.proofs.lemmas.List.{set-get_or}
-use Rattle.std.proofs.lemmas.Option.{slice_get_within, get_or_from_slice_get, same_Some, none-some}
-use Rattle.sleep_lock.specs.SleepLock.{SlotState, GuardState, filled}
-use Rattle.sleep_lock.specs.Row.{lock_at, lock_of, unlocked, IsOut}
-use Rattle.sleep_lock.proofs.Lists.{set_same, slice_get-set_same, slice_get-set_other}
-use Rattle.buffer_cache.specs.Buffers.{BufferState}
-use Rattle.buffer_cache.specs.Lists.{change_first, count_of}
-use Rattle.buffer_cache.specs.Seats.{SeatState, has_block, is_free, seat_of, kept, with_holder, without_holder, with_content, with_pin, as_new, with_seat, IsHeld, IsGuardOf}
-use Rattle.buffer_cache.specs.Rows.{has_number, InsideFits, SlotFits, AllSeated, IsSeated}
-use Rattle.buffer_cache.specs.Getting.{get_of, get_by, get_new, guard_of}
-use Rattle.buffer_cache.specs.declared.got.Got.{Got}
-use Rattle.buffer_cache.specs.declared.got.Got.TheVariants.{Held, Waits}
+use Rattle.buffer_cache.proofs.Vocabulary.{◌≡◌, ◌≢◌, ℕ, zero, suc, ◌+◌, ◌<◌, ◌≤◌, List, [], ◌∷◌, length, get_or, set, Bool, true, false, cond, not, ◌&&◌, refl, sym, ◌∙◌, ap, subst, arith, Option, Some, None, IsSome, is_some, is_none, if◌then◌else◌, ◌==◌, slice_get, slice_set, Result, Ok, Err, OnOk, OnErr, MatchOption, position, find, nat_tests, set-get_or, slice_get_within, get_or_from_slice_get, same_Some, none-some, SlotState, GuardState, filled, lock_at, lock_of, unlocked, IsOut, set_same, slice_get-set_same, slice_get-set_other, BufferState, change_first, count_of, SeatState, has_block, is_free, seat_of, kept, with_holder, without_holder, with_content, with_pin, as_new, with_seat, IsHeld, IsGuardOf, has_number, InsideFits, SlotFits, AllSeated, IsSeated, get_of, get_by, get_new, guard_of, Got, Held, Waits}
 use Rattle.buffer_cache.proofs.Once.{once_at}
 use Rattle.buffer_cache.proofs.Firsts.{pick, place_first, place_change, first_counted, count_same}
 

@@ -1,14 +1,5 @@
 -- What each call keeps of a sound cache, and of what is seen.
-use Rattle.std.proofs.Common.{IsSome, is_none, is_some, ◌&&◌, ◌≡◌, ◌≢◌, ◌⊎◌, inl, inr, ℕ, zero, suc, ◌+◌, ◌<◌, ◌≤◌, List, [], ◌∷◌, ◌++◌, length, Bool, true, false, cond, ◌==◌, refl, sym, ◌∙◌, ap, subst, arith, Option, Some, None, if◌then◌else◌}
-use Rattle.std.specs.Prelude.{slice_set, IfSome}
-use Rattle.std.specs.Option.{option_map, option_and_then, unwrap_or}
-use Rattle.std.proofs.lemmas.Bool.{cases_eq}
-use Rattle.std.proofs.lemmas.Option.{same_Some, none-some}
-use Rattle.std.specs.List.{find}
-use Rattle.block_device.specs.Blocks.{block_at}
-use Rattle.block_device.specs.BlockLaws.{block_at-set_same, block_at-set_other}
-use Rattle.buffer_cache.specs.Lists.{change_first, count_of}
-use Rattle.buffer_cache.specs.Seats.{is_unused, is_settled, UnusedFirst, SeatState, is_number, has_block, is_held_by, is_pinned, is_free, seat_of, kept, seen_in, with_seat, given_back, with_holder, without_holder, with_content, with_pin, as_new, unused_from, unused, AllClean, IsCleanSeat, IsBelow, HoldersBelow, IsSound}
+use Rattle.buffer_cache.proofs.Vocabulary.{IsSome, is_none, is_some, ◌&&◌, ◌≡◌, ◌≢◌, ◌⊎◌, inl, inr, ℕ, zero, suc, ◌+◌, ◌<◌, ◌≤◌, List, [], ◌∷◌, ◌++◌, length, Bool, true, false, cond, ◌==◌, refl, sym, ◌∙◌, ap, subst, arith, Option, Some, None, if◌then◌else◌, slice_set, IfSome, option_map, option_and_then, unwrap_or, cases_eq, same_Some, none-some, find, block_at, block_at-set_same, block_at-set_other, change_first, count_of, is_unused, is_settled, UnusedFirst, SeatState, is_number, has_block, is_held_by, is_pinned, is_free, seat_of, kept, seen_in, with_seat, given_back, with_holder, without_holder, with_content, with_pin, as_new, unused_from, unused, AllClean, IsCleanSeat, IsBelow, HoldersBelow, IsSound}
 use Rattle.buffer_cache.proofs.Firsts.{count_push, pick, none_counted, count_same, count_more, count_to_end, length-change_first, length-change_to_end}
 use Rattle.buffer_cache.proofs.Blocks.{equal, equals, seat_has, is_block}
 

@@ -1,9 +1,5 @@
 -- Going along links.
-use Rattle.std.proofs.Common.{◌≡◌, ℕ, zero, suc, ◌+◌, ◌-◌, ◌<◌, ◌≤◌, List, get_or, Bool, true, false, cond, sym, ◌∙◌, ap, subst, arith, Option, Some, None}
-use Rattle.std.specs.List.{find}
-use Rattle.buffer_cache.specs.Lists.{count_of}
-use Rattle.buffer_cache.specs.Order.{is_same}
-use Rattle.buffer_cache.specs.Links.{follow, IsRing}
+use Rattle.buffer_cache.proofs.Vocabulary.{◌≡◌, ℕ, zero, suc, ◌+◌, ◌-◌, ◌<◌, ◌≤◌, List, get_or, Bool, true, false, cond, sym, ◌∙◌, ap, subst, arith, Option, Some, None, find, count_of, is_same, follow, IsRing}
 use Rattle.buffer_cache.proofs.Rings.{count_here, ring_within}
 
 -- the first that passes is among so many that are left

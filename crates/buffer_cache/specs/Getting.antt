@@ -1,7 +1,6 @@
 -- What a get answers, and what it leaves.
 use Rattle.std.specs.Prelude.{ℕ, List, if◌then◌else◌, Option, Some, None}
-use Rattle.std.specs.List.{find}
-use Rattle.sleep_lock.specs.SleepLock.{GuardState}
+use Rattle.buffer_cache.specs.Vocabulary.{find, GuardState}
 use Rattle.buffer_cache.specs.Buffers.{BufferState}
 use Rattle.buffer_cache.specs.Lists.{change_first}
 use Rattle.buffer_cache.specs.Seats.{SeatState, seat_of, is_free, is_out, with_holder, as_new, with_seat}

@@ -1,5 +1,5 @@
 use Rattle.std.specs.Prelude.{ℕ, List, Some}
-use Rattle.std.specs.Borrow.{Lends, MutBor, Fml, Array, u8}
+use Rattle.buffer_cache.specs.Vocabulary.{Lends, MutBor, Fml, Array, u8}
 use Rattle.buffer_cache.specs.Buffers.{BufferState}
 use Rattle.buffer_cache.specs.contracts.buffer.Buffer.{the_row}
 

@@ -1,6 +1,6 @@
 -- Numbers that are linked: each has the number behind it, and the one before it.
 use Rattle.std.specs.Prelude.{◌≡◌, ℕ, zero, suc, ◌+◌, ◌%◌, ◌<◌, List, [], ◌∷◌, length, map, Bool, if◌then◌else◌, nat_lt, slice_index, slice_index_or, Option, Some, None}
-use Rattle.std.specs.List.{range_with_len}
+use Rattle.buffer_cache.specs.Vocabulary.{range_with_len}
 use Rattle.buffer_cache.specs.Limits.{buffer_count}
 use Rattle.buffer_cache.specs.Lists.{count_of}
 use Rattle.buffer_cache.specs.Seats.{SeatState}

@@ -1,7 +1,6 @@
 -- The order of giving back, as the numbers of the buffers.
 use Rattle.std.specs.Prelude.{◌≡◌, ℕ, List, Bool, ◌==◌, map, slice_index_or}
-use Rattle.std.specs.List.{range_with_len}
-use Rattle.sleep_lock.specs.SleepLock.{SlotState}
+use Rattle.buffer_cache.specs.Vocabulary.{range_with_len, SlotState}
 use Rattle.buffer_cache.specs.Buffers.{BufferState}
 use Rattle.buffer_cache.specs.Limits.{buffer_count}
 use Rattle.buffer_cache.specs.Lists.{count_of}

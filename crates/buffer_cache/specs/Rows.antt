@@ -1,6 +1,6 @@
 -- How the slots of the buffers go with their seats.
 use Rattle.std.specs.Prelude.{◌≡◌, ℕ, ◌≤◌, List, [], ◌∷◌, Bool, ◌==◌, Option, Some, None, slice_get}
-use Rattle.sleep_lock.specs.SleepLock.{SlotState}
+use Rattle.buffer_cache.specs.Vocabulary.{SlotState}
 use Rattle.buffer_cache.specs.Buffers.{BufferState}
 use Rattle.buffer_cache.specs.Lists.{count_of}
 use Rattle.buffer_cache.specs.Seats.{SeatState}

@@ -1,9 +1,6 @@
 -- The buffers of a cache, in order of giving back: the first was given back least recently.
 use Rattle.std.specs.Prelude.{◌≡◌, ◌≢◌, ℕ, zero, suc, ◌+◌, ◌<◌, ◌≤◌, List, [], ◌∷◌, length, Bool, true, false, not, ◌&&◌, ◌==◌, Option, Some, None, is_some, is_none}
-use Rattle.std.specs.Option.{MatchOption, option_map, option_and_then, unwrap_or}
-use Rattle.std.specs.List.{find}
-use Rattle.sleep_lock.specs.SleepLock.{GuardState}
-use Rattle.block_device.specs.Blocks.{block_at}
+use Rattle.buffer_cache.specs.Vocabulary.{MatchOption, option_map, option_and_then, unwrap_or, find, GuardState, block_at}
 use Rattle.buffer_cache.specs.Buffers.{BufferState}
 use Rattle.buffer_cache.specs.Limits.{buffer_count, most_pinned, hart_count, buffers_of_a_hart}
 use Rattle.buffer_cache.specs.Lists.{change_first, change_to_end, count_of}

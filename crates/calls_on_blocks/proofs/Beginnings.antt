@@ -1,33 +1,8 @@
 -- A stop leaves the tree after a beginning of the history.
-use Rattle.std.proofs.Common.{◌≡◌, inl, inr, ℕ, ◌+◌, ◌≤◌, false, List, [], ◌∷◌, ◌++◌, length, sym, subst, arith, append_assoc}
-use Rattle.std.proofs.lemmas.List.{append-nil}
-use Rattle.plain_tree.specs.declared.call.Call.{Call}
-use Rattle.plain_tree.specs.declared.trace.Placed.{Placed}
-use Rattle.plain_tree.specs.Explains.{Chain, IsNamedPart, Rises, Shown}
-use Rattle.plain_tree.specs.Tree.{Tree, tree_of}
-use Rattle.plain_tree.specs.TreeData.{TreeData}
-use Rattle.image_tree.specs.Trees.{tree_in}
-use Rattle.inodes_on_blocks.specs.Seen.{IsRecoveredSo}
+use Rattle.calls_on_blocks.proofs.Vocabulary.{◌≡◌, inl, inr, ℕ, ◌+◌, ◌≤◌, false, List, [], ◌∷◌, ◌++◌, length, sym, subst, arith, append_assoc, append-nil, Call, Placed, Chain, IsNamedPart, Rises, Shown, Tree, tree_of, TreeData, tree_in, IsRecoveredSo, Told, Turn, climbing, IsStartBy, Starts, Steps, Nothing, NeverClimbs, IsHart, MayStart, Apart, apart_alone, apart_calm, Marks, AgreeOutside, joined, seen_of, RisesBy, no_marks, beginning, Theory, Event, State, AllHonest, makes, next, run, Sound, sound_run, Outside, MoveMachine, IsMoving, NoneClimbs, Alone, StartsBy, climbs_at, shown_by, shows, Turns, clean_before, IsMountable, block_moves, first, RunsOn, marks_after, marks_next, log_at, LeavesABeginning, StopsLeaveABeginning, OneHartLeavesABeginning}
 use Rattle.tree_laws.specs.WellFormed as trees
-use Rattle.tree_laws.specs.Runs.{World as Told, Event as Turn, climbing, IsStartBy}
-use Rattle.tree_laws.specs.Runs.Event.{Starts, Steps, Nothing}
-use Rattle.tree_laws.proofs.History.{NeverClimbs, IsHart, MayStart, Apart, apart_alone, apart_calm}
-use Rattle.group_log.specs.declared.marks.Marks.{Marks}
-use Rattle.group_log.specs.CrashLaw.{Blocks, AgreeOutside}
-use Rattle.group_log.specs.Group.{joined}
-use Rattle.group_log.specs.Moves.{seen_of}
-use Rattle.group_log.specs.Stories.{RisesBy, no_marks}
-use Rattle.group_log.proofs.Stories.{beginning}
-use Rattle.atomic_programs.specs.Calls.{Theory, Event, State, AllHonest, makes, next, run, Sound}
-use Rattle.atomic_programs.proofs.Reached.{sound_run}
-use Rattle.fs_machine.specs.LogPart.{Outside}
-use Rattle.inode_machine.specs.MoveCalls.{MoveMachine, IsMoving, NoneClimbs, Alone, StartsBy, climbs_at, shown_by, shows}
-use Rattle.inode_machine.proofs.MoveCalls.{Turns, clean_before}
-use Rattle.inodes_on_blocks.specs.Mounted.{IsMountable}
-use Rattle.calls_on_blocks.specs.History.{block_moves, first, RunsOn}
+use Rattle.group_log.specs.CrashLaw.{Blocks}
 use Rattle.calls_on_blocks.proofs.History.{moving, runs_from}
-use Rattle.calls_on_blocks.specs.Marks.{marks_after, marks_next, log_at}
-use Rattle.calls_on_blocks.specs.Stops.{LeavesABeginning, StopsLeaveABeginning, OneHartLeavesABeginning}
 use Rattle.calls_on_blocks.proofs.Moves.{itself, log_in}
 use Rattle.calls_on_blocks.proofs.Events.{next_now}
 use Rattle.calls_on_blocks.proofs.Following.{Followed, followed_on, event_of}

@@ -1,15 +1,7 @@
 -- Programs below do beside the children as they do without: who has a lender stays the child of that one's call.
-use Rattle.std.proofs.Common.{ℕ, List, [], ◌∷◌, Option, suc}
-use Rattle.fs_layout.specs.declared.superblock.Super.{Super}
-use Rattle.atomic_programs.specs.Prog.{Ret, Do, Did, Waits, Ran, Stops, did_in}
-use Rattle.atomic_programs.specs.Logic.{P, onto, Goes, placed_with, Good, Wp}
-use Rattle.atomic_programs.specs.Joined.{LowerLaws, ActOf, Both, joined, both, Handlers, Below}
-use Rattle.atomic_programs.specs.Spending.{Budget, AtomicWithin}
-use Rattle.inode_machine.specs.Rules.{machine}
+use Rattle.calls_on_blocks.proofs.Vocabulary.{ℕ, List, [], ◌∷◌, Option, suc, Super, Ret, Do, Did, Waits, Ran, Stops, did_in, PartOf as P, onto, Goes, placed_with, Good, Wp, LowerLaws, ActOf, Both, both, Handlers, Below, Budget, AtomicWithin, machine, Blocks, exec_blocks, below, World, Reserves, layer}
+use Rattle.atomic_programs.specs.Joined.{joined}
 use Rattle.inode_machine.specs.World as above
-use Rattle.inodes_on_blocks.specs.Below.{World as Blocks, exec as exec_blocks}
-use Rattle.inodes_on_blocks.specs.Lowering.{below}
-use Rattle.calls_on_blocks.specs.Layer.{World, Reserves, layer}
 use Rattle.calls_on_blocks.proofs.Lenders.{acts_reserve}
 
 module _ (sizes : Super) where

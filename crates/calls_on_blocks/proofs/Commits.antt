@@ -1,40 +1,10 @@
 -- Whose commit is under way, event by event.
-use Rattle.std.proofs.Common.{◌≡◌, ◌⊎◌, inl, inr, ℕ, Bool, true, false, List, Option, Some, None, length, refl, sym, ap, ◌∙◌, slice_set}
-use Rattle.fs_layout.specs.declared.superblock.Super.{Super}
-use Rattle.plain_tree.specs.declared.answer.Reply.{Reply}
-use Rattle.plain_tree.specs.declared.call.Call.{Call}
-use Rattle.plain_tree.specs.Tree.{put}
-use Rattle.group_log.specs.declared.log.Left.{Left}
-use Rattle.group_log.specs.declared.log.Left.TheVariants.{Free, Commits}
-use Rattle.group_log.specs.declared.marks.Marks.{Marks}
-use Rattle.group_log.specs.declared.phase.Phase.{Phase}
-use Rattle.group_log.specs.declared.phase.Phase.TheVariants.{Open, Staging, Installing, Halted}
-use Rattle.group_log.specs.Group.{joined}
-use Rattle.group_log.specs.Moves.{is_settled}
-use Rattle.group_log.specs.Phases.{group_in, next_phase, phase_at_leave}
-use Rattle.group_log.specs.Waiting.{left_at}
-use Rattle.group_log.proofs.Steps.{open_of}
-use Rattle.atomic_programs.specs.Prog.{Ret, Do, Did, Waits, Ran, Stops, did_in, asks, OfNext}
-use Rattle.atomic_programs.specs.Logic.{P}
-use Rattle.atomic_programs.specs.Calls.{Theory, Began, Refuses, Begins, Event, Start, Step, Run, State as StateOf, busy_in, begun, hart_of, moved, next, start_run, step_prog, step_run, step_unless, tried, Sound}
-use Rattle.atomic_programs.specs.Joined.{ActOf, Both, both}
-use Rattle.atomic_programs.specs.Lowered.{began_to}
-use Rattle.atomic_programs.proofs.Explains.{may_make, sound_keeps}
-use Rattle.atomic_programs.proofs.Lowered.{begun_both}
-use Rattle.fs_machine.specs.LogPart.{Outside, Passes, Fails, commit_if, is_open, written}
-use Rattle.fs_machine.specs.Steps.{State, Op, Answer, Join, JoinToWrite, Leave, Get, Read, Put, Commit, Lock, LockFile, LockOpen, Unlock, Settle, Up, Claim, Down, CheckFile, TakePlace, TakeDescriptor, Double, Close, Give, Reply as AnswerIt, exec, in_log}
-use Rattle.fs_machine.specs.Premises.{May}
-use Rattle.fs_machine.specs.Whole.{IsWholeLog}
-use Rattle.group_log.specs.Turns.{seats_after, turn_is_out}
+use Rattle.calls_on_blocks.proofs.Vocabulary.{◌≡◌, ◌⊎◌, inl, inr, ℕ, Bool, true, false, List, Option, Some, None, length, refl, sym, ap, ◌∙◌, slice_set, Super, Reply, Call, put, Left, Free, Commits, Marks, Phase, Open, Staging, Installing, Halted, joined, is_settled, group_in, next_phase, phase_at_leave, left_at, open_of, Ret, Do, Did, Waits, Ran, Stops, did_in, asks, OfNext, PartOf as P, Theory, Began, Refuses, Begins, Event, Start, Step, Run, State as StateOf, busy_in, begun, hart_of, moved, next, start_run, step_prog, step_run, step_unless, tried, Sound, ActOf, Both, both, began_to, may_make, sound_keeps, begun_both, Outside, Passes, Fails, commit_if, is_open, written, Op, Answer, JoinToWrite, Get, Read, Put, Commit, Lock, LockFile, LockOpen, Unlock, Up, Claim, Down, CheckFile, TakePlace, TakeDescriptor, Double, Close, AnswerIt, exec, in_log, May, IsWholeLog, seats_after, turn_is_out, machine, commits_after, World, shared_of, served_calls, child_of, begins, block_calls, marks_by, marks_asked, marks_unless, marks_next, log_at}
+use Rattle.fs_machine.specs.Steps.{State, Join, Leave, Settle, Give}
 use Rattle.inode_machine.specs.World as above
-use Rattle.inode_machine.specs.Rules.{machine}
 use Rattle.inodes_on_blocks.specs.Below as below
-use Rattle.inodes_on_blocks.specs.Below.{commits_after}
-use Rattle.calls_on_blocks.specs.Layer.{World, shared_of}
-use Rattle.calls_on_blocks.specs.Theory.{served_calls, child_of, begins, block_calls}
 use Rattle.calls_on_blocks.proofs.Lawful.{lawful}
 use Rattle.calls_on_blocks.proofs.Starting.{begun_here}
-use Rattle.calls_on_blocks.specs.Marks.{marks_by, marks_asked, marks_unless, marks_next, log_at}
 use Rattle.calls_on_blocks.proofs.Events.{both_at, moved_world, none_marks}
 
 settled_open : (p : Phase) → is_open p ≡ true → is_settled p ≡ true

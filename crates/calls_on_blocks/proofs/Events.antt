@@ -1,34 +1,10 @@
 -- What each event makes of the log and of the marks.
-use Rattle.std.proofs.Common.{◌≡◌, ◌⊎◌, inl, inr, ℕ, suc, ◌+◌, Bool, true, false, List, Option, Some, None, length, refl, sym, subst, ap, ◌∙◌, arith}
-use Rattle.fs_layout.specs.declared.superblock.Super.{Super}
-use Rattle.plain_tree.specs.declared.answer.Reply.{Reply}
-use Rattle.plain_tree.specs.declared.call.Call.{Call}
-use Rattle.plain_tree.specs.Tree.{put}
-use Rattle.group_log.specs.declared.commit.Progress.{Progress}
-use Rattle.group_log.specs.declared.log.Left.{Left}
-use Rattle.group_log.specs.declared.marks.Marks.{Marks}
-use Rattle.group_log.specs.Moves.{is_running, IsCommitMove, begins_at}
-use Rattle.group_log.specs.Stories.{after_leave, after_write}
-use Rattle.group_log.proofs.Moving.{never}
-use Rattle.atomic_programs.specs.Prog.{Ret, Do, Did, Waits, Ran, Stops, did_in, asks, OfNext}
-use Rattle.atomic_programs.specs.Logic.{P}
-use Rattle.atomic_programs.specs.Calls.{Theory, Began, Refuses, Begins, Event, Start, Step, Run, State, HonestStep, IsHonest, busy_in, begun, moved, next, start_run, step_prog, step_run, step_unless, tried, Sound}
-use Rattle.atomic_programs.specs.Joined.{Both, both, seen_after, ActOf}
-use Rattle.atomic_programs.proofs.Explains.{may_make, sound_keeps}
-use Rattle.fs_machine.specs.LogPart.{LogPart, Outside}
+use Rattle.calls_on_blocks.proofs.Vocabulary.{◌≡◌, ◌⊎◌, inl, inr, ℕ, suc, ◌+◌, Bool, true, false, List, Option, Some, None, length, refl, sym, subst, ap, ◌∙◌, arith, Super, Reply, Call, put, Progress, Left, Marks, is_running, IsCommitMove, begins_at, after_leave, after_write, never, Ret, Do, Did, Waits, Ran, Stops, did_in, asks, OfNext, PartOf as P, Theory, Began, Refuses, Begins, Event, Start, Step, Run, State, HonestStep, IsHonest, busy_in, begun, moved, next, start_run, step_prog, step_run, step_unless, tried, Sound, Both, both, seen_after, ActOf, may_make, sound_keeps, LogPart, Outside, IsWholeLog, After, keeps_whole, machine, World, shared_of, served_calls, child_of, begins, block_calls, began_to, begun_both, marks_by, marks_asked, marks_unless, marks_next, marks_told, at_point, log_at as log_of}
 use Rattle.fs_machine.specs.Steps as steps
-use Rattle.fs_machine.specs.Whole.{IsWholeLog, After}
-use Rattle.fs_machine.proofs.Keeping.{keeps_whole}
 use Rattle.inode_machine.specs.World as above
-use Rattle.inode_machine.specs.Rules.{machine}
 use Rattle.inodes_on_blocks.specs.Below as below
-use Rattle.calls_on_blocks.specs.Layer.{World, shared_of}
-use Rattle.calls_on_blocks.specs.Theory.{served_calls, child_of, begins, block_calls}
 use Rattle.calls_on_blocks.proofs.Lawful.{lawful}
 use Rattle.calls_on_blocks.proofs.Starting.{begun_here}
-use Rattle.atomic_programs.specs.Lowered.{began_to}
-use Rattle.atomic_programs.proofs.Lowered.{begun_both}
-use Rattle.calls_on_blocks.specs.Marks.{marks_by, marks_asked, marks_unless, marks_next, marks_told, at_point, log_at as log_of}
 use Rattle.calls_on_blocks.proofs.Moves.{itself, log_in, told_same, Goes, Moved, came_to, is_ran, op_goes, same_move}
 
 module _ (sizes : Super) where

@@ -1,25 +1,6 @@
 -- What recovery would make of the disk, event by event, beside any book that is kept of the events.
-use Rattle.std.proofs.Common.{◌≡◌, inl, inr, ℕ, ◌+◌, ◌≤◌, Bool, true, false, List, [], ◌∷◌, ◌++◌, Some, None, length, refl, sym, subst, ◌∙◌, arith}
-use Rattle.std.specs.List.{AllByRecursion}
-use Rattle.fs_layout.specs.declared.superblock.Super.{Super}
-use Rattle.plain_tree.specs.declared.call.Call.{Call}
-use Rattle.plain_tree.specs.declared.trace.Placed.{Placed}
-use Rattle.group_log.specs.declared.commit.Progress.{Progress}
-use Rattle.group_log.specs.declared.commit.Progress.TheVariants.{Waits, Wrote, Ended, Failed}
-use Rattle.group_log.specs.declared.log.Left.{Left}
-use Rattle.group_log.specs.declared.log.Left.TheVariants.{Free, Commits}
-use Rattle.group_log.specs.declared.marks.Marks.{Marks}
-use Rattle.group_log.specs.CrashLaw.{Blocks, AgreeOutside}
-use Rattle.group_log.specs.Group.{joined}
-use Rattle.group_log.specs.Moves.{seen_of}
-use Rattle.group_log.specs.Stories.{IsKept, after_leave, after_write}
-use Rattle.group_log.proofs.Stories.{kept_plain, kept_leave, kept_write}
-use Rattle.atomic_programs.specs.Calls.{Theory, Event, State, IsHonest, next, Sound}
-use Rattle.atomic_programs.proofs.Reached.{sound_run}
-use Rattle.fs_machine.specs.LogPart.{Outside}
-use Rattle.fs_machine.specs.Whole.{IsWholeLog}
-use Rattle.calls_on_blocks.specs.Theory.{block_calls}
-use Rattle.calls_on_blocks.specs.Marks.{marks_next, at_point, log_at}
+use Rattle.calls_on_blocks.proofs.Vocabulary.{◌≡◌, inl, inr, ℕ, ◌+◌, ◌≤◌, Bool, true, false, List, [], ◌∷◌, ◌++◌, Some, None, length, refl, sym, subst, ◌∙◌, arith, AllByRecursion, Super, Call, Placed, Progress, WaitsFor as Waits, Wrote, Ended, Failed, Left, Free, Commits, Marks, AgreeOutside, joined, seen_of, IsKept, after_leave, after_write, kept_plain, kept_leave, kept_write, Theory, Event, State, IsHonest, next, Sound, sound_run, Outside, IsWholeLog, block_calls, marks_next, at_point, log_at}
+use Rattle.group_log.specs.CrashLaw.{Blocks}
 use Rattle.calls_on_blocks.proofs.Moves.{itself, log_in}
 use Rattle.calls_on_blocks.proofs.Events.{EventGoes, event_goes}
 

@@ -1,17 +1,5 @@
 -- A log's head as recovery's checks see it.
-use Rattle.std.proofs.Common.{◌≡◌, ◌≢◌, ◌⊎◌, inl, inr, ℕ, ◌<◌, ◌≤◌, List, [], length, get_or, Option, refl, sym, ◌∙◌, ap, subst, arith}
-use Rattle.std.specs.List.{All, AllPairs}
-use Rattle.std.proofs.lemmas.List.{get_or_default}
-use Rattle.fs_layout.specs.declared.superblock.Super.{Super}
-use Rattle.fs_layout.specs.Recovered.{sizes_of, logged}
-use Rattle.buffer_cache.specs.Seats.{SeatState}
-use Rattle.group_log.specs.declared.phase.Phase.{Phase}
-use Rattle.group_log.specs.declared.phase.Phase.TheVariants.{Open, Staging, Installing, Halted}
-use Rattle.group_log.specs.Soundness.{IsHome, IsSoundLog, limit_of}
-use Rattle.image_tree.specs.Checks.{IsGoodSuper, HasGoodLog}
-use Rattle.image_tree.specs.Damage.{UpToLog}
-use Rattle.image_tree.proofs.Layouts.{length-logged}
-use Rattle.calls_on_blocks.specs.Heads.{LogsLeaveGoodHeads, LogsMayBegin}
+use Rattle.calls_on_blocks.proofs.Vocabulary.{◌≡◌, ◌≢◌, ◌⊎◌, inl, inr, ℕ, ◌<◌, ◌≤◌, List, [], length, get_or, Option, refl, sym, ◌∙◌, ap, subst, arith, All, AllPairs, get_or_default, Super, sizes_of, logged, SeatState, Phase, Open, Staging, Installing, Halted, IsHome, IsSoundLog, limit_of, IsGoodSuper, HasGoodLog, UpToLog, length-logged, LogsLeaveGoodHeads, LogsMayBegin}
 
 module _ (d : List (List ℕ)) (ss : List SeatState) (sizes : Super) (ks : List ℕ) (ms : List (Option ℕ)) (p : Phase) (sound : IsSoundLog d ss sizes ks ms p) (good : IsGoodSuper sizes) where
   named : (q : Phase) → q ≡ p → (logged d ≡ []) ⊎ (logged d ≡ ks)

@@ -1,24 +1,7 @@
 -- The history of a run beside its log: a stop leaves the tree after a beginning of it.
-use Rattle.std.proofs.Common.{◌≡◌, ℕ, suc, ◌+◌, List, [], ◌∷◌, ◌++◌, map, refl, sym, ◌∙◌, ap, subst, arith}
-use Rattle.std.specs.List.{AllByRecursion}
-use Rattle.plain_tree.specs.declared.call.Call.{Call}
-use Rattle.plain_tree.specs.declared.trace.Placed.{Placed}
-use Rattle.plain_tree.specs.declared.trace.Trace.{Trace}
-use Rattle.plain_tree.specs.Explains.{Shown, Chain, Explains, Rises, noted, trace_of}
-use Rattle.plain_tree.specs.Explains.Shown.{Started, Replied, Other}
-use Rattle.plain_tree.specs.TreeData.{TreeData}
-use Rattle.plain_tree.specs.Tree.{Tree, tree_of}
+use Rattle.calls_on_blocks.proofs.Vocabulary.{◌≡◌, ℕ, suc, ◌+◌, List, [], ◌∷◌, ◌++◌, map, refl, sym, ◌∙◌, ap, subst, arith, AllByRecursion, Call, Placed, Trace, Shown, Chain, Explains, Rises, trace_of, Started, Replied, Other, TreeData, Tree, tree_of, Stage, Told, Turn, Happens, Goings, opened, shown_of, runs_more, runs_none, runs_one, AllBelow, AllFrom, run_grew, run_below, AllMayStart, MayStart, Apart, happens_trace, opened_ok, run_explained, run_ok, Theory, Event, State, IsHonest, fresh, makes, next, Sound, sound_keeps, MoveMachine, IsMoving, shown_by, theory_of, Beside, Turns, event_turns}
+use Rattle.plain_tree.specs.Explains.{noted}
 use Rattle.tree_laws.specs.WellFormed.{IsWellFormed}
-use Rattle.tree_laws.specs.Moves.{Stage}
-use Rattle.tree_laws.specs.Runs.{World as Told, Event as Turn, Happens, Runs as Goings, opened, shown_of}
-use Rattle.tree_laws.proofs.Appended.{runs_more, runs_none, runs_one}
-use Rattle.tree_laws.proofs.Book.{AllBelow}
-use Rattle.tree_laws.proofs.Cut.{AllFrom, run_grew, run_below}
-use Rattle.tree_laws.proofs.History.{AllMayStart, MayStart, Apart, happens_trace, opened_ok, run_explained, run_ok}
-use Rattle.atomic_programs.specs.Calls.{Theory, Event, State, IsHonest, fresh, makes, next, Sound}
-use Rattle.atomic_programs.proofs.Explains.{sound_keeps}
-use Rattle.inode_machine.specs.MoveCalls.{MoveMachine, IsMoving, shown_by, theory_of}
-use Rattle.inode_machine.proofs.MoveCalls.{Beside, Turns, event_turns}
 use Rattle.calls_on_blocks.proofs.Following.{event_of}
 
 -- ---- entries of an event

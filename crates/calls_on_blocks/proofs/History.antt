@@ -1,36 +1,7 @@
 -- Runs on a mounted disk as one list of tree steps.
-use Rattle.std.proofs.Common.{◌≡◌, ◌⊎◌, inl, ◌<◌, ℕ, Bool, List, [], ◌∷◌, Option, Some, None, refl, ◌∙◌, ap, subst}
-use Rattle.fs_layout.specs.declared.superblock.Super.{Super}
-use Rattle.fs_layout.specs.Recovered.{sizes_of}
-use Rattle.plain_tree.specs.declared.call.Call.{Call}
-use Rattle.std.proofs.lemmas.Option.{none-some}
-use Rattle.plain_tree.specs.Tree.{Tree, put}
-use Rattle.plain_tree.specs.Widths.{hart_count}
-use Rattle.image_tree.specs.Trees.{tree_in}
+use Rattle.calls_on_blocks.proofs.Vocabulary.{◌≡◌, ◌⊎◌, inl, ◌<◌, ℕ, Bool, List, [], ◌∷◌, Option, Some, None, refl, ◌∙◌, ap, subst, Super, sizes_of, Call, none-some, Tree, put, hart_count, tree_in, settled_well, MoveStep, Did, Waits, Ran, Stops, placed_with, Began, Refuses, Begins, Event, ActOf, Both, act_places, placed_at, began_to, begun_both, Outside, stage_of, go, IsMoving, RunsFrom, machine, Refusal, places_one, moves_history, moves_alone, start_is, ShowsItsTree, first_world, mounts_show_their_trees, block_moves, first, RunsOn, MountsHaveOneHistory, OneHartHasOneHistory, World, shared_of, serves, served_calls, child_of, begins as begins_below, block_calls}
 use Rattle.tree_laws.specs.WellFormed.{IsWellFormed}
-use Rattle.tree_laws.proofs.Nodes.{settled_well}
-use Rattle.tree_laws.specs.Moves.{Step as MoveStep}
-use Rattle.atomic_programs.specs.Prog.{Did, Waits, Ran, Stops}
-use Rattle.atomic_programs.specs.Logic.{placed_with}
-use Rattle.atomic_programs.specs.Calls.{Began, Refuses, Begins, Event}
-use Rattle.atomic_programs.specs.Joined.{ActOf, Both, act_places, placed_at}
-use Rattle.atomic_programs.specs.Lowered.{began_to}
-use Rattle.atomic_programs.proofs.Lowered.{begun_both}
-use Rattle.fs_machine.specs.LogPart.{Outside}
 use Rattle.inode_machine.specs.World as above
-use Rattle.inode_machine.specs.World.{stage_of}
-use Rattle.inode_machine.specs.Marks.{go}
-use Rattle.inode_machine.specs.MoveCalls.{IsMoving, RunsFrom}
-use Rattle.inode_machine.specs.Rules.{machine}
-use Rattle.inode_machine.specs.Theory.{Refusal}
-use Rattle.inode_machine.proofs.Histories.{places_one}
-use Rattle.inode_machine.proofs.MoveCalls.{moves_history, moves_alone}
-use Rattle.inode_machine.proofs.Starts.{start_is}
-use Rattle.inodes_on_blocks.specs.Mounted.{ShowsItsTree, first_world}
-use Rattle.inodes_on_blocks.proofs.Mounted.{mounts_show_their_trees}
-use Rattle.calls_on_blocks.specs.History.{block_moves, first, RunsOn, MountsHaveOneHistory, OneHartHasOneHistory}
-use Rattle.calls_on_blocks.specs.Layer.{World, shared_of}
-use Rattle.calls_on_blocks.specs.Theory.{serves, served_calls, child_of, begins as begins_below, block_calls}
 use Rattle.calls_on_blocks.proofs.Lawful.{lawful}
 use Rattle.calls_on_blocks.proofs.Starting.{begun_here, below_count}
 

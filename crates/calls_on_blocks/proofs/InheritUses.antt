@@ -1,16 +1,6 @@
 -- The operations of inherit: each acts at one moment below.
-use Rattle.std.proofs.Common.{◌<◌, ℕ, zero, suc, ◌+◌, true, false}
-use Rattle.fs_layout.specs.declared.superblock.Super.{Super}
-use Rattle.plain_tree.specs.declared.answer.Reply.{Reply}
+use Rattle.calls_on_blocks.proofs.Vocabulary.{◌<◌, ℕ, zero, suc, ◌+◌, true, false, Super, Reply, hart_count, descriptor_count, Uses, Ret, Do, unmarked, inherit_end, inherit_program, lend_from, lend_on, lends, lent_directory, P, done, machine, LoanResult, Lent, Moved, Leave, Release}
 use Rattle.plain_tree.specs.declared.call.Call.TheVariants as calls
-use Rattle.plain_tree.specs.Widths.{hart_count, descriptor_count}
-use Rattle.atomic_programs.specs.Lifting.{Uses}
-use Rattle.atomic_programs.specs.Prog.{Ret, Do, unmarked}
-use Rattle.inode_machine.specs.Moving.{inherit_end, inherit_program, lend_from, lend_on, lends, lent_directory}
-use Rattle.inode_machine.specs.Parts.{P, done}
-use Rattle.inode_machine.specs.Rules.{machine}
-use Rattle.inode_machine.specs.World.{LoanResult, Lent, Moved}
-use Rattle.inode_machine.specs.World.Op.{Leave, Release}
 use Rattle.calls_on_blocks.proofs.Operations as ops
 use Rattle.calls_on_blocks.proofs.Operations.{Within}
 use Rattle.calls_on_blocks.proofs.PathUses.{drop_uses}

@@ -1,60 +1,10 @@
 -- The calls that are served are right below.
-use Rattle.std.proofs.Common.{◌≡◌, ◌<◌, ℕ, Bool, true, false, not, nat_lt, List, length, if◌then◌else◌, Option, Some, None, refl, ◌∙◌, subst, arith, []}
-use Rattle.fs_layout.specs.declared.superblock.Super.{Super}
+use Rattle.calls_on_blocks.proofs.Vocabulary.{◌≡◌, ◌<◌, ℕ, Bool, true, false, not, nat_lt, List, length, if◌then◌else◌, Option, Some, None, refl, ◌∙◌, subst, arith, [], Super, Descriptors, Call, creates, elements, put, hart_count, and_true, Do, Did, Waits, Ran, Stops, did_in, unmarked, Began, Begun, Ends, Lawful, Safe, IsCode, began_in, Both, Uses, AllLift, IsStarted, IsPart, lift_within, lifted_lawful, is_code_part, Kind, Face, LockResult, NotLocked, LocksIt, Leave, unspent, dups, dup_on, close_on, stat_on, stat_reply, read_on, read_reply, refused_read, is_nothing, open_new, open_old, open_program, own_step, say, full, done, limit, program, Idle, Inv, machine, asked_limit, Refusal, TooLong, asks_wrong, is_covered, transactions_are_small, IsRight, laws, lawful_that, descriptors_right, right, chdir_begins, chdir_ok, create_ok, inherit_right, link_begins, link_ok, mkdir_begins, mkdir_ok, AllNames, both_paths, path_names, open_ok, open_begins, start_is, unlink_begins, unlink_ok, Blocks, came_to, log_of, nothing, HasInodes, HasSpent, Shows, recorded_blocks, affords, none_spent, handlers, SharedState, World, layer, shared_of, is_served, serves, served_calls, child_of, start_refusal, begun_by, if_hart, begins, block_calls, shared_part, block_code}
 use Rattle.plain_tree.specs.declared.answer.Answer.TheVariants as answers
-use Rattle.plain_tree.specs.declared.answer.Full.TheVariants.{Descriptors}
-use Rattle.plain_tree.specs.declared.call.Call.{Call}
 use Rattle.plain_tree.specs.declared.call.Call.TheVariants as calls
-use Rattle.plain_tree.specs.Steps.{creates}
-use Rattle.plain_tree.specs.Tree.{elements, put}
-use Rattle.plain_tree.specs.Widths.{hart_count}
 use Rattle.plain_tree.specs.declared.step.Action.TheVariants as actions
-use Rattle.tree_laws.proofs.Maps.{and_true}
-use Rattle.atomic_programs.specs.Prog.{Do, Did, Waits, Ran, Stops, did_in, unmarked}
-use Rattle.atomic_programs.specs.Calls.{Began, Begun, Ends, Lawful}
-use Rattle.atomic_programs.specs.Logic.{Safe}
-use Rattle.atomic_programs.specs.Plain.{IsCode, began_in}
-use Rattle.atomic_programs.specs.Joined.{Both}
-use Rattle.atomic_programs.specs.Lifting.{Uses, AllLift, IsStarted}
-use Rattle.atomic_programs.specs.Lowered.{IsPart}
-use Rattle.atomic_programs.proofs.Joined.{lift_within}
-use Rattle.atomic_programs.proofs.Lowered.{lifted_lawful, is_code_part}
-use Rattle.fs_machine.specs.declared.kind.Kind.{Kind}
 use Rattle.fs_machine.specs.Steps as steps
-use Rattle.inode_machine.specs.Inodes.{Face}
 use Rattle.inode_machine.specs.World as above
-use Rattle.inode_machine.specs.World.{LockResult, NotLocked, LocksIt}
-use Rattle.inode_machine.specs.World.Op.{Leave}
-use Rattle.inode_machine.specs.Budget.{unspent}
-use Rattle.inode_machine.specs.Descriptors.{dups, dup_on, close_on, stat_on, stat_reply, read_on, read_reply, refused_read}
-use Rattle.inode_machine.specs.Exec.{is_nothing}
-use Rattle.inode_machine.specs.Opening.{open_new, open_old, open_program}
-use Rattle.inode_machine.specs.Parts.{own_step, say, full, done}
-use Rattle.inode_machine.specs.Programs.{limit, program}
-use Rattle.inode_machine.specs.Rules.{Idle, Inv, machine, asked_limit}
-use Rattle.inode_machine.specs.Theory.{Refusal, TooLong, asks_wrong, is_covered}
-use Rattle.inode_machine.proofs.Budgets.{transactions_are_small}
-use Rattle.inode_machine.proofs.Calls.{IsRight, laws, lawful_that, descriptors_right, right}
-use Rattle.inode_machine.proofs.ChdirCalls.{chdir_begins, chdir_ok}
-use Rattle.inode_machine.proofs.CreateCalls.{create_ok}
-use Rattle.inode_machine.proofs.InheritStarts.{inherit_right}
-use Rattle.inode_machine.proofs.LinkCalls.{link_begins, link_ok}
-use Rattle.inode_machine.proofs.Mkdirs.{mkdir_begins, mkdir_ok}
-use Rattle.inode_machine.proofs.Names.{AllNames, both_paths, path_names}
-use Rattle.inode_machine.proofs.OpenCalls.{open_ok}
-use Rattle.inode_machine.proofs.OpenEnds.{open_begins}
-use Rattle.inode_machine.proofs.Starts.{start_is}
-use Rattle.inode_machine.proofs.Unlinks.{unlink_begins, unlink_ok}
-use Rattle.inodes_on_blocks.specs.Below.{World as Blocks, came_to, log_of}
-use Rattle.inodes_on_blocks.specs.Lowering.{nothing}
-use Rattle.inodes_on_blocks.specs.Making.{HasInodes}
-use Rattle.inodes_on_blocks.specs.Room.{HasSpent}
-use Rattle.inodes_on_blocks.specs.Shown.{Shows}
-use Rattle.inodes_on_blocks.specs.Spending.{recorded_blocks}
-use Rattle.inodes_on_blocks.proofs.Withins.{affords, none_spent}
-use Rattle.inodes_on_blocks.specs.Programs.{handlers}
-use Rattle.calls_on_blocks.specs.Layer.{SharedState, World, layer, shared_of}
-use Rattle.calls_on_blocks.specs.Theory.{is_served, serves, served_calls, child_of, start_refusal, begun_by, if_hart, begins, block_calls, shared_part, block_code}
 use Rattle.calls_on_blocks.proofs.InheritUses.{inherit_uses}
 use Rattle.calls_on_blocks.proofs.LinkUses.{link_uses}
 use Rattle.calls_on_blocks.proofs.MakeUses.{create_uses, mkdir_uses}

@@ -1,26 +1,8 @@
 -- No operation gives a hart a lender: a start alone does.
-use Rattle.std.proofs.Common.{◌≡◌, ℕ, ◌+◌, Bool, true, false, ◌==◌, nat_lt, List, [], Option, Some, None, refl, sym, ◌∙◌, if◌then◌else◌}
-use Rattle.std.specs.Prelude.{take}
-use Rattle.std.proofs.lemmas.Option.{none-some}
-use Rattle.plain_tree.specs.declared.answer.Cause.{Cause}
-use Rattle.plain_tree.specs.Steps.{has_room, node_or, write_kind}
-use Rattle.plain_tree.specs.declared.tree.OpenFile.{OpenFile}
-use Rattle.plain_tree.specs.Tree.{Name, put}
-use Rattle.atomic_programs.specs.Prog.{Did, Waits, Ran, Stops}
-use Rattle.atomic_programs.specs.Joined.{ActOf, ran_to, seen_after}
-use Rattle.atomic_programs.specs.Lifting.{IfRan}
-use Rattle.inode_machine.specs.Exec.{exec, slot_at, entry_of, double_at, double_if, close_at, close_if, lock_if, lock_at, stat_at, unlocked, start_if, start_number, has_place, referenced, place_count, claim_if, claimed, up_if, is_last, walk_down_if, down_if, slot_if, first_from, file_count, is_empty_slot, install_if, read_refused, write_refused, write_if, write_at, changed_record, with_bytes, read_at, with_offset, join_at, enter_if, is_full_directory, next_used, lend_if, lend_last, with_lent}
-use Rattle.inode_machine.specs.Inodes.{Sort}
-use Rattle.inode_machine.specs.Marks.{with_mark}
-use Rattle.inode_machine.specs.Rules.{machine}
+use Rattle.calls_on_blocks.proofs.Vocabulary.{◌≡◌, ℕ, ◌+◌, Bool, true, false, ◌==◌, nat_lt, List, [], Option, Some, None, refl, sym, ◌∙◌, if◌then◌else◌, take, none-some, Cause, has_room, node_or, write_kind, OpenFile, Name, put, Did, Waits, Ran, Stops, ActOf, ran_to, seen_after, IfRan, slot_at, entry_of, double_at, double_if, close_at, close_if, lock_if, lock_at, stat_at, unlocked, start_if, start_number, has_place, referenced, place_count, claim_if, claimed, up_if, is_last, walk_down_if, down_if, slot_if, first_from, file_count, is_empty_slot, install_if, read_refused, write_refused, write_if, write_at, changed_record, with_bytes, read_at, with_offset, join_at, enter_if, is_full_directory, next_used, lend_if, lend_last, with_lent, Sort, with_mark, machine, Desk, Entry, Take, Give, UpStart, WalkDown, Forget, Store, Fill, Enter, Clear, Empty, Slot, Install, StatFile, ReadFile, JoinFile, WriteFile, Shut, Settle, Lend, LendDirectory, Release, Join, Leave, Say, Room, RoomFor, Picks, put_elim, part_same, marked_same, Reserves}
+use Rattle.inode_machine.specs.Exec.{exec}
 use Rattle.inode_machine.specs.World as above
-use Rattle.inode_machine.specs.World.{Desk, Entry}
-use Rattle.inode_machine.specs.World.Op.{Take, Give, UpStart, Up, WalkDown, Down, Free, Forget, Claim, Store, Fill, Enter, Clear, Empty, Slot, Install, StatFile, LockFile, ReadFile, CheckFile, JoinFile, LockOpen, WriteFile, Double, Shut, Settle, Lend, LendDirectory, Release, Join, Leave, Say}
-use Rattle.inode_machine.specs.World.Outside.{Room, RoomFor, Picks}
-use Rattle.inode_machine.proofs.Frame.{put_elim}
-use Rattle.inodes_on_blocks.proofs.Desks.{part_same}
-use Rattle.inodes_on_blocks.proofs.Marked.{marked_same}
-use Rattle.calls_on_blocks.specs.Layer.{Reserves}
+use Rattle.inode_machine.specs.World.Op.{Up, Down, Free, Claim, LockFile, CheckFile, LockOpen, Double}
 
 -- who has a lender had it before
 abbrev pub NoNew : above.World → above.World → Type 0

@@ -1,3 +1,5 @@
+pub mod Lemmas
+pub mod Vocabulary
 pub mod Lenders
 pub mod Beside
 pub mod Operations

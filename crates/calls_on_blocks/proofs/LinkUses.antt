@@ -1,21 +1,9 @@
 -- The operations of link: each acts at one moment below.
-use Rattle.std.proofs.Common.{◌<◌, ℕ, ◌+◌, ◌-◌, Bool, true, false, if◌then◌else◌, List, [], ◌∷◌, Option, Some, None}
-use Rattle.fs_layout.specs.declared.superblock.Super.{Super}
-use Rattle.plain_tree.specs.declared.answer.Cause.{Cause}
-use Rattle.plain_tree.specs.declared.answer.Cause.TheVariants.{NoEntry, Exists, IsDirectory}
-use Rattle.plain_tree.specs.declared.answer.Full.TheVariants.{Blocks, Directory}
-use Rattle.plain_tree.specs.declared.answer.Reply.{Reply}
+use Rattle.calls_on_blocks.proofs.Vocabulary.{◌<◌, ℕ, ◌+◌, ◌-◌, Bool, true, false, if◌then◌else◌, List, [], ◌∷◌, Option, Some, None, Super, Cause, NoEntry, Exists, IsDirectory, Directory, Reply, Name, elements, hart_count, Begin, unmarked, Uses, Face, face_or, AtNothing, AtName, is_directory_sort, is_live_face, lower, named_on, enters, link_found, link_in, link_name, bump_refused, bumps_if, link_raise, link_at, link_program, own_step, looks_where, is_there, failed, full, done, drop, give_up, tail, stopped, machine}
+use Rattle.plain_tree.specs.declared.answer.Full.TheVariants.{Blocks}
 use Rattle.plain_tree.specs.declared.call.Call.TheVariants as calls
 use Rattle.plain_tree.specs.declared.step.Action.TheVariants as actions
-use Rattle.plain_tree.specs.Tree.{Name, elements}
-use Rattle.plain_tree.specs.Widths.{hart_count}
-use Rattle.tree_laws.specs.Moves.Move.{Begin}
-use Rattle.atomic_programs.specs.Prog.{unmarked}
-use Rattle.atomic_programs.specs.Lifting.{Uses}
-use Rattle.inode_machine.specs.Inodes.{Face, face_or, AtNothing, AtName, is_directory_sort, is_live_face}
-use Rattle.inode_machine.specs.Naming.{lower, named_on, enters, link_found, link_in, link_name, bump_refused, bumps_if, link_raise, link_at, link_program}
-use Rattle.inode_machine.specs.Parts.{own_step, makes, looks_where, is_there, failed, full, done, drop, give_up, tail, stopped}
-use Rattle.inode_machine.specs.Rules.{machine}
+use Rattle.inode_machine.specs.Parts.{makes}
 use Rattle.inode_machine.specs.World as above
 use Rattle.calls_on_blocks.proofs.Operations as ops
 use Rattle.calls_on_blocks.proofs.Operations.{Within}

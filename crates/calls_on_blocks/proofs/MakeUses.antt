@@ -1,26 +1,10 @@
 -- The operations of open with CREATE and of mkdir: each acts at one moment below.
-use Rattle.std.proofs.Common.{◌<◌, ℕ, ◌+◌, ◌==◌, Bool, true, false, if◌then◌else◌, List, [], ◌∷◌, Option, Some, None}
-use Rattle.fs_layout.specs.declared.superblock.Super.{Super}
-use Rattle.plain_tree.specs.declared.answer.Cause.{Cause}
-use Rattle.plain_tree.specs.declared.answer.Cause.TheVariants.{NoEntry}
-use Rattle.plain_tree.specs.declared.answer.Full.TheVariants.{Blocks, Descriptors, Directory, DiskInodes, MemInodes, OpenFiles}
-use Rattle.plain_tree.specs.declared.answer.Reply.{Reply}
+use Rattle.calls_on_blocks.proofs.Vocabulary.{◌<◌, ℕ, ◌+◌, ◌==◌, Bool, true, false, if◌then◌else◌, List, [], ◌∷◌, Option, Some, None, Super, Cause, NoEntry, Descriptors, Directory, DiskInodes, MemInodes, OpenFiles, Reply, Name, elements, hart_count, Begin, Do, unmarked, Uses, OfDirectory, OfFile, Sort, Face, face_or, AtNothing, AtName, is_live_face, in_parent, is_refused, mkdir_in, mkdir_on, mkdir_other, mkdir_program, mkdir_refused, mkdir_with, name_directory, create_found, create_in, entered_file, file_for, installs, installed_on, make_on, make_other, make_with, mends_unless_new, open_at, open_end, open_made, open_new, truncates, unmake, P, mends_if_full, looks_where, is_there, failed, full, done, give_up, tail, stopped, machine, Orphans, Enter, Forget, Install, HasInodes}
+use Rattle.plain_tree.specs.declared.answer.Full.TheVariants.{Blocks}
 use Rattle.plain_tree.specs.declared.call.Call.TheVariants as calls
 use Rattle.plain_tree.specs.declared.step.Action.TheVariants as actions
-use Rattle.plain_tree.specs.Tree.{Name, elements}
-use Rattle.plain_tree.specs.Widths.{hart_count}
-use Rattle.tree_laws.specs.Moves.Move.{Begin}
-use Rattle.atomic_programs.specs.Prog.{Do, unmarked}
-use Rattle.atomic_programs.specs.Lifting.{Uses}
-use Rattle.inode_machine.specs.Inodes.{OfDirectory, OfFile, Sort, Face, face_or, AtNothing, AtName, is_live_face}
-use Rattle.inode_machine.specs.Naming.{in_parent, is_refused, mkdir_in, mkdir_on, mkdir_other, mkdir_program, mkdir_refused, mkdir_with, name_directory}
-use Rattle.inode_machine.specs.Opening.{create_found, create_in, entered_file, file_for, installs, installed_on, make_on, make_other, make_with, mends_unless_new, open_at, open_end, open_made, open_new, truncates, unmake}
-use Rattle.inode_machine.specs.Parts.{P, makes, mends_if_full, looks_where, is_there, failed, full, done, give_up, tail, stopped}
-use Rattle.inode_machine.specs.Rules.{machine}
+use Rattle.inode_machine.specs.Parts.{makes}
 use Rattle.inode_machine.specs.World as above
-use Rattle.inode_machine.specs.World.Mark.{Orphans}
-use Rattle.inode_machine.specs.World.Op.{Enter, Forget, Install}
-use Rattle.inodes_on_blocks.specs.Making.{HasInodes}
 use Rattle.calls_on_blocks.proofs.Operations as ops
 use Rattle.calls_on_blocks.proofs.Operations.{Within}
 use Rattle.calls_on_blocks.proofs.PathUses.{give_up_uses, tail_uses, refused_uses, end_uses, open_at_uses, parent_uses}

@@ -1,42 +1,11 @@
 -- What each operation makes of the log, as far as a stop is concerned.
-use Rattle.std.proofs.Common.{◌≡◌, ◌≢◌, ◌⊎◌, inl, inr, ℕ, ◌+◌, ◌==◌, Bool, true, false, List, [], ◌∷◌, Option, Some, None, length, length-set, refl, sym, ap, ◌∙◌, if◌then◌else◌, slice_set}
-use Rattle.block_device.specs.Blocks.{block_at}
-use Rattle.fs_layout.specs.Recovered.{recovered, IsOutsideLog}
-use Rattle.buffer_cache.specs.Seats.{SeatState, seen_in, with_seat, with_content}
-use Rattle.buffer_cache.specs.Getting.{get_of}
-use Rattle.buffer_cache.specs.declared.got.Got.{Got}
+use Rattle.calls_on_blocks.proofs.Vocabulary.{◌≡◌, ◌≢◌, ◌⊎◌, inl, inr, ℕ, ◌+◌, ◌==◌, Bool, true, false, List, [], ◌∷◌, Option, Some, None, length, length-set, refl, sym, ap, ◌∙◌, if◌then◌else◌, slice_set, block_at, recovered, IsOutsideLog, SeatState, seen_in, with_seat, with_content, get_of, Got, Progress, Wrote, Ended, Failed, Left, Free, Commits, Marks, Phase, Open, Staging, Installing, Halted, joined, is_under_way, is_settled, is_running, IsMove, IsCommitMove, begins_at, is_point, write_to, write_of, next_phase, group_in, phase_at_leave, LogState, limit_of, after_leave, after_write, turn_is_out, seats_after, seats_at_fault, join_waits, left_at, done_recovered, failed_recovered, never, leave_facts, open_move, leave_move, commit_move, open_of, Did, Waits, Ran, Stops, Refused, TablesState, file_named, refusal_of, lock_inode, lock_file, settle_inode, up_inode, first_free, take_place, open_file, double_descriptor, shut_descriptor, give_next, LogPart, Outside, Passes, Fails, join_if, got_by, read_block, put_block, commit_if, written, is_open, LeavesIt, LeavesOne, Op, JoinToWrite, Get, Read, Put, Commit, Lock, LockFile, LockOpen, Unlock, Up, Claim, Down, CheckFile, TakePlace, TakeDescriptor, Double, Close, AnswerIt as Reply, exec, in_log, in_tables, joins, join_unless, lock_open, claims, claim_first, up_whom, drop_which, May, Honest, MayPut, IsWholeLog, After, put_shows, shows_its_puts, marks_by, marks_told, at_point, progress_of}
 use Rattle.buffer_cache.specs.declared.got.Got.TheVariants as got
-use Rattle.group_log.specs.declared.commit.Progress.{Progress}
-use Rattle.group_log.specs.declared.commit.Progress.TheVariants.{Wrote, Ended, Failed}
-use Rattle.group_log.specs.declared.log.Left.{Left}
-use Rattle.group_log.specs.declared.log.Left.TheVariants.{Free, Commits}
-use Rattle.group_log.specs.declared.marks.Marks.{Marks}
-use Rattle.group_log.specs.declared.phase.Phase.{Phase}
-use Rattle.group_log.specs.declared.phase.Phase.TheVariants.{Open, Staging, Installing, Halted}
-use Rattle.group_log.specs.Group.{joined}
-use Rattle.group_log.specs.Moves.{is_under_way, is_settled, is_running, IsMove, IsCommitMove, begins_at}
-use Rattle.group_log.specs.Phases.{is_point, write_to, write_of, next_phase, group_in, phase_at_leave}
-use Rattle.group_log.specs.Soundness.{LogState, limit_of}
-use Rattle.group_log.specs.Stories.{after_leave, after_write}
-use Rattle.group_log.specs.Turns.{turn_is_out, seats_after, seats_at_fault}
-use Rattle.group_log.specs.Waiting.{join_waits, left_at}
-use Rattle.group_log.proofs.Committed.{done_recovered, failed_recovered}
-use Rattle.group_log.proofs.Moving.{never, leave_facts, open_move, leave_move, commit_move}
-use Rattle.group_log.proofs.Steps.{open_of}
-use Rattle.atomic_programs.specs.Prog.{Did, Waits, Ran, Stops}
 use Rattle.fs_machine.specs.declared.files.OpenFile.{OpenFile}
-use Rattle.fs_machine.specs.declared.files.Refused.{Refused}
 use Rattle.fs_machine.specs.declared.files.Want.TheVariants as want
-use Rattle.fs_machine.specs.Tables.{TablesState, file_named}
-use Rattle.fs_machine.specs.Inodes.{refusal_of, lock_inode, lock_file, settle_inode, up_inode, first_free}
-use Rattle.fs_machine.specs.Files.{take_place, open_file, double_descriptor, shut_descriptor, give_next}
-use Rattle.fs_machine.specs.LogPart.{LogPart, Outside, Passes, Fails, join_if, got_by, read_block, put_block, commit_if, written, failed, is_open, LeavesIt, LeavesOne}
-use Rattle.fs_machine.specs.Steps.{State, Op, Join, JoinToWrite, Leave, Get, Read, Put, Commit, Lock, LockFile, LockOpen, Unlock, Settle, Up, Claim, Down, CheckFile, TakePlace, TakeDescriptor, Double, Close, Give, Reply, exec, in_log, in_tables, joins, join_unless, lock_open, claims, claim_first, up_whom, drop_which}
-use Rattle.fs_machine.specs.Premises.{May, Honest, MayPut}
+use Rattle.fs_machine.specs.LogPart.{failed}
+use Rattle.fs_machine.specs.Steps.{State, Join, Leave, Settle, Give}
 use Rattle.fs_machine.specs.Shown.{seen_of, seen_after}
-use Rattle.fs_machine.specs.Whole.{IsWholeLog, After}
-use Rattle.fs_machine.proofs.Showing.{put_shows, shows_its_puts}
-use Rattle.calls_on_blocks.specs.Marks.{marks_by, marks_told, at_point, progress_of}
 
 -- ---- the log's words, of its part
 

@@ -1,45 +1,8 @@
 -- The operations on whole inodes act at one moment below, within what their call's transactions may record.
-use Rattle.std.proofs.Common.{◌≡◌, ◌<◌, ℕ, List, length, Bool, true, Option}
-use Rattle.fs_layout.specs.declared.superblock.Super.{Super}
-use Rattle.fs_layout.specs.Bytes.{IsBytes}
-use Rattle.plain_tree.specs.declared.answer.Cause.{Cause}
-use Rattle.plain_tree.specs.declared.tree.OpenFile.{OpenFile}
-use Rattle.plain_tree.specs.Tree.{Name}
-use Rattle.plain_tree.specs.Widths.{hart_count}
-use Rattle.atomic_programs.specs.Spending.{AtomicWithin}
-use Rattle.tree_laws.specs.Moves.{Stage, Step, Takes}
-use Rattle.inode_machine.specs.Inodes.{Face, Query, Sight, Sort}
-use Rattle.inode_machine.specs.Marks.{places}
+use Rattle.calls_on_blocks.proofs.Vocabulary.{◌≡◌, ◌<◌, ℕ, List, length, Bool, true, Option, Super, IsBytes, Cause, OpenFile, Name, hart_count, AtomicWithin, Stage, MoveStep as Step, Takes, Face, Query, Sight, Sort, places, machine, JoinResult, LoanResult, LockResult, WriteResult as Wrote, Take, Give, UpStart, WalkDown, Forget, Store, Fill, Enter, Clear, Empty, Slot, Install, StatFile, ReadFile, JoinFile, WriteFile, Shut, Settle, Lend, LendDirectory, Release, Join, Leave, Say, laws, ActsOnceAt, Labels, Keeps, HasInodes, IsMade, HasSpent, recorded_blocks, ActsWithin, ProgramsSpend, Spends, up_acts, up_start_acts, walk_down_acts, down_acts, forget_acts, join_file_acts, join_acts, leave_acts, lend_acts, lend_directory_acts, release_acts, claim_within, enter_within, fill_within, file_acts, open_acts, read_acts, slot_acts, install_acts, double_acts, close_acts, check_acts, say_acts, programs_spend, stat_acts, give_acts, settle_acts, take_acts, acts_within, store_within, clear_within, empty_within, free_within, write_within, handlers, layer}
 use Rattle.inode_machine.specs.Rules as rules
-use Rattle.inode_machine.specs.Rules.{machine}
 use Rattle.inode_machine.specs.World as above
-use Rattle.inode_machine.specs.World.{JoinResult, LoanResult, LockResult, Wrote}
-use Rattle.inode_machine.specs.World.Op.{Take, Give, UpStart, Up, WalkDown, Down, Free, Forget, Claim, Store, Fill, Enter, Clear, Empty, Slot, Install, StatFile, LockFile, ReadFile, LockOpen, CheckFile, JoinFile, WriteFile, Double, Shut, Settle, Lend, LendDirectory, Release, Join, Leave, Say}
-use Rattle.inode_machine.proofs.Calls.{laws}
-use Rattle.inodes_on_blocks.specs.Acting.{ActsOnceAt}
-use Rattle.inodes_on_blocks.specs.Lowering.{Labels, Keeps}
-use Rattle.inodes_on_blocks.specs.Making.{HasInodes, IsMade}
-use Rattle.inodes_on_blocks.specs.Room.{HasSpent}
-use Rattle.inodes_on_blocks.specs.Spending.{recorded_blocks, ActsWithin, ProgramsSpend, Spends}
-use Rattle.inodes_on_blocks.proofs.CountSteps.{up_acts, up_start_acts, walk_down_acts, down_acts}
-use Rattle.inodes_on_blocks.proofs.ForgetSteps.{forget_acts}
-use Rattle.inodes_on_blocks.proofs.JoinFileSteps.{join_file_acts}
-use Rattle.inodes_on_blocks.proofs.JoinSteps.{join_acts}
-use Rattle.inodes_on_blocks.proofs.LeaveSteps.{leave_acts}
-use Rattle.inodes_on_blocks.proofs.LendSteps.{lend_acts, lend_directory_acts, release_acts}
-use Rattle.inodes_on_blocks.proofs.ClaimSteps.{claim_within}
-use Rattle.inodes_on_blocks.proofs.NamingWithins.{enter_within, fill_within}
-use Rattle.inodes_on_blocks.proofs.LockSteps.{file_acts, open_acts}
-use Rattle.inodes_on_blocks.proofs.ReadSteps.{read_acts}
-use Rattle.inodes_on_blocks.proofs.SlotSteps.{slot_acts, install_acts, double_acts, close_acts, check_acts, say_acts}
-use Rattle.inodes_on_blocks.proofs.Spends.{programs_spend}
-use Rattle.inodes_on_blocks.proofs.StatSteps.{stat_acts}
-use Rattle.inodes_on_blocks.proofs.TableSteps.{give_acts, settle_acts}
-use Rattle.inodes_on_blocks.proofs.TakeSteps.{take_acts}
-use Rattle.inodes_on_blocks.proofs.Withins.{acts_within, store_within, clear_within, empty_within, free_within}
-use Rattle.inodes_on_blocks.proofs.WriteSteps.{write_within}
-use Rattle.inodes_on_blocks.specs.Programs.{handlers}
-use Rattle.calls_on_blocks.specs.Layer.{layer}
+use Rattle.inode_machine.specs.World.Op.{Up, Down, Free, Claim, LockFile, LockOpen, CheckFile, Double}
 use Rattle.calls_on_blocks.proofs.Beside.{within_beside}
 
 -- ---- the history that explains the calls

@@ -1,24 +1,8 @@
 -- The operations of chdir and of open without CREATE: each acts at one moment below.
-use Rattle.std.proofs.Common.{◌<◌, ℕ, ◌==◌, Bool, true, false, if◌then◌else◌, List, [], ◌∷◌, Option, Some, None}
-use Rattle.fs_layout.specs.declared.superblock.Super.{Super}
-use Rattle.plain_tree.specs.declared.answer.Cause.{Cause}
-use Rattle.plain_tree.specs.declared.answer.Cause.TheVariants.{NotDirectory}
-use Rattle.plain_tree.specs.declared.answer.Full.TheVariants.{OpenFiles, Descriptors}
-use Rattle.plain_tree.specs.declared.answer.Reply.{Reply}
+use Rattle.calls_on_blocks.proofs.Vocabulary.{◌<◌, ℕ, ◌==◌, Bool, true, false, if◌then◌else◌, List, [], ◌∷◌, Option, Some, None, Super, Cause, NotDirectory, OpenFiles, Descriptors, Reply, Action, Name, elements, is_absolute, hart_count, Do, unmarked, Uses, Sort, face_or, AtNothing, AtName, is_directory_face, open_refusal, chdir_at, chdir_program, file_for, empties, installs, installed_on, open_end, open_face, open_at, open_old, opened_reply, P, Stop, NotThere, NoMemory, with_last, own_step, mends_if_full, begins_unless_full, looks_or_quits, failed, full, done, say, drop, give_up, free_all, tail, stopped, leave_directory, quits_unless, see_parent, walk_step, walk, walk_parent, start_on, start, machine, Empty, Give, Forget, Install, Settle, Frees}
 use Rattle.plain_tree.specs.declared.call.Call.TheVariants as calls
-use Rattle.plain_tree.specs.declared.step.Action.{Action}
 use Rattle.plain_tree.specs.declared.step.Action.TheVariants as actions
-use Rattle.plain_tree.specs.Tree.{Name, elements, is_absolute}
-use Rattle.plain_tree.specs.Widths.{hart_count}
-use Rattle.atomic_programs.specs.Prog.{Do, unmarked}
-use Rattle.atomic_programs.specs.Lifting.{Uses}
-use Rattle.inode_machine.specs.Inodes.{Sort, face_or, AtNothing, AtName, is_directory_face, open_refusal}
-use Rattle.inode_machine.specs.Moving.{chdir_at, chdir_program}
-use Rattle.inode_machine.specs.Opening.{file_for, empties, installs, installed_on, open_end, open_face, open_at, open_old, opened_reply}
-use Rattle.inode_machine.specs.Parts.{P, Stop, NotThere, NoMemory, with_last, own_step, mends_if_full, begins_unless_full, looks_or_quits, failed, full, done, say, drop, give_up, free_all, tail, stopped, leave_directory, quits_unless, see_parent, walk_step, walk, walk_parent, start_on, start}
-use Rattle.inode_machine.specs.Rules.{machine}
-use Rattle.inode_machine.specs.World.Op.{Empty, Free, Give, Forget, Install, Settle}
-use Rattle.inode_machine.specs.World.Mark.{Frees}
+use Rattle.inode_machine.specs.World.Op.{Free}
 use Rattle.calls_on_blocks.proofs.Operations as ops
 use Rattle.calls_on_blocks.proofs.Operations.{Within}
 

@@ -1,30 +1,9 @@
 -- A start that reserves a child: what the tables and the blocks show of it, and what it finds.
-use Rattle.std.proofs.Common.{◌≡◌, ◌≢◌, inl, inr, ℕ, ◌<◌, Bool, true, false, ◌&&◌, not, nat_lt, List, Option, Some, None, refl, sym, ◌∙◌, ap, subst, arith, if◌then◌else◌}
-use Rattle.std.specs.Prelude.{is_some}
-use Rattle.std.specs.Option.{option_map}
-use Rattle.std.proofs.lemmas.Bool.Decides.{nat_tests}
-use Rattle.std.proofs.lemmas.Option.{none-some, same_Some}
-use Rattle.fs_layout.specs.declared.inode.Dinode.{Dinode}
-use Rattle.plain_tree.specs.Tree.{put}
-use Rattle.plain_tree.specs.Widths.{hart_count, descriptor_count}
-use Rattle.tree_laws.proofs.Maps.{same_or, put_same, put_other, any_none, none_any, any_same, eq_self}
+use Rattle.calls_on_blocks.proofs.Vocabulary.{◌≡◌, ◌≢◌, inl, inr, ℕ, ◌<◌, Bool, true, false, ◌&&◌, not, nat_lt, List, Option, Some, None, refl, sym, ◌∙◌, ap, subst, arith, if◌then◌else◌, is_some, option_map, nat_tests, none-some, same_Some, Dinode, put, hart_count, descriptor_count, same_or, put_same, put_other, any_none, none_any, any_same, eq_self, TablesState, file_named, entry_at, entry_of, is_at, is_nothing, serving, Idle, Inv, has_descriptor, serving_world, Desk, Entry, serving_none, DesksShow, FilesShow, descriptor, file_of, is_taken, lent_by, loaded, place_with, part_same, descriptors_name_files, Blocks, tables_of, Shows, shows_then, Reserves, has_file, reserved}
 use Rattle.fs_machine.specs.declared.desk.Desk as cards
-use Rattle.fs_machine.specs.Tables.{TablesState, file_named}
-use Rattle.inode_machine.specs.Exec.{entry_at, entry_of, is_at, is_nothing, serving}
-use Rattle.inode_machine.specs.Rules.{Idle, Inv}
-use Rattle.inode_machine.specs.Theory.{has_descriptor, serving_world}
 use Rattle.inode_machine.specs.World as above
-use Rattle.inode_machine.specs.World.{Desk, Entry}
-use Rattle.inode_machine.proofs.Turnings.{serving_none}
 use Rattle.inodes_on_blocks.specs.ShownTables as tables
-use Rattle.inodes_on_blocks.specs.ShownTables.{DesksShow, FilesShow, descriptor, file_of, first, is_taken, lent_by, loaded, place_with}
-use Rattle.inodes_on_blocks.proofs.Desks.{part_same}
-use Rattle.inodes_on_blocks.proofs.Named.{descriptors_name_files}
-use Rattle.inodes_on_blocks.specs.Below.{World as Blocks, tables_of}
-use Rattle.inodes_on_blocks.specs.Shown.{Shows}
-use Rattle.inodes_on_blocks.proofs.Tables.{shows_then}
-use Rattle.calls_on_blocks.specs.Layer.{Reserves}
-use Rattle.calls_on_blocks.specs.Theory.{has_file, reserved}
+use Rattle.inodes_on_blocks.specs.ShownTables.{first}
 
 -- ---- a child is reserved
 

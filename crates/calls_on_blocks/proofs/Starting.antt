@@ -1,33 +1,9 @@
 -- A start below begins above too, and what an inherit reserves is reserved in both.
-use Rattle.std.proofs.Common.{◌≡◌, ◌≢◌, ◌⊎◌, inl, inr, ◌<◌, ◌==◌, ◌||◌, ◌&&◌, ℕ, Bool, true, false, not, nat_lt, if◌then◌else◌, Option, Some, None, refl, sym, ◌∙◌, ap, subst, arith}
-use Rattle.std.proofs.lemmas.Bool.Decides.{nat_tests}
-use Rattle.fs_layout.specs.declared.superblock.Super.{Super}
-use Rattle.plain_tree.specs.declared.call.Call.{Call}
+use Rattle.calls_on_blocks.proofs.Vocabulary.{◌≡◌, ◌≢◌, ◌⊎◌, inl, inr, ◌<◌, ◌==◌, ◌||◌, ◌&&◌, ℕ, Bool, true, false, not, nat_lt, if◌then◌else◌, Option, Some, None, refl, sym, ◌∙◌, ap, subst, arith, nat_tests, Super, Call, put, hart_count, eq_isnt, or_none, same_or, or_else, Begins, LowerLaws, BeginsBoth, StartsBoth, LockResult, NotLocked, LocksIt, Leave, is_nothing, full, Idle, Inv, machine, Refusal, NoSuchHart, Busy, TooLong, NotEmptyHart, NotCovered, asks_wrong, begin_call, begin_if, begin_inherit, has_descriptor, is_covered, call_wrong, serving_world, why_not, started_rests, begun_same, inherit_begins, loaded, tables_of, nothing, below_laws, SharedState, World, Reserves, layer, shared_of, serves, served_calls, fault_of, refusal_for, child_of, reserved, has_file, child_refusal, others_refusal, start_refusal, begun_by, if_hart, begin_in, begins}
 use Rattle.plain_tree.specs.declared.call.Call.TheVariants as calls
-use Rattle.plain_tree.specs.Tree.{put}
-use Rattle.plain_tree.specs.Widths.{hart_count}
-use Rattle.tree_laws.proofs.Maps.{eq_isnt, or_none, same_or}
-use Rattle.atomic_programs.specs.Prog.{or_else}
-use Rattle.atomic_programs.specs.Calls.{Begins}
-use Rattle.atomic_programs.specs.Joined.{LowerLaws}
-use Rattle.atomic_programs.specs.Lowered.{BeginsBoth, StartsBoth}
 use Rattle.inode_machine.specs.World as above
-use Rattle.inode_machine.specs.World.{LockResult, NotLocked, LocksIt}
-use Rattle.inode_machine.specs.World.Op.{Leave}
-use Rattle.inode_machine.specs.Exec.{is_nothing}
-use Rattle.inode_machine.specs.Parts.{full}
-use Rattle.inode_machine.specs.Rules.{Idle, Inv, machine}
 use Rattle.inode_machine.specs.Theory as theory
-use Rattle.inode_machine.specs.Theory.{Refusal, NoSuchHart, Busy, TooLong, NotEmptyHart, NotCovered, asks_wrong, begin_call, begin_if, begin_inherit, has_descriptor, is_covered, call_wrong, serving_world, why_not}
-use Rattle.inode_machine.proofs.InheritStarts.{started_rests}
-use Rattle.inode_machine.proofs.Starts.{begun_same, inherit_begins}
 use Rattle.inodes_on_blocks.specs.ShownTables as tables
-use Rattle.inodes_on_blocks.specs.ShownTables.{loaded}
-use Rattle.inodes_on_blocks.specs.Below.{tables_of}
-use Rattle.inodes_on_blocks.specs.Lowering.{nothing}
-use Rattle.inodes_on_blocks.proofs.Layer.{below_laws}
-use Rattle.calls_on_blocks.specs.Layer.{SharedState, World, Reserves, layer, shared_of}
-use Rattle.calls_on_blocks.specs.Theory.{serves, served_calls, fault_of, refusal_for, child_of, reserved, has_file, child_refusal, others_refusal, start_refusal, begun_by, if_hart, begin_in, begins}
 use Rattle.calls_on_blocks.proofs.Beside.{laws_beside}
 use Rattle.calls_on_blocks.proofs.Operations.{history, keeps}
 use Rattle.calls_on_blocks.proofs.Reserving.{part, tables_reserved, blocks_reserved, lender_other, other_children, child_reserved, unreserved, has_none}

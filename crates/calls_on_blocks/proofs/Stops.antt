@@ -1,35 +1,9 @@
 -- What a stop leaves, for any list of events.
-use Rattle.std.proofs.Common.{◌≡◌, inl, ℕ, false, List, [], ◌∷◌, length, refl, sym, subst, ◌∙◌, arith}
-use Rattle.fs_layout.specs.declared.superblock.Super.{Super}
-use Rattle.fs_layout.specs.Recovered.{sizes_of, IsOutsideLog}
-use Rattle.fs_layout.proofs.RecoveredDisk.{recovered-empty}
-use Rattle.plain_tree.specs.declared.call.Call.{Call}
-use Rattle.plain_tree.specs.declared.trace.Placed.{Placed}
-use Rattle.plain_tree.specs.Explains.{IsNamedPart}
-use Rattle.plain_tree.specs.Tree.{tree_of}
-use Rattle.image_tree.specs.Checks.{IsGoodSuper}
-use Rattle.image_tree.specs.Damage.{IsWellFormed}
-use Rattle.image_tree.specs.Trees.{tree_in}
-use Rattle.inodes_on_blocks.specs.Seen.{IsRecoveredSo}
-use Rattle.group_log.specs.declared.marks.Marks.{Marks}
-use Rattle.group_log.specs.CrashLaw.{Blocks, AgreeOutside}
-use Rattle.group_log.specs.Group.{joined}
-use Rattle.group_log.specs.Moves.{recovered_of, seen_of}
-use Rattle.group_log.specs.Stories.{no_marks}
+use Rattle.calls_on_blocks.proofs.Vocabulary.{◌≡◌, inl, ℕ, false, List, [], ◌∷◌, length, refl, sym, subst, ◌∙◌, arith, Super, sizes_of, IsOutsideLog, recovered-empty, Call, Placed, IsNamedPart, tree_of, IsGoodSuper, IsWellFormed, tree_in, IsRecoveredSo, Marks, AgreeOutside, joined, recovered_of, seen_of, no_marks, Theory, Event, State, AllHonest, IsHonest, fresh, next, run, Sound, inv_of, sound_keeps, sound_fresh, sound_run, LogPart, Outside, IsWholeLog, IsMountable, ShowsItsTree, mounts_show_their_trees, first, block_calls, marks_after, marks_next, log_at, StopsLeaveImages}
+use Rattle.group_log.specs.CrashLaw.{Blocks}
 use Rattle.calls_on_blocks.proofs.Heads.{logs_leave_good_heads}
-use Rattle.atomic_programs.specs.Calls.{Theory, Event, State, AllHonest, IsHonest, fresh, next, run, Sound}
-use Rattle.atomic_programs.proofs.Explains.{inv_of, sound_keeps}
-use Rattle.atomic_programs.proofs.Reached.{sound_fresh, sound_run}
-use Rattle.fs_machine.specs.LogPart.{LogPart, Outside}
-use Rattle.fs_machine.specs.Whole.{IsWholeLog}
-use Rattle.inodes_on_blocks.specs.Mounted.{IsMountable, ShowsItsTree}
-use Rattle.inodes_on_blocks.proofs.Mounted.{mounts_show_their_trees}
-use Rattle.calls_on_blocks.specs.History.{first}
-use Rattle.calls_on_blocks.specs.Theory.{block_calls}
 use Rattle.calls_on_blocks.proofs.History.{first_holds, first_idle}
 use Rattle.calls_on_blocks.proofs.Lawful.{lawful}
-use Rattle.calls_on_blocks.specs.Marks.{marks_after, marks_next, log_at}
-use Rattle.calls_on_blocks.specs.Stops.{StopsLeaveImages}
 use Rattle.calls_on_blocks.proofs.Moves.{itself, log_in}
 use Rattle.calls_on_blocks.proofs.Events.{event_goes, goes_sizes, next_now}
 use Rattle.calls_on_blocks.proofs.Following.{Followed, followed_on}

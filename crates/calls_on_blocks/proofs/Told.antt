@@ -1,19 +1,5 @@
 -- The marks of a run, by where its events take the commit.
-use Rattle.std.proofs.Common.{◌≡◌, List, [], ◌∷◌, refl, ap, ◌∙◌}
-use Rattle.fs_layout.specs.declared.superblock.Super.{Super}
-use Rattle.fs_layout.specs.Recovered.{sizes_of}
-use Rattle.plain_tree.specs.declared.call.Call.{Call}
-use Rattle.group_log.specs.declared.marks.Marks.{Marks}
-use Rattle.group_log.specs.Stories.{no_marks}
-use Rattle.atomic_programs.specs.Calls.{Event, State, AllHonest, fresh, next, Sound}
-use Rattle.atomic_programs.proofs.Reached.{sound_run}
-use Rattle.fs_machine.specs.LogPart.{Outside}
-use Rattle.fs_machine.specs.Whole.{IsWholeLog}
-use Rattle.inodes_on_blocks.proofs.Mounted.{mounts_show_their_trees}
-use Rattle.calls_on_blocks.specs.History.{first}
-use Rattle.calls_on_blocks.specs.Theory.{block_calls}
-use Rattle.calls_on_blocks.specs.Marks.{marks_after, marks_next, noted, log_at, told_between}
-use Rattle.calls_on_blocks.specs.Stops.{MarksAreTold}
+use Rattle.calls_on_blocks.proofs.Vocabulary.{◌≡◌, List, [], ◌∷◌, refl, ap, ◌∙◌, Super, sizes_of, Call, Marks, no_marks, Event, State, AllHonest, fresh, next, Sound, sound_run, Outside, IsWholeLog, mounts_show_their_trees, first, block_calls, marks_after, marks_next, noted, log_at, told_between, MarksAreTold}
 use Rattle.calls_on_blocks.proofs.Events.{event_goes}
 use Rattle.calls_on_blocks.proofs.Stops.{first_sound}
 

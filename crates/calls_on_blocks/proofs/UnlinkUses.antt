@@ -1,21 +1,8 @@
 -- The operations of unlink: each acts at one moment below.
-use Rattle.std.proofs.Common.{◌<◌, ℕ, ◌-◌, ◌==◌, ◌||◌, Bool, true, false, not, if◌then◌else◌, List, [], ◌∷◌, Option, Some, None}
-use Rattle.fs_layout.specs.declared.superblock.Super.{Super}
-use Rattle.plain_tree.specs.declared.answer.Cause.TheVariants.{NoEntry, NotEmpty, DotName}
-use Rattle.plain_tree.specs.declared.answer.Full.TheVariants.{MemInodes}
-use Rattle.plain_tree.specs.declared.answer.Reply.{Reply}
+use Rattle.calls_on_blocks.proofs.Vocabulary.{◌<◌, ℕ, ◌-◌, ◌==◌, ◌||◌, Bool, true, false, not, if◌then◌else◌, List, [], ◌∷◌, Option, Some, None, Super, NoEntry, NotEmpty, DotName, MemInodes, Reply, Name, elements, same_name, dot, dotdot, hart_count, Begin, Look, Do, unmarked, Uses, Face, face_or, AtNothing, AtName, AtEntries, is_directory_sort, is_live_face, always, clear_name, in_parent, is_missing, or_missing, unlink_child, unlink_dots, unlink_found, unlink_in, unlink_named, unlink_other, unlink_program, P, mends_if_full, looks_if, looks_where, failed, full, done, give_up, tail, stopped, machine, Store}
 use Rattle.plain_tree.specs.declared.call.Call.TheVariants as calls
 use Rattle.plain_tree.specs.declared.step.Action.TheVariants as actions
-use Rattle.plain_tree.specs.Tree.{Name, elements, same_name, dot, dotdot}
-use Rattle.plain_tree.specs.Widths.{hart_count}
-use Rattle.tree_laws.specs.Moves.Move.{Begin, Look}
-use Rattle.atomic_programs.specs.Prog.{Do, unmarked}
-use Rattle.atomic_programs.specs.Lifting.{Uses}
-use Rattle.inode_machine.specs.Inodes.{Face, face_or, AtNothing, AtName, AtEntries, is_directory_sort, is_live_face}
-use Rattle.inode_machine.specs.Naming.{always, clear_name, in_parent, is_missing, or_missing, unlink_child, unlink_dots, unlink_found, unlink_in, unlink_named, unlink_other, unlink_program}
-use Rattle.inode_machine.specs.Parts.{P, makes, mends_if_full, looks_if, looks_where, failed, full, done, give_up, tail, stopped}
-use Rattle.inode_machine.specs.Rules.{machine}
-use Rattle.inode_machine.specs.World.Op.{Store}
+use Rattle.inode_machine.specs.Parts.{makes}
 use Rattle.calls_on_blocks.proofs.Operations as ops
 use Rattle.calls_on_blocks.proofs.Operations.{Within}
 use Rattle.calls_on_blocks.proofs.PathUses.{give_up_uses, tail_uses, refused_uses, parent_uses}

@@ -1,37 +1,6 @@
 -- The states after each event, and what their marks leave whole.
-use Rattle.std.proofs.Common.{◌≡◌, ◌≢◌, ◌⊎◌, inl, inr, ℕ, zero, suc, ◌+◌, ◌-◌, ◌≤◌, ◌<◌, Bool, true, false, List, [], ◌∷◌, ◌++◌, Option, Some, None, length, get_or, take, refl, sym, subst, ap, ◌∙◌, arith, add-one}
-use Rattle.std.proofs.lemmas.List.{take_more, take_all}
-use Rattle.std.proofs.lemmas.Option.{get_or_from_slice_get, slice_get_within}
-use Rattle.fs_layout.specs.declared.superblock.Super.{Super}
-use Rattle.fs_layout.specs.Recovered.{sizes_of}
-use Rattle.plain_tree.specs.declared.answer.Reply.{Reply}
-use Rattle.plain_tree.specs.declared.call.Call.{Call}
-use Rattle.group_log.specs.declared.commit.Progress.{Progress}
-use Rattle.group_log.specs.declared.commit.Progress.TheVariants.{Waits as WaitsFor, Wrote, Ended, Failed}
-use Rattle.group_log.specs.declared.log.Left.{Left}
-use Rattle.group_log.specs.declared.log.Left.TheVariants.{Free, Commits}
-use Rattle.group_log.specs.declared.marks.Marks.{Marks}
-use Rattle.group_log.specs.declared.phase.Phase.{Phase}
-use Rattle.group_log.specs.declared.phase.Phase.TheVariants.{Open, Staging, Installing, Halted}
-use Rattle.group_log.specs.Group.{joined}
-use Rattle.group_log.specs.Moves.{begins_at, is_running, is_settled}
-use Rattle.group_log.specs.Soundness.{LogState}
-use Rattle.group_log.specs.Stories.{no_marks, after_leave, after_write, Does, IsMarked, IsMarkedRun}
-use Rattle.group_log.proofs.Marked.{cuts_have_replies}
-use Rattle.atomic_programs.specs.Prog.{Ret, Do, Did, Waits, Ran, Stops}
-use Rattle.atomic_programs.specs.Logic.{OpWithAnswer, P}
-use Rattle.atomic_programs.specs.Calls.{Theory, Event, Step, Run, State, DidEnd, IsHonest, AllHonest, all_told, hart_of, makes, moved, next, run, step_prog, step_run, step_unless, tried, Sound}
-use Rattle.atomic_programs.proofs.Explains.{Some-inj, changed_same, inv_of, sound_keeps}
-use Rattle.atomic_programs.proofs.Reached.{run-append, sound_run}
-use Rattle.atomic_programs.proofs.Steady.{steady}
-use Rattle.fs_machine.specs.LogPart.{Outside, Passes}
-use Rattle.fs_machine.specs.Whole.{IsWholeLog}
-use Rattle.inodes_on_blocks.proofs.Mounted.{mounts_show_their_trees}
-use Rattle.calls_on_blocks.specs.Theory.{block_calls}
+use Rattle.calls_on_blocks.proofs.Vocabulary.{◌≡◌, ◌≢◌, ◌⊎◌, inl, inr, ℕ, zero, suc, ◌+◌, ◌-◌, ◌≤◌, ◌<◌, Bool, true, false, List, [], ◌∷◌, ◌++◌, Option, Some, None, length, get_or, take, refl, sym, subst, ap, ◌∙◌, arith, add-one, take_more, take_all, get_or_from_slice_get, slice_get_within, Super, sizes_of, Reply, Call, Progress, WaitsFor, Wrote, Ended, Failed, Left, Free, Commits, Marks, Phase, Open, Staging, Installing, Halted, joined, begins_at, is_running, is_settled, LogState, no_marks, after_leave, after_write, Does, IsMarked, IsMarkedRun, cuts_have_replies, Ret, Do, Did, Waits, Ran, Stops, OpWithAnswer, PartOf as P, Theory, Event, Step, Run, State, DidEnd, IsHonest, AllHonest, all_told, hart_of, makes, moved, next, run, step_prog, step_run, step_unless, tried, Sound, Some-inj, changed_same, inv_of, sound_keeps, run-append, sound_run, steady, Outside, Passes, IsWholeLog, mounts_show_their_trees, block_calls, at_point, log_at, marks_after, marks_next, AreEventsOn, marks_at, BeganCommit, CutsHaveReplies, MarksPartNone, HasReplied, state_up_to}
 use Rattle.calls_on_blocks.proofs.Lawful.{lawful}
-use Rattle.calls_on_blocks.specs.Marks.{at_point, log_at, marks_after, marks_next}
-use Rattle.calls_on_blocks.specs.Stops.{AreEventsOn, marks_at}
-use Rattle.calls_on_blocks.specs.Whole.{BeganCommit, CutsHaveReplies, MarksPartNone, HasReplied, state_up_to}
 use Rattle.calls_on_blocks.proofs.Commits.{EventCommits, commits_of, event_commits}
 use Rattle.calls_on_blocks.proofs.Events.{EventGoes, event_goes, next_now}
 use Rattle.calls_on_blocks.proofs.Moves.{itself, log_in}

@@ -1,26 +1,9 @@
 -- The operations of write: each acts at one moment below.
-use Rattle.std.proofs.Common.{◌≡◌, ◌<◌, ◌≤◌, ℕ, zero, suc, ◌+◌, ◌-◌, ◌*◌, ◌/◌, ◌==◌, if◌then◌else◌, refl, nat_lt, Bool, true, false, List, [], ◌∷◌, drop, length, arith}
-use Rattle.std.proofs.lemmas.Bool.Decides.{nat_tests}
-use Rattle.std.proofs.lemmas.List.{length-take, length-drop}
-use Rattle.std.proofs.Math.Nat.{le-div_iff_mul-le}
-use Rattle.fs_layout.specs.declared.superblock.Super.{Super}
-use Rattle.fs_layout.specs.Bytes.{IsBytes}
+use Rattle.calls_on_blocks.proofs.Vocabulary.{◌≡◌, ◌<◌, ◌≤◌, ℕ, zero, suc, ◌+◌, ◌-◌, ◌*◌, ◌/◌, ◌==◌, if◌then◌else◌, refl, nat_lt, Bool, true, false, List, [], ◌∷◌, length, arith, nat_tests, length-take, length-drop, le-div_iff_mul-le, Super, IsBytes, Reply, piece, piece_count, hart_count, piece_len, and_true, eq_is, Do, unmarked, Uses, joined_on, refused_to, write_from, write_piece, write_program, write_reply, marks, wrote_on, P, failed, full, own_step, say, machine, are_bytes, JoinResult, NotJoined, Joined, WriteResult as Wrote, Whole, Stopped as Refused, Short, Join, drop_bytes, take_bytes}
+use Rattle.std.proofs.Common.{drop}
 use Rattle.plain_tree.specs.declared.answer.Full.TheVariants.{Blocks}
-use Rattle.plain_tree.specs.declared.answer.Reply.{Reply}
 use Rattle.plain_tree.specs.declared.call.Call.TheVariants as calls
 use Rattle.plain_tree.specs.declared.step.Action.TheVariants as actions
-use Rattle.plain_tree.specs.Calls.{piece, piece_count}
-use Rattle.plain_tree.specs.Widths.{hart_count, piece_len}
-use Rattle.tree_laws.proofs.Maps.{and_true, eq_is}
-use Rattle.atomic_programs.specs.Prog.{Do, unmarked}
-use Rattle.atomic_programs.specs.Lifting.{Uses}
-use Rattle.inode_machine.specs.Descriptors.{joined_on, refused_to, write_from, write_piece, write_program, write_reply, writes as marks, wrote_on}
-use Rattle.inode_machine.specs.Parts.{P, failed, full, own_step, say}
-use Rattle.inode_machine.specs.Rules.{machine}
-use Rattle.inode_machine.specs.Theory.{are_bytes}
-use Rattle.inode_machine.specs.World.{JoinResult, NotJoined, Joined, Wrote, Whole, Refused, Short}
-use Rattle.inode_machine.specs.World.Op.{Join}
-use Rattle.inodes_on_blocks.proofs.Records.{drop_bytes, take_bytes}
 use Rattle.calls_on_blocks.proofs.Operations as ops
 use Rattle.calls_on_blocks.proofs.Operations.{Within}
 use Rattle.calls_on_blocks.proofs.PathUses.{say_uses}

@@ -1,12 +1,6 @@
 -- The superblock and the log's head of a log's disk.
 use Rattle.std.specs.Prelude.{ℕ, ◌<◌, ◌^◌, List, Option, length}
-use Rattle.fs_layout.specs.declared.superblock.Super.{Super}
-use Rattle.fs_layout.specs.Recovered.{sizes_of}
-use Rattle.buffer_cache.specs.Seats.{SeatState}
-use Rattle.group_log.specs.declared.phase.Phase.{Phase}
-use Rattle.group_log.specs.Soundness.{IsPlaced, IsSoundLog}
-use Rattle.image_tree.specs.Checks.{IsGoodSuper}
-use Rattle.image_tree.specs.Damage.{UpToLog}
+use Rattle.calls_on_blocks.specs.Vocabulary.{Super, sizes_of, SeatState, Phase, IsPlaced, IsSoundLog, IsGoodSuper, UpToLog}
 
 -- whatever it was doing, the disk of a log passes the checks up to the log's, where its sizes are those of a good superblock
 abbrev pub LogsLeaveGoodHeads : Type 0

@@ -1,15 +1,7 @@
 -- What a mounted file system's runs come to: one list of tree steps.
 use Rattle.std.specs.Prelude.{ℕ, List, None}
-use Rattle.fs_layout.specs.declared.superblock.Super.{Super}
-use Rattle.fs_layout.specs.Recovered.{sizes_of}
-use Rattle.plain_tree.specs.declared.call.Call.{Call}
-use Rattle.image_tree.specs.Trees.{tree_in}
-use Rattle.atomic_programs.specs.Calls.{Event, AllHonest, fresh, run}
-use Rattle.atomic_programs.specs.Joined.{Both}
-use Rattle.fs_machine.specs.LogPart.{Outside}
+use Rattle.calls_on_blocks.specs.Vocabulary.{Super, sizes_of, Call, tree_in, Event, AllHonest, fresh, run, Both, Outside, MoveMachine, HasOneHistory, NoneClimbs, Alone, IsMountable, first_world, mounted}
 use Rattle.inode_machine.specs.World as above
-use Rattle.inode_machine.specs.MoveCalls.{MoveMachine, HasOneHistory, NoneClimbs, Alone}
-use Rattle.inodes_on_blocks.specs.Mounted.{IsMountable, first_world, mounted}
 use Rattle.calls_on_blocks.specs.Layer.{World}
 use Rattle.calls_on_blocks.specs.Theory.{block_calls}
 

@@ -1,7 +1,5 @@
 -- The laws of the calls on blocks.
-use Rattle.fs_layout.specs.declared.superblock.Super.{Super}
-use Rattle.atomic_programs.specs.Calls.{Lawful}
-use Rattle.atomic_programs.specs.Plain.{IsCode}
+use Rattle.calls_on_blocks.specs.Vocabulary.{Super, Lawful, IsCode}
 use Rattle.calls_on_blocks.specs.Theory.{block_calls, block_code}
 
 -- Each call that is served is right below, whatever the others do.

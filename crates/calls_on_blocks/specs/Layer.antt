@@ -1,15 +1,8 @@
 -- The machine below as a layer under the calls: beside the blocks stands whom each hart's call reserves.
 use Rattle.std.specs.Prelude.{◌≡◌, ◌<◌, ℕ, Option, Some}
-use Rattle.fs_layout.specs.declared.superblock.Super.{Super}
-use Rattle.plain_tree.specs.Widths.{hart_count}
-use Rattle.atomic_programs.specs.Prog.{Did, did_in}
-use Rattle.atomic_programs.specs.Joined.{Lower}
-use Rattle.fs_machine.specs.LogPart.{Outside}
+use Rattle.calls_on_blocks.specs.Vocabulary.{Super, hart_count, Did, did_in, Lower, Outside, Op, Answer, Blocks, exec_blocks, below}
 use Rattle.fs_machine.specs.Steps as steps
-use Rattle.fs_machine.specs.Steps.{Op, Answer}
 use Rattle.inode_machine.specs.World as above
-use Rattle.inodes_on_blocks.specs.Below.{World as Blocks, exec as exec_blocks}
-use Rattle.inodes_on_blocks.specs.Lowering.{below}
 
 -- what all harts share; and of each hart the child that the call reserves which it began last
 pub record SharedState : Type 0 where

@@ -1,3 +1,4 @@
+pub mod Vocabulary
 pub mod Layer
 pub mod Theory
 pub mod Laws

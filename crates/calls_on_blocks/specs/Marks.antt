@@ -1,20 +1,7 @@
 -- The marks that a run on the blocks keeps beside its log: counts of its events.
 use Rattle.std.specs.Prelude.{ℕ, ◌+◌, Bool, true, false, if◌then◌else◌, List, [], ◌∷◌, length, Option, Some, None}
-use Rattle.fs_layout.specs.declared.superblock.Super.{Super}
-use Rattle.plain_tree.specs.declared.answer.Reply.{Reply}
-use Rattle.plain_tree.specs.declared.call.Call.{Call}
-use Rattle.group_log.specs.declared.commit.Progress.{Progress}
-use Rattle.group_log.specs.declared.commit.Progress.TheVariants.{Wrote, Ended, Failed}
-use Rattle.group_log.specs.declared.marks.Marks.{Marks}
-use Rattle.group_log.specs.declared.phase.Phase.{Phase}
-use Rattle.group_log.specs.declared.phase.Phase.TheVariants.{Open, Staging, Installing, Halted}
-use Rattle.group_log.specs.Phases.{is_point}
-use Rattle.group_log.specs.Stories.{after_leave, after_write}
-use Rattle.atomic_programs.specs.Prog.{Did, Ran, Stops, Ret, Do}
-use Rattle.atomic_programs.specs.Logic.{P}
-use Rattle.atomic_programs.specs.Calls.{Theory, Event, Start, Step, Run, State as StateOf, next}
-use Rattle.fs_machine.specs.LogPart.{LogPart, Outside, is_open}
-use Rattle.fs_machine.specs.Steps.{State, Op, Answer, Leave, Commit, exec}
+use Rattle.calls_on_blocks.specs.Vocabulary.{Super, Reply, Call, Progress, Wrote, Ended, Failed, Marks, Phase, Open, Staging, Installing, Halted, is_point, after_leave, after_write, Did, Ran, Stops, Ret, Do, P, Theory, Event, Start, Step, Run, State as StateOf, next, LogPart, Outside, is_open, Op, Answer, Leave, Commit, exec}
+use Rattle.fs_machine.specs.Steps.{State}
 use Rattle.calls_on_blocks.specs.Theory.{block_calls}
 
 -- the answer of a commit's write, by whether it was the last

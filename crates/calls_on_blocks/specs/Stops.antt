@@ -1,19 +1,6 @@
 -- A stop at any event of a file system that is mounted: what its disk is then.
 use Rattle.std.specs.Prelude.{◌≡◌, ℕ, ◌≤◌, List, ◌++◌, length, Some}
-use Rattle.fs_layout.specs.Recovered.{sizes_of}
-use Rattle.plain_tree.specs.declared.call.Call.{Call}
-use Rattle.plain_tree.specs.declared.trace.Placed.{Placed}
-use Rattle.plain_tree.specs.Tree.{Tree, tree_of}
-use Rattle.plain_tree.specs.Explains.{Chain, IsNamedPart}
-use Rattle.image_tree.specs.Damage.{IsWellFormed}
-use Rattle.image_tree.specs.Trees.{tree_in}
-use Rattle.group_log.specs.declared.marks.Marks.{Marks}
-use Rattle.group_log.specs.Stories.{no_marks, IsMarked}
-use Rattle.atomic_programs.specs.Calls.{Event, State, AllHonest, fresh, run}
-use Rattle.tree_laws.specs.MoveLaws.{before}
-use Rattle.fs_machine.specs.LogPart.{Outside}
-use Rattle.inode_machine.specs.MoveCalls.{HasOneHistory, NoneClimbs, Alone}
-use Rattle.inodes_on_blocks.specs.Mounted.{IsMountable}
+use Rattle.calls_on_blocks.specs.Vocabulary.{sizes_of, Call, Placed, Tree, tree_of, Chain, IsNamedPart, IsWellFormed, tree_in, Marks, no_marks, IsMarked, Event, State, AllHonest, fresh, run, before, Outside, HasOneHistory, NoneClimbs, Alone, IsMountable}
 use Rattle.calls_on_blocks.specs.History.{block_moves, first, RunsOn}
 use Rattle.calls_on_blocks.specs.Theory.{block_calls}
 use Rattle.calls_on_blocks.specs.Marks.{marks_after, noted, told_between}

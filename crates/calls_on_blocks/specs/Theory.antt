@@ -1,22 +1,9 @@
 -- The calls that are served, as a theory over the machine below: what every list of events makes of it.
 use Rattle.std.specs.Prelude.{ℕ, Bool, true, false, ◌&&◌, ◌||◌, ◌==◌, nat_lt, List, length, Option, Some, None, is_some, if◌then◌else◌}
-use Rattle.fs_layout.specs.declared.superblock.Super.{Super}
-use Rattle.plain_tree.specs.declared.call.Call.{Call}
-use Rattle.plain_tree.specs.declared.call.Call.TheVariants.{Open, Read, Write, Link, Unlink, Mkdir, Chdir, Dup, Fstat, Close, Inherit}
-use Rattle.plain_tree.specs.Tree.{put, any_below}
-use Rattle.plain_tree.specs.Widths.{hart_count, descriptor_count}
-use Rattle.atomic_programs.specs.Prog.{or_else}
-use Rattle.atomic_programs.specs.Calls.{Theory, Began, Refuses, Begins}
-use Rattle.atomic_programs.specs.Plain.{Code}
-use Rattle.atomic_programs.specs.Lowered.{Starts, lowered_calls, Part, code_part}
-use Rattle.fs_machine.specs.Tables.{TablesState, file_named}
-use Rattle.fs_machine.specs.declared.kind.Kind.{Kind}
+use Rattle.calls_on_blocks.specs.Vocabulary.{Super, Call, OpenCall as Open, Read, Write, Link, Unlink, Mkdir, Chdir, Dup, Fstat, Close, Inherit, put, any_below, hart_count, descriptor_count, or_else, Theory, Began, Refuses, Begins, Code, Starts, lowered_calls, Part, code_part, TablesState, file_named, Kind, is_at, Refusal, NoSuchHart, Busy, PathTooLong, ZeroInPath, NotEmptyHart, NotCovered, calls_that, is_covered, path_limit, has_zero, are_bytes, asks_wrong, handlers}
 use Rattle.fs_machine.specs.Steps as steps
 use Rattle.fs_machine.specs.Premises as premises
-use Rattle.inode_machine.specs.Exec.{is_at}
-use Rattle.inode_machine.specs.Theory.{Refusal, NoSuchHart, Busy, PathTooLong, ZeroInPath, NotEmptyHart, NotCovered, calls_that, is_covered, path_limit, has_zero, are_bytes, asks_wrong}
 use Rattle.calls_on_blocks.specs.Layer.{SharedState, exec_shared, layer, shared_of}
-use Rattle.inodes_on_blocks.specs.Programs.{handlers}
 
 -- the calls of which each operation's program is known to act at one moment: of write those of bytes, as all are that code has
 abbrev pub is_served : Call → Bool

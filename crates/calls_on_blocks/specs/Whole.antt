@@ -1,12 +1,6 @@
 -- What a stop leaves whole: transactions, and calls that have replied.
 use Rattle.std.specs.Prelude.{◌≡◌, ℕ, ◌+◌, ◌<◌, List, Some, slice_get, take}
-use Rattle.fs_layout.specs.Recovered.{sizes_of}
-use Rattle.plain_tree.specs.declared.answer.Reply.{Reply}
-use Rattle.plain_tree.specs.declared.call.Call.{Call}
-use Rattle.group_log.specs.Group.{joined}
-use Rattle.group_log.specs.Stories.{IsMarked}
-use Rattle.atomic_programs.specs.Calls.{Event, Step, State, DidEnd, makes}
-use Rattle.fs_machine.specs.LogPart.{Outside}
+use Rattle.calls_on_blocks.specs.Vocabulary.{sizes_of, Reply, Call, joined, IsMarked, Event, Step, State, DidEnd, makes, Outside}
 use Rattle.calls_on_blocks.specs.Theory.{block_calls}
 use Rattle.calls_on_blocks.specs.Marks.{log_at}
 use Rattle.calls_on_blocks.specs.Stops.{AreEventsOn, marks_at, state_after}

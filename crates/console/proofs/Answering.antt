@@ -1,16 +1,6 @@
 -- Lines that are typed, answered part by part.
-use Rattle.std.proofs.Common.{◌≡◌, ℕ, ◌+◌, List, [], ◌∷◌, Bool, true, false, Option, Some, None, IfSome, Result, Ok, Err, refl, ap, sym, ◌∙◌, subst}
-use Rattle.std.specs.Prelude.{OnOk, codes}
-use Rattle.std.specs.Io.KnownBytes.{Appends, append_known}
-use Rattle.script.specs.Asking.{Asked, Run, asked_in, typed_lines}
-use Rattle.script.specs.Said.{Line}
-use Rattle.console.specs.declared.fault.ConsoleFault.{ConsoleFault}
+use Rattle.console.proofs.Vocabulary.{◌≡◌, ℕ, ◌+◌, List, [], ◌∷◌, Bool, true, false, Option, Some, None, IfSome, Result, Ok, Err, refl, ap, sym, ◌∙◌, subst, OnOk, codes, Appends, append_known, Asked, Run, asked_in, typed_lines, Line, ConsoleFault, Behaviour, IsWritten, Runs, followed_by, gives, in_case, prints, takes_memory, RunOf, line, NotesOf, FailsUnread, Follows, IsFirst, PromptsAll, PromptsLine, ReadsLine, TellsBad, answers, answers_next, bad_text, does, does_or_tells, first_of, mark, prompts, prompts_all, reads, tells_bad}
 use Rattle.console.specs.declared.fault.ConsoleFault.TheVariants as faults
-use Rattle.console.specs.Behaviours.{Behaviour, IsWritten, Runs, followed_by, gives, in_case, prints, takes_memory}
-use Rattle.console.specs.Commands.{RunOf, line}
-use Rattle.console.specs.Notes.{NotesOf}
-use Rattle.console.specs.Runs.{FailsUnread}
-use Rattle.console.specs.Prompts.{Follows, IsFirst, PromptsAll, PromptsLine, ReadsLine, TellsBad, answers, answers_next, bad_text, does, does_or_tells, first_of, mark, prompts, prompts_all, reads, tells_bad}
 use Rattle.console.proofs.Behaving.{ends_in_fault, gives_at_once, goes_on as then, has_memory, printed_so, told_nothing}
 
 -- ---- parts

@@ -1,13 +1,6 @@
 -- One behaviour after another.
-use Rattle.std.proofs.Common.{◌≡◌, ℕ, List, [], ◌∷◌, ◌++◌, Bool, true, false, Option, Result, Ok, Err, refl, ap, sym, ◌∙◌, subst}
-use Rattle.std.specs.Prelude.{OnOk}
-use Rattle.std.specs.Io.KnownBytes.{Appends}
-use Rattle.console.specs.declared.fault.ConsoleFault.{ConsoleFault}
+use Rattle.console.proofs.Vocabulary.{◌≡◌, ℕ, List, [], ◌∷◌, ◌++◌, Bool, true, false, Option, Result, Ok, Err, refl, ap, sym, ◌∙◌, subst, OnOk, Appends, ConsoleFault, Behaviour, gives, in_case, followed_by, takes_memory, prints, IfTold, IsWritten, Told, Runs, NotesOf, all_noted, noted, EventOfCall, appends_nothing, appends_both}
 use Rattle.console.specs.declared.fault.ConsoleFault.TheVariants as faults
-use Rattle.console.specs.Behaviours.{Behaviour, gives, in_case, followed_by, takes_memory, prints, IfTold, IsWritten, Told, Runs}
-use Rattle.console.specs.Notes.{NotesOf, all_noted, noted}
-use Rattle.console.specs.Sessions.{EventOfCall}
-use Rattle.script.proofs.Appending.{appends_nothing, appends_both}
 
 noted_both : (n : NotesOf) (xs ys : List EventOfCall) → all_noted n (xs ++ ys) ≡ all_noted (all_noted n xs) ys
 unfolding all_noted

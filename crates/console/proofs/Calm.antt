@@ -1,28 +1,8 @@
 -- Over a device that never fails no call is stopped.
-use Rattle.std.proofs.Common.{◌≡◌, ℕ, zero, suc, Bool, true, false, List, [], ◌∷◌, Option, Some, None, Result, Ok, Err, sym, ap, subst, inl, inr}
-use Rattle.image_tree.specs.Damage.{IsWellFormed}
-use Rattle.hart_core.specs.declared.outcome.Stop.{Stop}
+use Rattle.console.proofs.Vocabulary.{◌≡◌, ℕ, zero, suc, Bool, true, false, List, [], ◌∷◌, Option, Some, None, Result, Ok, Err, sym, ap, subst, inl, inr, IsWellFormed, Stop, ConsoleFault, Flow, PlanOf, Until, Verb, Doing, Behaviour, GoesOn, gives, in_case, followed_by, takes_memory, prints, IsOrMemory, IsWritten, RunOf, IsPassed, acts, acts_as, all_harts, flow_of, goes_on, happens, in_steps, is_enough, joined, line, lines, settles, starts, tells_flow, tells_waits, to_end, turn, turns, up_to, called, left_to, SessionOf, EventOfCall, Happens, doing_at, verb_of, Mode, History, IsUntold, TellsHistory, WhereSet, JudgesImage, CourseOf, TellsLine, NotesOf, run_in, EndsSo, RunsReader, RunsScript}
 use Rattle.script.specs.Said as said
-use Rattle.console.specs.declared.fault.ConsoleFault.{ConsoleFault}
 use Rattle.console.specs.declared.fault.ConsoleFault.TheVariants as faults
-use Rattle.console.specs.declared.flow.Flow.{Flow}
 use Rattle.console.specs.declared.flow.Flow.TheVariants as flows
-use Rattle.console.specs.declared.plan.Plan.{Plan as PlanOf}
-use Rattle.console.specs.declared.plan.Until.{Until}
-use Rattle.console.specs.declared.verb.Verb.{Verb}
-use Rattle.console.specs.declared.doing.Doing.{Doing}
-use Rattle.console.specs.Behaviours.{Behaviour, GoesOn, gives, in_case, followed_by, takes_memory, prints, IsOrMemory, IsWritten}
-use Rattle.console.specs.Commands.{RunOf, IsPassed, acts, acts_as, all_harts, flow_of, goes_on, happens, in_steps, is_enough, joined, line, lines, settles, starts, tells_flow, tells_waits, to_end, turn, turns, up_to}
-use Rattle.console.specs.Lines.{called}
-use Rattle.console.specs.Queues.{left_to}
-use Rattle.console.specs.Sessions.{SessionOf, EventOfCall, Happens, doing_at}
-use Rattle.console.specs.Verbs.{verb_of}
-use Rattle.script.specs.declared.mode.Mode.{Mode}
-use Rattle.console.specs.Histories.{History, IsUntold, TellsHistory, WhereSet}
-use Rattle.console.specs.Images.{JudgesImage}
-use Rattle.console.specs.Lines.{CourseOf, TellsLine}
-use Rattle.console.specs.Notes.{NotesOf, run_in}
-use Rattle.console.specs.Runs.{EndsSo, RunsReader, RunsScript}
 
 -- ---- behaviours
 

@@ -1,23 +1,8 @@
 -- What a script does, and what typed lines do, is its events, one after the other.
-use Rattle.std.proofs.Common.{◌≡◌, ℕ, zero, suc, ◌+◌, Bool, true, false, List, [], ◌∷◌, ◌++◌, Option, Some, None, Result, Ok, Err, refl, sym, ap, subst}
-use Rattle.std.specs.Prelude.{codes}
-use Rattle.script.specs.Asking.{Asked, Nothing, Help, State, Quit, Run, asked_in}
+use Rattle.console.proofs.Vocabulary.{◌≡◌, ℕ, zero, suc, ◌+◌, Bool, true, false, List, [], ◌∷◌, ◌++◌, Option, Some, None, Result, Ok, Err, refl, sym, ap, subst, codes, Asked, Nothing, Help, Quit, Run, asked_in, ConsoleFault, Flow, PlanOf, Until, Verb, Doing, Event, Behaviour, GoesOn, gives, in_case, followed_by, takes_memory, prints, RunOf, acts, acts_as, all_harts, goes_on, happens, in_steps, is_enough, joined, line, lines, settles, starts, tells_flow, tells_waits, to_end, turn, turns, up_to, called, answers, answers_next, bad_text, does, does_or_tells, mark, prompts, prompts_all, reads, state_text, tells_bad, left_to, SessionOf, EventOfCall, Happens, doing_at, verb_of}
+use Rattle.script.specs.Asking.{State}
 use Rattle.script.specs.Said as said
-use Rattle.console.specs.declared.fault.ConsoleFault.{ConsoleFault}
-use Rattle.console.specs.declared.flow.Flow.{Flow}
 use Rattle.console.specs.declared.flow.Flow.TheVariants as flows
-use Rattle.console.specs.declared.plan.Plan.{Plan as PlanOf}
-use Rattle.console.specs.declared.plan.Until.{Until}
-use Rattle.console.specs.declared.verb.Verb.{Verb}
-use Rattle.console.specs.declared.doing.Doing.{Doing}
-use Rattle.hart_core.specs.declared.events.Event.{Event}
-use Rattle.console.specs.Behaviours.{Behaviour, GoesOn, gives, in_case, followed_by, takes_memory, prints}
-use Rattle.console.specs.Commands.{RunOf, acts, acts_as, all_harts, goes_on, happens, in_steps, is_enough, joined, line, lines, settles, starts, tells_flow, tells_waits, to_end, turn, turns, up_to}
-use Rattle.console.specs.Lines.{called}
-use Rattle.console.specs.Prompts.{answers, answers_next, bad_text, does, does_or_tells, mark, prompts, prompts_all, reads, state_text, tells_bad}
-use Rattle.console.specs.Queues.{left_to}
-use Rattle.console.specs.Sessions.{SessionOf, EventOfCall, Happens, doing_at}
-use Rattle.console.specs.Verbs.{verb_of}
 
 module _ {D : Type 0} (contents : D → List (List ℕ)) (failures : D → ℕ) where
   -- these events, one after the other, make one file system of another

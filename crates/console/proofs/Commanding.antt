@@ -1,31 +1,9 @@
 -- What lines do, part by part.
-use Rattle.std.proofs.Common.{◌≡◌, ℕ, zero, suc, ◌+◌, ◌<◌, ◌≤◌, List, [], ◌∷◌, length, drop, get_or, set, true, false, Option, Some, None, Result, Ok, Err, refl, ap, sym, ◌∙◌, subst}
-use Rattle.std.proofs.lemmas.List.{at_drop_more, at_drop_all}
-use Rattle.std.specs.Io.KnownBytes.{Appends}
-use Rattle.hart_core.specs.declared.events.Event.{Event}
+use Rattle.console.proofs.Vocabulary.{◌≡◌, ℕ, zero, suc, ◌+◌, ◌<◌, ◌≤◌, List, [], ◌∷◌, length, drop, get_or, set, true, false, Option, Some, None, Result, Ok, Err, refl, ap, sym, ◌∙◌, subst, at_drop_more, at_drop_all, Appends, Event, Came, Call, Kind, Upto, End, All, ConsoleFault, Flow, What, Rests, Moves, PlanOf as Plan, Until, Verb, Doing, gives, followed_by, takes_memory, prints, IfTold, IsWritten, Told, Runs, RunOf, IsPassed, acts, acts_as, all_harts, goes_on, happens, in_steps, is_enough, joined, line, lines, settles, starts, state, tells_flow, tells_waits, to_end, turn, turns, up_to, wait_text, called, KeptRun, NotesOf, all_noted, copy_for, what_of, with_kept, with_note, with_what, Left, TakesNext, left_to, SessionOf, Happens, doing_at, hart_in, told_of, verb_of}
 use Rattle.hart_core.specs.declared.events.Event.TheVariants as event
-use Rattle.hart_core.specs.declared.events.Came.{Came}
-use Rattle.plain_tree.specs.declared.call.Call.{Call}
-use Rattle.fs_machine.specs.declared.kind.Kind.{Kind}
 use Rattle.script.specs.Said as said
-use Rattle.script.specs.Said.{Start, Run, Step, Upto, End, All}
-use Rattle.console.specs.declared.fault.ConsoleFault.{ConsoleFault}
+use Rattle.script.specs.Said.{Start, Run, Step}
 use Rattle.console.specs.declared.fault.ConsoleFault.TheVariants as faults
-use Rattle.console.specs.declared.flow.Flow.{Flow}
-use Rattle.console.specs.declared.notes.What.{What}
-use Rattle.console.specs.declared.flow.Flow.TheVariants.{Rests, Moves}
-use Rattle.console.specs.declared.plan.Plan.{Plan}
-use Rattle.console.specs.declared.plan.Until.{Until}
-use Rattle.console.specs.declared.verb.Verb.{Verb}
-use Rattle.console.specs.declared.doing.Doing.{Doing}
-use Rattle.console.specs.Behaviours.{gives, followed_by, takes_memory, prints, IfTold, IsWritten, Told, Runs}
-use Rattle.console.specs.Commands.{RunOf, IsPassed, acts, acts_as, all_harts, goes_on, happens, in_steps, is_enough, joined, line, lines, settles, starts, state, tells_flow, tells_waits, to_end, turn, turns, up_to, wait_text}
-use Rattle.console.specs.Lines.{called}
-use Rattle.console.specs.Notes.{KeptRun, NotesOf, all_noted, copy_for, what_of, with_kept, with_note, with_what}
-use Rattle.console.specs.Queues.{Left, TakesNext, left_to}
-use Rattle.console.specs.Sessions.{SessionOf, Happens, doing_at, hart_in}
-use Rattle.console.specs.Told.{told_of}
-use Rattle.console.specs.Verbs.{verb_of}
 use Rattle.console.proofs.Behaving.{ends_in_fault, gives_at_once, goes_on as then, has_memory, if_told_both, if_told_map, in_other_case, in_this_case, no_memory, printed_so}
 
 module _ {D : Type 0} (contents : D → List (List ℕ)) (failures : D → ℕ) where

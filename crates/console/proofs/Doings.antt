@@ -1,9 +1,5 @@
 -- What a hart's call has done after an event.
-use Rattle.std.proofs.Common.{◌≡◌, ℕ, List, Option, set, ap, ◌∙◌}
-use Rattle.hart_core.specs.declared.events.Came.{Came}
-use Rattle.console.specs.declared.doing.Doing.{Doing}
-use Rattle.console.specs.declared.verb.Verb.{Verb}
-use Rattle.console.specs.Sessions.{doing_at, done_after}
+use Rattle.console.proofs.Vocabulary.{◌≡◌, ℕ, List, Option, set, ap, ◌∙◌, Came, Doing, Verb, doing_at, done_after}
 
 pub doing_set : (before after : List (Option Doing)) (hart at : ℕ) (verb : Verb) (came : Came) (was next : Option Doing) → after ≡ set before at next → at ≡ hart → was ≡ doing_at at before → next ≡ done_after verb came was
     → after ≡ set before hart (done_after verb came (doing_at hart before))

@@ -1,29 +1,9 @@
 -- The device has failed once more where an operation stops.
-use Rattle.std.proofs.Common.{◌≡◌, ℕ, ◌+◌, min, Bool, true, false, List, Option, Some, None, refl}
-use Rattle.block_device.specs.Blocks.{most_faults}
-use Rattle.buffer_cache.specs.Getting.{get_of}
-use Rattle.buffer_cache.specs.Seats.{SeatState}
-use Rattle.buffer_cache.specs.declared.got.Got.{Got}
+use Rattle.console.proofs.Vocabulary.{◌≡◌, ℕ, ◌+◌, min, Bool, true, false, List, Option, Some, None, refl, most_faults, get_of, SeatState, Got, joined_count as joined, limit_of, turn_is_out, join_waits, SlotState, GuardState, lock_of, Did, Waits, Ran, Stops, Dinode, Inode, NewFile, OpenFile, RefusedState as Refused, Want, TablesState, file_named, place_named, place_of, Outside, Passes, Fails, got_by, join_if, read_block, commit_if, write_log, State, Op, Join, JoinToWrite, Leave, Get, Read, Put, Commit, Lock, LockFile, LockOpen, Unlock, Settle, Up, Claim, Down, CheckFile, TakePlace, TakeDescriptor, Double, Close, Give, Reply, Number, Directory, Held, Walked, Freed, exec, in_log, in_tables, joins, join_unless, lock_open, with_open, claims, claim_first}
 use Rattle.buffer_cache.specs.declared.got.Got.TheVariants as got
-use Rattle.group_log.specs.Group.{joined}
-use Rattle.group_log.specs.Soundness.{limit_of}
-use Rattle.group_log.specs.Turns.{turn_is_out}
-use Rattle.group_log.specs.Waiting.{join_waits}
-use Rattle.sleep_lock.specs.SleepLock.{SlotState, GuardState}
-use Rattle.sleep_lock.specs.Row.{lock_of}
-use Rattle.atomic_programs.specs.Prog.{Did, Waits, Ran, Stops}
-use Rattle.fs_layout.specs.declared.inode.Dinode.{Dinode}
-use Rattle.fs_machine.specs.declared.entries.Inode.{Inode}
-use Rattle.fs_machine.specs.declared.files.NewFile.{NewFile}
-use Rattle.fs_machine.specs.declared.files.OpenFile.{OpenFile}
-use Rattle.fs_machine.specs.declared.files.Refused.{Refused}
-use Rattle.fs_machine.specs.declared.files.Want.{Want}
 use Rattle.fs_machine.specs.declared.files.Want.TheVariants as want
-use Rattle.fs_machine.specs.Tables.{TablesState, file_named, place_named, place_of}
 use Rattle.fs_machine.specs.Inodes as inodes
 use Rattle.fs_machine.specs.Files as files
-use Rattle.fs_machine.specs.LogPart.{Outside, Passes, Fails, got_by, join_if, read_block, commit_if, write_log}
-use Rattle.fs_machine.specs.Steps.{State, Op, Join, JoinToWrite, Leave, Get, Read, Put, Commit, Lock, LockFile, LockOpen, Unlock, Settle, Up, Claim, Down, CheckFile, TakePlace, TakeDescriptor, Double, Close, Give, Reply, Number, Directory, Held, Walked, Freed, exec, in_log, in_tables, joins, join_unless, lock_open, with_open, claims, claim_first}
 
 -- ---- no step on the tables stops
 

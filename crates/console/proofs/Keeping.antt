@@ -1,21 +1,6 @@
 -- What tells the history of a run in one way tells it in another, of a run that was made and kept: and so on an image.
-use Rattle.std.proofs.Common.{◌≡◌, ℕ, Bool, true, false, List, Option, Result, Ok, Err, refl, sym, subst, inl, inr}
-use Rattle.block_device.specs.Blocks.{blocks_of}
-use Rattle.image_tree.specs.Trees.{tree_in}
-use Rattle.plain_tree.specs.TreeData.{TreeData}
-use Rattle.hart_core.specs.Runs.{HasHistory}
-use Rattle.explain.specs.Explained.{RunOn, StartsOn, never}
-use Rattle.explain.proofs.Running.{found_run}
-use Rattle.script.specs.declared.mode.Mode.{Mode}
-use Rattle.console.specs.declared.fault.ConsoleFault.{ConsoleFault}
+use Rattle.console.proofs.Vocabulary.{◌≡◌, ℕ, Bool, true, false, List, Option, Result, Ok, Err, refl, sym, subst, inl, inr, blocks_of, tree_in, TreeData, HasHistory, RunOn, StartsOn, never, found_run, Mode, ConsoleFault, IfTold, Told, History, TellsHistory, WhereSet, history_from, history_of, history_on, CourseOf, KeptRun, NotesOf, all_noted, no_notes, none_kept, run_in, PromptsReader, EndsSo, PrintsAll, RunsReader, RunsScript, EventOfCall, SessionOf}
 use Rattle.console.specs.declared.fault.ConsoleFault.TheVariants as faults
-use Rattle.console.specs.Behaviours.{IfTold, Told}
-use Rattle.console.specs.Histories.{History, TellsHistory, WhereSet, history_from, history_of, history_on}
-use Rattle.console.specs.Lines.{CourseOf}
-use Rattle.console.specs.Notes.{KeptRun, NotesOf, all_noted, no_notes, none_kept, run_in}
-use Rattle.console.specs.Prompts.{PromptsReader}
-use Rattle.console.specs.Runs.{EndsSo, PrintsAll, RunsReader, RunsScript}
-use Rattle.console.specs.Sessions.{EventOfCall, SessionOf}
 use Rattle.console.proofs.Chaining.{Chain, lines_chain, prompts_all_chain}
 use Rattle.console.proofs.Noting.{IsKept, events_kept, kept_first, kept_history}
 

@@ -1,3 +1,5 @@
+pub mod Lemmas
+pub mod Vocabulary
 pub mod Printing
 pub mod Behaving
 pub mod Commanding

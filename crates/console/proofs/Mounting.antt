@@ -1,33 +1,9 @@
 -- A disk in memory is mounted, and what is run on it; or it isn't mounted.
-use Rattle.std.proofs.Common.{◌≡◌, ℕ, arith, Bool, true, false, List, [], Option, None, Result, Err, replicate, refl, sym, ap, ◌∙◌, subst, inl, inr}
-use Rattle.std.specs.Prelude.{Vec}
-use Rattle.std.specs.declared.alloc.Global.{Global}
-use Rattle.block_device.specs.Blocks.{blocks_of}
-use Rattle.fs_layout.specs.Recovered.{sizes_of}
-use Rattle.buffer_cache.specs.Limits.{buffer_count, hart_count}
-use Rattle.buffer_cache.specs.Seats.{unused_from}
+use Rattle.console.proofs.Vocabulary.{◌≡◌, ℕ, arith, Bool, true, false, List, [], Option, None, Result, Err, replicate, refl, sym, ap, ◌∙◌, subst, inl, inr, Vec, Global, blocks_of, sizes_of, buffer_count, hart_count, unused_from, IsPlaced, IsWellFormed, JudgesFault, fault_count_of, tree_in, MountFault, TreeData, IsSettled, HartsOf, HasHistory, never, Mode, ConsoleFault, of_mount, WhereSet, history_from, history_of, JudgesImage, RefusesDisk, bytes_for, KeptRun, PromptsImage, PromptsOn, PromptsReader, RunsReader, HandsOut, IsMountedOn, IsUntaken, RunsImage, RunsOn, TakesNoImage, SessionOf}
 use Rattle.group_log.specs.declared.phase.Phase.TheVariants.{Open}
-use Rattle.group_log.specs.Soundness.{IsPlaced}
-use Rattle.image_tree.specs.Damage.{IsWellFormed, JudgesFault, fault_count_of}
-use Rattle.image_tree.specs.Trees.{tree_in}
-use Rattle.image_tree.specs.declared.fault.MountFault.{MountFault}
 use Rattle.image_tree.specs.declared.fault.MountFault.TheVariants as mounts
-use Rattle.plain_tree.specs.TreeData.{TreeData}
-use Rattle.hart_core.specs.Mounting.{IsSettled, Rests}
-use Rattle.hart_core.specs.Harts.{HartsOf}
-use Rattle.hart_core.specs.Runs.{HasHistory}
-use Rattle.explain.specs.Explained.{never}
-use Rattle.script.specs.declared.mode.Mode.{Mode}
-use Rattle.console.specs.declared.fault.ConsoleFault.{ConsoleFault}
+use Rattle.hart_core.specs.Mounting.{Rests}
 use Rattle.console.specs.declared.fault.ConsoleFault.TheVariants as faults
-use Rattle.console.specs.Faults.{of_mount}
-use Rattle.console.specs.Histories.{WhereSet, history_from, history_of}
-use Rattle.console.specs.Images.{JudgesImage, RefusesDisk, bytes_for}
-use Rattle.console.specs.Notes.{KeptRun}
-use Rattle.console.specs.Prompts.{PromptsImage, PromptsOn, PromptsReader}
-use Rattle.console.specs.Runs.{RunsReader}
-use Rattle.console.specs.Scripts.{HandsOut, IsMountedOn, IsUntaken, RunsImage, RunsOn, TakesNoImage}
-use Rattle.console.specs.Sessions.{SessionOf}
 use Rattle.console.proofs.Keeping.{history_is, prompts_again, reader_again}
 
 -- ---- a disk that isn't mounted

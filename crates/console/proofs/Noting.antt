@@ -1,23 +1,7 @@
 -- What notes keep of events is a run of them: a step without a call, which isn't noted, changes nothing.
-use Rattle.std.proofs.Common.{◌≡◌, ℕ, Bool, true, false, List, [], ◌∷◌, ◌++◌, Option, Some, None, refl, sym, ◌∙◌, ap, subst}
-use Rattle.fs_layout.specs.declared.superblock.Super.{Super}
-use Rattle.plain_tree.specs.declared.call.Call.{Call}
-use Rattle.atomic_programs.specs.Prog.{Ret, Do, Did, Waits, Ran, Stops}
-use Rattle.atomic_programs.specs.Calls.{Theory, Began, Refuses, Begins, Event as EventOf, Start, Step, Outcome as OutcomeOf, Started, Refused, WasIdle, DidWait, DidRun, DidEnd, DidStop, WasStopped, with_answer}
-use Rattle.atomic_programs.specs.Plain.{Code, Plain, PlainMade, UnmarkedProgram, plain_makes, plain_start, plain_begun, plain_step, plain_unless, plain_prog, plain_tried, plain_moved}
-use Rattle.fs_machine.specs.LogPart.{Outside}
-use Rattle.calls_on_blocks.specs.Theory.{block_calls, block_code}
-use Rattle.hart_core.specs.declared.events.Event.{Event}
-use Rattle.hart_core.specs.declared.events.Came.{Came}
+use Rattle.console.proofs.Vocabulary.{◌≡◌, ℕ, Bool, true, false, List, [], ◌∷◌, ◌++◌, Option, Some, None, refl, sym, ◌∙◌, ap, subst, Super, Call, Ret, Do, Did, Waits, Ran, Stops, Theory, Began, Refuses, Begins, EventOf, Start, Step, OutcomeOf, Started, Refused, WasIdle, DidWait, DidRun, DidEnd, DidStop, WasStopped, with_answer, Code, Plain, PlainMade, UnmarkedProgram, plain_makes, plain_start, plain_begun, plain_step, plain_unless, plain_prog, plain_tried, plain_moved, Outside, block_calls, block_code, Event, Came, event_of, came_of, said_of, HartsOf, shared_of, HasHistory, Answers, Makes, calls_of, history_more, no_history, KeptRun, NotesOf, all_noted, none_kept, noted, run_in, what_of, with_kept, with_what, SessionOf, EventOfCall, Happens, hart_in}
 use Rattle.hart_core.specs.declared.events.Came.TheVariants as came
 use Rattle.hart_core.specs.declared.outcome.Outcome.TheVariants as outcome
-use Rattle.hart_core.specs.Events.{event_of, came_of, said_of}
-use Rattle.hart_core.specs.Harts.{HartsOf, shared_of}
-use Rattle.hart_core.specs.Runs.{HasHistory}
-use Rattle.hart_core.specs.Worlds.{Answers, Makes, calls_of}
-use Rattle.hart_core.proofs.Histories.{history_more, no_history}
-use Rattle.console.specs.Notes.{KeptRun, NotesOf, all_noted, none_kept, noted, run_in, what_of, with_kept, with_what}
-use Rattle.console.specs.Sessions.{SessionOf, EventOfCall, Happens, hart_in}
 use Rattle.console.proofs.Chaining.{Chain}
 
 -- ---- a step without a call

@@ -1,16 +1,6 @@
 -- What a writer holds after one part and then another.
-use Rattle.std.proofs.Common.{◌≡◌, ◌<◌, ◌≤◌, ◌+◌, ℕ, List, [], ◌∷◌, ◌++◌, take, drop, get_or, length, ◌*◌, min, arith, replicate, Option, Result, Ok, Err, ap, sym, ◌∙◌, subst}
-use Rattle.std.proofs.lemmas.List.{at_drop_all, at_drop_more, take-replicate}
-use Rattle.std.specs.Prelude.{OnOk}
-use Rattle.std.specs.Io.KnownBytes.{Appends}
-use Rattle.console.specs.declared.notes.Note.{Note}
+use Rattle.console.proofs.Vocabulary.{◌≡◌, ◌<◌, ◌≤◌, ◌+◌, ℕ, List, [], ◌∷◌, ◌++◌, take, drop, get_or, length, ◌*◌, min, arith, replicate, Option, Result, Ok, Err, ap, sym, ◌∙◌, subst, at_drop_all, at_drop_more, take-replicate, OnOk, Appends, Note, Open, Placed, entries_text, last_line, last_text, timeline_line, timeline_rows, entry_line, appends_nothing, appends_both}
 use Rattle.console.specs.declared.notes.What.TheVariants.{Start}
-use Rattle.console.specs.declared.verb.Verb.TheVariants.{Open}
-use Rattle.plain_tree.specs.declared.trace.Placed.{Placed}
-use Rattle.console.specs.Histories.{entries_text}
-use Rattle.console.specs.Events.{last_line, last_text, timeline_line, timeline_rows}
-use Rattle.script.specs.Entries.{entry_line}
-use Rattle.script.proofs.Appending.{appends_nothing, appends_both}
 
 pub tells_four : {E : Type 0} (known a b c end : Option (List ℕ)) (result : Result (Unit {0}) E) (ws xs ys zs : List ℕ) → Appends known a ws → Appends a b xs → Appends b c ys → OnOk result (Appends c end zs) → OnOk result (Appends known end (ws ++ xs ++ ys ++ zs))
 tells_four known a b c end (Ok u) ws xs ys zs one two three four =

@@ -1,18 +1,5 @@
 -- Lines that were typed on a file system that is mounted.
-use Rattle.std.proofs.Common.{◌≡◌, ℕ, ◌+◌, ◌<◌, ◌≤◌, List, ◌∷◌, length, drop, get_or, Option, Result, ap, sym, ◌∙◌, subst, inl}
-use Rattle.std.proofs.lemmas.List.{at_drop_all, at_drop_more}
-use Rattle.std.specs.Io.KnownBytes.{Appends}
-use Rattle.script.specs.declared.mode.Mode.{Mode}
-use Rattle.script.proofs.Appending.{appends_nothing, appends_both}
-use Rattle.console.specs.declared.doing.Doing.{Doing}
-use Rattle.console.specs.declared.fault.ConsoleFault.{ConsoleFault}
-use Rattle.console.specs.Commands.{state}
-use Rattle.console.specs.Histories.{History}
-use Rattle.console.specs.Notes.{NotesOf, no_notes}
-use Rattle.console.specs.Prompts.{PromptsAll, PromptsReader, calls_text, doing_text}
-use Rattle.console.specs.Queues.{Left, none_left}
-use Rattle.console.specs.Runs.{EndsSo}
-use Rattle.console.specs.Sessions.{SessionOf, doing_at}
+use Rattle.console.proofs.Vocabulary.{◌≡◌, ℕ, ◌+◌, ◌<◌, ◌≤◌, List, ◌∷◌, length, drop, get_or, Option, Result, ap, sym, ◌∙◌, subst, inl, at_drop_all, at_drop_more, Appends, Mode, appends_nothing, appends_both, Doing, ConsoleFault, state, History, NotesOf, no_notes, PromptsAll, PromptsReader, calls_text, doing_text, Left, none_left, EndsSo, SessionOf, doing_at}
 
 -- ---- calls under way
 

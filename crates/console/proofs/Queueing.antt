@@ -1,15 +1,6 @@
 -- Queues of calls.
-use Rattle.std.proofs.Common.{◌≡◌, ℕ, ◌+◌, ◌-◌, ◌<◌, ◌≤◌, List, [], ◌∷◌, ◌++◌, length, drop, get_or, set, map, Option, Some, None, Result, Ok, Err, ap, sym, ◌∙◌, arith, length-drop}
-use Rattle.std.specs.Prelude.{option_map}
-use Rattle.std.specs.Option.{option_to_list}
-use Rattle.std.proofs.lemmas.List.{at_drop_all, at_drop_more, drop-map, map-append, map-set, get_or-map, get_or_past, nil_from_length, length-map}
-use Rattle.std.proofs.Math.Seq.{map-set_same}
+use Rattle.console.proofs.Vocabulary.{◌≡◌, ℕ, ◌+◌, ◌-◌, ◌<◌, ◌≤◌, List, [], ◌∷◌, ◌++◌, length, drop, get_or, set, map, Option, Some, None, Result, Ok, Err, ap, sym, ◌∙◌, arith, length-drop, option_map, option_to_list, at_drop_all, at_drop_more, drop-map, map-append, map-set, get_or-map, get_or_past, nil_from_length, length-map, map-set_same, ScriptLine, line_said, numbered, Memory, FailsTo, Left, TakesNext, left_to, or_line, queued, started_in, with_last, with_start}
 use Rattle.script.specs.Said as said
-use Rattle.script.specs.declared.command.ScriptLine.{ScriptLine}
-use Rattle.script.specs.Said.{line_said, numbered}
-use Rattle.console.specs.declared.fault.ConsoleFault.TheVariants.{Memory}
-use Rattle.console.specs.Lines.{FailsTo}
-use Rattle.console.specs.Queues.{Left, TakesNext, left_to, or_line, queued, started_in, with_last, with_start}
 
 -- nothing is there where the first was sought in vain
 none_there : {X : Type 0} (xs ys : List X) → xs ≡ ys → ys ≡ drop 1 xs → xs ≡ []

@@ -1,19 +1,6 @@
 -- A script that was run, and why it had no end.
-use Rattle.std.proofs.Common.{◌≡◌, ℕ, ◌<◌, min, arith, List, [], length, take, Option, Some, None, option_map, Result, Ok, Err, refl, ap, sym, ◌∙◌, subst, inl, inr}
-use Rattle.std.proofs.lemmas.List.{take_all, length-take}
-use Rattle.std.specs.Prelude.{IfSome}
-use Rattle.hart_core.specs.declared.outcome.Stop.{Stop}
-use Rattle.console.specs.declared.fault.ConsoleFault.{ConsoleFault}
+use Rattle.console.proofs.Vocabulary.{◌≡◌, ℕ, ◌<◌, min, arith, List, [], length, take, Option, Some, None, option_map, Result, Ok, Err, refl, ap, sym, ◌∙◌, subst, inl, inr, take_all, length-take, IfSome, Stop, ConsoleFault, Mode, Runs, lines, state, History, CourseOf, FailsTo, IsMemory, script_course, NotesOf, no_notes, Left, EndsOn, EndsSo, FailsUnread, PrintsAll, RunsCourse, RunsReader, RunsScript, or_stopped, SessionOf}
 use Rattle.console.specs.declared.fault.ConsoleFault.TheVariants as faults
-use Rattle.script.specs.declared.mode.Mode.{Mode}
-use Rattle.console.specs.Behaviours.{Runs}
-use Rattle.console.specs.Commands.{lines, state}
-use Rattle.console.specs.Histories.{History}
-use Rattle.console.specs.Lines.{CourseOf, FailsTo, IsMemory, script_course}
-use Rattle.console.specs.Notes.{NotesOf, no_notes}
-use Rattle.console.specs.Queues.{Left}
-use Rattle.console.specs.Runs.{EndsOn, EndsSo, FailsUnread, PrintsAll, RunsCourse, RunsReader, RunsScript, or_stopped}
-use Rattle.console.specs.Sessions.{SessionOf}
 
 any_text : (script : Option (List ℕ)) → (text : List ℕ) × IfSome script (λ bytes. text ≡ bytes)
 any_text None = ([], tt)

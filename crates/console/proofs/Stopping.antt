@@ -1,28 +1,10 @@
 -- Over a device that never fails no event is a stop.
-use Rattle.std.proofs.Common.{◌≡◌, ℕ, ◌+◌, min, arith, Bool, true, false, List, Option, Some, None, Err, subst}
-use Rattle.block_device.specs.Blocks.{most_faults}
-use Rattle.fs_layout.specs.declared.superblock.Super.{Super}
+use Rattle.console.proofs.Vocabulary.{◌≡◌, ℕ, ◌+◌, min, arith, Bool, true, false, List, Option, Some, None, Err, subst, most_faults, Super, Call, Stop, Ret, Do, Did, Waits, Ran, Stops, did_in, EventOf as Event, Start, Step, Began, Refuses, Begins, OutcomeOf as Outcome, Started, Refused, WasIdle, DidWait, DidRun, DidEnd, DidStop, WasStopped, Plain, PlainMade, UnmarkedProgram, plain_makes, plain_start, plain_begun, plain_step, plain_unless, plain_prog, plain_tried, plain_moved, Kind, Outside, State, Op, Answer, exec, kind_of, Refusal, SharedState, exec_shared, block_calls, block_code, Came, came_of, calls_of, flow_of, SessionOf, EventOfCall, Happens}
 use Rattle.plain_tree.specs.declared.answer.Reply.{Reply}
-use Rattle.plain_tree.specs.declared.call.Call.{Call}
-use Rattle.hart_core.specs.declared.outcome.Stop.{Stop}
-use Rattle.atomic_programs.specs.Prog.{Ret, Do, Did, Waits, Ran, Stops, did_in}
-use Rattle.atomic_programs.specs.Calls.{Event, Start, Step, Began, Refuses, Begins, Outcome, Started, Refused, WasIdle, DidWait, DidRun, DidEnd, DidStop, WasStopped}
-use Rattle.atomic_programs.specs.Plain.{Plain, PlainMade, UnmarkedProgram, plain_makes, plain_start, plain_begun, plain_step, plain_unless, plain_prog, plain_tried, plain_moved}
-use Rattle.fs_machine.specs.declared.kind.Kind.{Kind}
-use Rattle.fs_machine.specs.LogPart.{Outside}
-use Rattle.fs_machine.specs.Steps.{State, Op, Answer, exec, kind_of}
-use Rattle.inode_machine.specs.Theory.{Refusal}
-use Rattle.calls_on_blocks.specs.Layer.{SharedState, exec_shared}
-use Rattle.calls_on_blocks.specs.Theory.{block_calls, block_code}
-use Rattle.hart_core.specs.declared.events.Came.{Came}
 use Rattle.hart_core.specs.declared.events.Came.TheVariants as came
-use Rattle.hart_core.specs.Events.{came_of}
 use Rattle.hart_core.specs.declared.outcome.Outcome.TheVariants as outcome
 use Rattle.hart_core.specs.declared.outcome.Stop.TheVariants as stops
-use Rattle.hart_core.specs.Worlds.{calls_of}
 use Rattle.console.specs.declared.fault.ConsoleFault.TheVariants as faults
-use Rattle.console.specs.Commands.{flow_of}
-use Rattle.console.specs.Sessions.{SessionOf, EventOfCall, Happens}
 use Rattle.console.proofs.Failing.{Raises, exec_raises}
 
 -- ---- an event

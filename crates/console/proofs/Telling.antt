@@ -1,21 +1,7 @@
 -- A history is told, or why there is none.
-use Rattle.std.proofs.Common.{◌≡◌, ℕ, List, Option, Result, Ok, Err, refl, subst, inl, inr}
-use Rattle.std.specs.Prelude.{OnOk}
-use Rattle.std.specs.Io.KnownBytes.{Appends}
-use Rattle.hart_core.specs.declared.events.Came.{Came}
-use Rattle.hart_core.specs.declared.events.Event.{Event}
-use Rattle.hart_core.specs.Runs.{trace_in}
-use Rattle.plain_tree.specs.declared.trace.Placed.{Placed}
-use Rattle.plain_tree.specs.Explains.{Explains}
-use Rattle.plain_tree.specs.TreeData.{TreeData}
-use Rattle.explain.specs.Explained.{ExplainsRun, IsRefusedFor, IsRefusedSo}
-use Rattle.explain.specs.declared.refused.ExplainRefused.{ExplainRefused}
+use Rattle.console.proofs.Vocabulary.{◌≡◌, ℕ, List, Option, Result, Ok, Err, refl, subst, inl, inr, OnOk, Appends, Came, Event, trace_in, Placed, Explains, TreeData, ExplainsRun, IsRefusedFor, IsRefusedSo, ExplainRefused, ConsoleFault, IsWritten, HasLine, History, TellsHistory, TellsWhy, entries_text, history_from, history_on, why_line, KeptRun}
 use Rattle.explain.specs.declared.refused.ExplainRefused.TheVariants as refused
-use Rattle.console.specs.declared.fault.ConsoleFault.{ConsoleFault}
 use Rattle.console.specs.declared.fault.ConsoleFault.TheVariants as faults
-use Rattle.console.specs.Behaviours.{IsWritten}
-use Rattle.console.specs.Histories.{HasLine, History, TellsHistory, TellsWhy, entries_text, history_from, history_on, why_line}
-use Rattle.console.specs.Notes.{KeptRun}
 
 has_line : (why : ExplainRefused) → (why ≡ refused.NoMemory → ⊥) → HasLine why
 has_line refused.NoMemory other = absurd (other refl)

@@ -1,10 +1,5 @@
 -- The first of the lines that are typed is what is read up to a byte 10.
-use Rattle.std.proofs.lemmas.Bool.{eqb-true}
-use Rattle.std.proofs.Common.{◌≡◌, ℕ, Bool, true, false, eqb, eq-eqb, List, [], ◌∷◌, ◌++◌, cond, length, Option, Some, None, IfSome, refl, ap, sym, ◌∙◌, subst, arith, length-append}
-use Rattle.std.specs.Io.KnownBytes.{IsAtEnd}
-use Rattle.std.specs.Io.BufRead.{take_through, drop_through, DropsThrough}
-use Rattle.script.specs.Asking.{typed_lines, with_byte}
-use Rattle.console.specs.Prompts.{IsFirst}
+use Rattle.console.proofs.Vocabulary.{eqb-true, ◌≡◌, ℕ, Bool, true, false, eqb, eq-eqb, List, [], ◌∷◌, ◌++◌, cond, length, Option, Some, None, IfSome, refl, ap, sym, ◌∙◌, subst, arith, length-append, IsAtEnd, take_through, drop_through, DropsThrough, typed_lines, with_byte, IsFirst}
 
 no_list : (body : List ℕ) {P : Type 0} → [] ≡ body ++ 10 ∷ [] → P
 no_list body is = absurd (omega (arith, ap length is, length-append body (10 ∷ [])))

@@ -1,11 +1,8 @@
 -- What the lines of a script do (docs/SCRIPT.md), one after the other.
 use Rattle.std.specs.Prelude.{◌≡◌, ℕ, zero, suc, nat_lt, Bool, true, false, if◌then◌else◌, List, [], ◌∷◌, ◌++◌, set, Option, Some, None, Result, Ok, Err, codes, decimal}
-use Rattle.fs_machine.specs.declared.kind.Kind.{Kind}
-use Rattle.hart_core.specs.declared.events.Event.{Event}
+use Rattle.console.specs.Vocabulary.{Kind, Event, Came, Outcome}
 use Rattle.hart_core.specs.declared.events.Event.TheVariants as event
-use Rattle.hart_core.specs.declared.events.Came.{Came}
 use Rattle.hart_core.specs.declared.events.Came.TheVariants as came
-use Rattle.hart_core.specs.declared.outcome.Outcome.{Outcome}
 use Rattle.hart_core.specs.declared.outcome.Outcome.TheVariants as outcome
 use Rattle.script.specs.Said as said
 use Rattle.script.specs.Said.{Line, Start, Run, Step, Upto, End, All}

@@ -1,17 +1,12 @@
 -- The lines that are printed after a script: the last events, and the columns of the timeline.
 use Rattle.std.specs.Prelude.{ℕ, ◌-◌, ◌*◌, ◌^◌, min, Bool, true, false, List, [], ◌∷◌, ◌++◌, replicate, codes, decimal}
-use Rattle.std.specs.Fmt.{styled_decimal, format_spec}
-use Rattle.plain_tree.specs.declared.answer.Answer.{Answer}
-use Rattle.plain_tree.specs.declared.answer.Answer.TheVariants.{Fd, Count, Stat, Done as IsDone, Failed, Full}
-use Rattle.plain_tree.specs.Numbers.{cause_number, cause_name, full_number, full_name}
-use Rattle.script.specs.Grammar.{kind_word}
+use Rattle.console.specs.Vocabulary.{styled_decimal, format_spec, Answer, Fd, Count, Stat, IsDone, Failed, Full, cause_number, cause_name, full_number, full_name, kind_word, numbered_text, stat_text}
 use Rattle.console.specs.declared.notes.Note.{Note}
 use Rattle.console.specs.declared.notes.What.{What}
 use Rattle.console.specs.declared.notes.What.TheVariants.{Start, Refused, Ran, Waits, Done, Stopped}
 use Rattle.console.specs.Notes.{NotesOf, rows_in}
 use Rattle.console.specs.Numbers.{start_number, stop_number}
 use Rattle.console.specs.Told.{refused_text, stopped_text}
-use Rattle.script.specs.Text.{numbered_text, stat_text}
 use Rattle.console.specs.Verbs.{word_of}
 
 -- ---- --last

@@ -1,10 +1,9 @@
 -- Why a script doesn't come to its end, and the exit status of a program that tells so.
 use Rattle.std.specs.Prelude.{ℕ}
-use Rattle.image_tree.specs.declared.fault.MountFault.{MountFault}
+use Rattle.console.specs.Vocabulary.{MountFault, ScriptFault}
 use Rattle.image_tree.specs.declared.fault.MountFault.TheVariants as mounts
 use Rattle.console.specs.declared.fault.ConsoleFault.{ConsoleFault}
 use Rattle.console.specs.declared.fault.ConsoleFault.TheVariants as faults
-use Rattle.script.specs.declared.command.ScriptFault.{ScriptFault}
 use Rattle.script.specs.declared.command.ScriptFault.TheVariants as scripts
 
 -- want of memory is no fault of the image

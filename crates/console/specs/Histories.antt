@@ -1,18 +1,7 @@
 -- What is printed of a run's history, with --explain.
 use Rattle.std.specs.Prelude.{◌≡◌, ◌⊎◌, ℕ, Bool, true, false, List, [], ◌∷◌, ◌++◌, Option, Result, Ok, Err, codes, decimal}
-use Rattle.std.specs.Io.KnownBytes.{Appends}
-use Rattle.block_device.specs.Blocks.{blocks_of}
-use Rattle.plain_tree.specs.declared.trace.Placed.{Placed}
-use Rattle.plain_tree.specs.Explains.{Explains}
-use Rattle.plain_tree.specs.TreeData.{TreeData}
-use Rattle.image_tree.specs.Trees.{tree_in}
-use Rattle.hart_core.specs.declared.events.Event.{Event}
-use Rattle.hart_core.specs.Runs.{trace_in}
-use Rattle.explain.specs.Explained.{ExplainsRun, IsRefusedFor, IsRefusedSo}
-use Rattle.explain.specs.Numbers.{number_of, name_of}
-use Rattle.explain.specs.declared.refused.ExplainRefused.{ExplainRefused}
+use Rattle.console.specs.Vocabulary.{Appends, blocks_of, Placed, Explains, TreeData, tree_in, Event, trace_in, ExplainsRun, IsRefusedFor, IsRefusedSo, number_of, name_of, ExplainRefused, entry_line}
 use Rattle.explain.specs.declared.refused.ExplainRefused.TheVariants as refused
-use Rattle.script.specs.Entries.{entry_line}
 use Rattle.console.specs.declared.fault.ConsoleFault.{ConsoleFault}
 use Rattle.console.specs.declared.fault.ConsoleFault.TheVariants as faults
 use Rattle.console.specs.Notes.{KeptRun}

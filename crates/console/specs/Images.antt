@@ -1,10 +1,7 @@
 -- The image that a script runs on, and why it isn't taken.
 use Rattle.std.specs.Prelude.{ℕ, List, [], Option, Some, None, Vec}
-use Rattle.std.specs.declared.alloc.Global.{Global}
-use Rattle.block_device.specs.Blocks.{blocks_of}
-use Rattle.image_tree.specs.Damage.{IsFirstDamage, IsWellFormed}
+use Rattle.console.specs.Vocabulary.{Global, blocks_of, IsFirstDamage, IsWellFormed, image_of}
 use Rattle.image_tree.specs.declared.fault.MountFault.TheVariants as mounts
-use Rattle.mkfs.specs.Image.{image_of}
 use Rattle.console.specs.declared.fault.ConsoleFault.{ConsoleFault}
 use Rattle.console.specs.declared.fault.ConsoleFault.TheVariants.{Image, Read, Write, Line, Stopped, Memory}
 

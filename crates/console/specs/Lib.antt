@@ -1,3 +1,4 @@
+pub mod Vocabulary
 pub mod Behaviours
 pub mod Commands
 pub mod Events

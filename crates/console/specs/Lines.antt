@@ -1,15 +1,12 @@
 -- The lines of a script as what is run: in their order, or queued for each hart.
 use Rattle.std.specs.Prelude.{◌≡◌, ℕ, min, List, [], ◌∷◌, map, replicate, Result, Ok, Err}
-use Rattle.plain_tree.specs.declared.call.Call.{Call}
+use Rattle.console.specs.Vocabulary.{Call, script_in, Schedule, Listed, Round}
 use Rattle.plain_tree.specs.declared.call.Call.TheVariants as calls
 use Rattle.script.specs.Said as said
 use Rattle.script.specs.Said.{Line, NumberedLine, Open, Read, Write, Fill, Link, Unlink, Mkdir, Chdir, Dup, Fstat, Close, Inherit, All, line_said}
-use Rattle.script.specs.Reading.{script_in}
 use Rattle.console.specs.declared.fault.ConsoleFault.{ConsoleFault}
 use Rattle.console.specs.declared.fault.ConsoleFault.TheVariants as faults
 use Rattle.console.specs.declared.lines.Course.{Course}
-use Rattle.script.specs.declared.mode.Schedule.{Schedule}
-use Rattle.script.specs.declared.mode.Schedule.TheVariants.{Listed, Round}
 use Rattle.console.specs.Queues.{Left, none_left, queued}
 
 -- ---- the call that a line says; a read is handed zeros to fill, a fill writes the letter x

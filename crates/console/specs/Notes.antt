@@ -1,18 +1,14 @@
 -- What is noted of events, for the lines of --last and the columns of --timeline; and the events themselves with what they came to, for
 -- --explain.
 use Rattle.std.specs.Prelude.{ℕ, ◌+◌, Bool, true, false, List, [], ◌∷◌, ◌++◌, Option, Some, None}
-use Rattle.hart_core.specs.declared.events.Came.{Came}
+use Rattle.console.specs.Vocabulary.{Came, Event, Outcome, Mode, TailView, tail, with_event}
 use Rattle.hart_core.specs.declared.events.Came.TheVariants as came
-use Rattle.hart_core.specs.declared.events.Event.{Event}
-use Rattle.hart_core.specs.declared.outcome.Outcome.{Outcome}
 use Rattle.hart_core.specs.declared.outcome.Outcome.TheVariants as outcome
 use Rattle.console.specs.declared.verb.Verb.{Verb}
 use Rattle.console.specs.declared.notes.Note.{Note}
 use Rattle.console.specs.declared.notes.What.{What}
 use Rattle.console.specs.declared.notes.What.TheVariants.{Start, Refused, Ran, Waits, Done, Stopped}
 use Rattle.console.specs.Sessions.{EventOfCall, hart_in}
-use Rattle.script.specs.declared.mode.Mode.{Mode}
-use Rattle.script.specs.Tails.{TailView, tail, with_event}
 
 -- a step of a hart without a call is no event
 abbrev pub what_of_step : Outcome → Option What

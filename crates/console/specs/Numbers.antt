@@ -1,11 +1,8 @@
 -- The numbers and names under which refused starts and stops are printed, and the places of kinds of steps.
 use Rattle.std.specs.Prelude.{ℕ, List, codes}
-use Rattle.fs_machine.specs.declared.kind.Kind.{Kind}
+use Rattle.console.specs.Vocabulary.{Kind, StartRefused, Busy, PathTooLong, ZeroInPath, TooLong, NoSuchHart, NotEmptyHart, Stop, DeviceFault}
 use Rattle.fs_machine.specs.declared.kind.Kind.TheVariants as kind
-use Rattle.hart_core.specs.declared.starts.StartRefused.{StartRefused}
-use Rattle.hart_core.specs.declared.starts.StartRefused.TheVariants.{Busy, PathTooLong, ZeroInPath, TooLong, NoSuchHart, NotEmptyHart}
-use Rattle.hart_core.specs.declared.outcome.Stop.{Stop}
-use Rattle.hart_core.specs.declared.outcome.Stop.TheVariants.{DeviceFault, Halted}
+use Rattle.hart_core.specs.declared.outcome.Stop.TheVariants.{Halted}
 
 -- ---- a start that is refused
 

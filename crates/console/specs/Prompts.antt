@@ -1,15 +1,6 @@
 -- What comes of lines that are typed at a prompt (docs/SCRIPT.md): each is answered before the next is read.
 use Rattle.std.specs.Prelude.{◌≡◌, ◌⊎◌, ℕ, ◌+◌, ◌==◌, if◌then◌else◌, Bool, true, false, List, [], ◌∷◌, ◌++◌, replicate, Option, Some, None, IfSome, Result, Ok, Err, Vec, codes, decimal}
-use Rattle.std.specs.Io.KnownBytes.{Appends}
-use Rattle.std.specs.declared.alloc.Global.{Global}
-use Rattle.block_device.specs.Blocks.{blocks_of}
-use Rattle.group_log.specs.declared.phase.Phase.{Phase}
-use Rattle.group_log.specs.declared.phase.Phase.TheVariants.{Open, Staging, Installing, Halted}
-use Rattle.fs_machine.specs.declared.kind.Kind.{Kind}
-use Rattle.hart_core.specs.Mounting.{Rests}
-use Rattle.script.specs.Asking.{Asked, Nothing, Help, State, Quit, Run, asked_in, typed_lines}
-use Rattle.script.specs.Grammar.{kind_word}
-use Rattle.script.specs.declared.mode.Mode.{Mode}
+use Rattle.console.specs.Vocabulary.{Appends, Global, blocks_of, Phase, Open, Staging, Installing, Halted, Kind, Rests, Asked, Nothing, Help, State, Quit, Run, asked_in, typed_lines, kind_word, Mode}
 use Rattle.console.specs.declared.doing.Doing.{Doing}
 use Rattle.console.specs.declared.fault.ConsoleFault.{ConsoleFault}
 use Rattle.console.specs.declared.fault.ConsoleFault.TheVariants as faults

@@ -1,10 +1,8 @@
 -- A run of a script on a mounted file system.
 use Rattle.std.specs.Prelude.{◌≡◌, ◌⊎◌, ℕ, List, ◌++◌, Option, IfSome, Result, Ok, Err}
-use Rattle.std.specs.Io.KnownBytes.{Appends}
-use Rattle.hart_core.specs.declared.outcome.Stop.{Stop}
+use Rattle.console.specs.Vocabulary.{Appends, Stop, Mode}
 use Rattle.console.specs.declared.fault.ConsoleFault.{ConsoleFault}
 use Rattle.console.specs.declared.fault.ConsoleFault.TheVariants as faults
-use Rattle.script.specs.declared.mode.Mode.{Mode}
 use Rattle.console.specs.Behaviours.{Runs}
 use Rattle.console.specs.Commands.{lines, state}
 use Rattle.console.specs.Events.{last_of, timeline_of}

@@ -1,15 +1,6 @@
 -- What comes of an image and a script: it is mounted and the script is run on it, or it is only examined.
 use Rattle.std.specs.Prelude.{◌≡◌, ◌⊎◌, ℕ, Bool, List, Option, None, Result, Ok, Err, Vec, replicate}
-use Rattle.std.specs.Io.KnownBytes.{Appends}
-use Rattle.std.specs.declared.alloc.Global.{Global}
-use Rattle.block_device.specs.Blocks.{blocks_of}
-use Rattle.image_tree.specs.Shape.{shape_of}
-use Rattle.plain_tree.specs.TreeData.{TreeData}
-use Rattle.image_tree.specs.Trees.{tree_in}
-use Rattle.hart_core.specs.Mounting.{Rests}
-use Rattle.explain.specs.Explained.{StartsOn}
-use Rattle.script.specs.Text.{shape_line}
-use Rattle.script.specs.declared.mode.Mode.{Mode}
+use Rattle.console.specs.Vocabulary.{Appends, Global, blocks_of, shape_of, TreeData, tree_in, Rests, StartsOn, shape_line, Mode}
 use Rattle.console.specs.declared.fault.ConsoleFault.{ConsoleFault}
 use Rattle.console.specs.declared.fault.ConsoleFault.TheVariants as faults
 use Rattle.console.specs.Histories.{WhereSet, history_of}

@@ -1,17 +1,10 @@
 -- A mounted file system that a console runs, and what happens to it.
 use Rattle.std.specs.Prelude.{◌≡◌, ℕ, ◌+◌, ◌-◌, min, nat_lt, Bool, true, false, List, replicate, set, get_or, Option, Some, None}
-use Rattle.fs_machine.specs.declared.kind.Kind.{Kind}
+use Rattle.console.specs.Vocabulary.{Kind, with_answer, Event, Came, Outcome, event_of, came_of, said_of, shared_of, WorldOf, Makes, Answers}
 use Rattle.fs_machine.specs.declared.kind.Kind.TheVariants as kinds
-use Rattle.atomic_programs.specs.Calls.{with_answer}
-use Rattle.hart_core.specs.declared.events.Event.{Event}
 use Rattle.hart_core.specs.declared.events.Event.TheVariants as event
-use Rattle.hart_core.specs.declared.events.Came.{Came}
 use Rattle.hart_core.specs.declared.events.Came.TheVariants as came
-use Rattle.hart_core.specs.declared.outcome.Outcome.{Outcome}
 use Rattle.hart_core.specs.declared.outcome.Outcome.TheVariants as outcome
-use Rattle.hart_core.specs.Events.{event_of, came_of, said_of}
-use Rattle.hart_core.specs.Harts.{shared_of}
-use Rattle.hart_core.specs.Worlds.{WorldOf, Makes, Answers}
 use Rattle.console.specs.declared.verb.Verb.{Verb}
 use Rattle.console.specs.declared.doing.Doing.{Doing}
 use Rattle.console.specs.Numbers.{kind_place}

@@ -1,15 +1,11 @@
 -- What is printed of an event.
 use Rattle.std.specs.Prelude.{ℕ, List, [], codes}
-use Rattle.hart_core.specs.declared.events.Came.{Came}
+use Rattle.console.specs.Vocabulary.{Came, Outcome, Stop, StartRefused, numbered_text, reply_line, told_line}
 use Rattle.hart_core.specs.declared.events.Came.TheVariants as came
-use Rattle.hart_core.specs.declared.outcome.Outcome.{Outcome}
 use Rattle.hart_core.specs.declared.outcome.Outcome.TheVariants as outcome
-use Rattle.hart_core.specs.declared.outcome.Stop.{Stop}
-use Rattle.hart_core.specs.declared.starts.StartRefused.{StartRefused}
 use Rattle.console.specs.declared.verb.Verb.{Verb}
 use Rattle.console.specs.Numbers.{start_name, start_number, stop_name, stop_number}
 use Rattle.console.specs.Sessions.{EventOfCall, hart_in}
-use Rattle.script.specs.Text.{numbered_text, reply_line, told_line}
 use Rattle.console.specs.Verbs.{word_of}
 
 abbrev pub refused_text : StartRefused → List ℕ

@@ -1,6 +1,6 @@
 -- The words by which answers name calls.
 use Rattle.std.specs.Prelude.{ℕ, List, codes}
-use Rattle.plain_tree.specs.declared.call.Call.{Call}
+use Rattle.console.specs.Vocabulary.{Call}
 use Rattle.plain_tree.specs.declared.call.Call.TheVariants as calls
 use Rattle.console.specs.declared.verb.Verb.{Verb}
 use Rattle.console.specs.declared.verb.Verb.TheVariants.{Open, Read, Write, Link, Unlink, Mkdir, Chdir, Dup, Fstat, Close, Inherit}

@@ -1,7 +1,6 @@
 //! What the lines of a script do.
 ghost use Rattle.std.specs.Prelude.{◌≡◌, OnOk, map};
-ghost use Rattle.std.specs.Io.KnownBytes.{Appends};
-ghost use Rattle.script.specs.Said.{call_said, line_said};
+ghost use Rattle.console.specs.Vocabulary.{Appends, call_said, line_said};
 ghost use Rattle.console.specs.Behaviours.{IsWritten, Runs};
 ghost use Rattle.console.specs.Commands.{acts, happens, line, lines, settles, starts, state, tells_waits, turn, turns, wait_text};
 ghost use Rattle.console.specs.Notes.{NotesOf, copy_for};
@@ -18,10 +17,9 @@ use crate::session::{Session, hart_in};
 use crate::tell::tell;
 use crate::verb::Verb;
 use block_device::Device;
-use script::write_waits;
 use explain::Keeper;
 use hart_core::{Came, Event};
-use script::{CallLine, Command, ScriptLine};
+use script::{CallLine, Command, ScriptLine, write_waits};
 use std::alloc::Global;
 use std::io::Write;
 

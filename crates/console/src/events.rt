@@ -1,9 +1,7 @@
 //! The lines that are printed after a script: the last events, and the columns of the timeline.
 ghost use Rattle.std.specs.Prelude.{◌*◌, ◌^◌, ◌-◌, ◌++◌, ◌<◌, OnOk, min, true, codes, decimal, replicate};
-ghost use Rattle.std.specs.Fmt.{format_spec, styled_decimal};
-ghost use Rattle.std.specs.Io.KnownBytes.{Appends};
+ghost use Rattle.console.specs.Vocabulary.{format_spec, styled_decimal, Appends, numbered_text, stat_text};
 ghost use Rattle.console.specs.Events.{answer_cell, cell, last_line, last_of, timeline_line, timeline_of, timeline_rows, what_text};
-ghost use Rattle.script.specs.Text.{numbered_text, stat_text};
 
 use crate::notes::{Note, Notes, What};
 use crate::numbers::{kind_word, start_name, start_number, stop_name, stop_number};

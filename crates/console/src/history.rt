@@ -1,15 +1,15 @@
 //! The history of a run, as it is printed.
 ghost use Rattle.std.specs.Prelude.{◌++◌, OnOk, codes, decimal};
-ghost use Rattle.std.specs.Io.KnownBytes.{Appends};
+ghost use Rattle.console.specs.Vocabulary.{Appends};
 ghost use Rattle.console.specs.Histories.{TellsHistory, TellsWhy, entries_text, history_from, history_on, why_line};
 ghost use Rattle.console.specs.Behaviours.{IsWritten};
 ghost use Rattle.console.specs.Notes.{run_in};
 
 use crate::fault::ConsoleFault;
 use crate::notes::Notes;
-use script::write_entry;
 use explain::{ExplainRefused, Keeper, explain, explain_noted};
 use plain_tree::{Placed, Tree};
+use script::write_entry;
 use std::alloc::Global;
 use std::io;
 use std::io::Write;

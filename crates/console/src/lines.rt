@@ -1,15 +1,14 @@
 //! The lines of a script as what is run.
 ghost use Rattle.std.specs.Prelude.{◌≡◌, ◌<◌, IfOk, IfSome, map, option_map};
-ghost use Rattle.script.specs.Said.{call_said, line_said, numbered};
+ghost use Rattle.console.specs.Vocabulary.{call_said, line_said, numbered};
 ghost use Rattle.console.specs.Lines.{GivesCourse, GivesQueues, called, course_of, part_of};
 ghost use Rattle.console.specs.Queues.{none_left, queued, started_in};
 
 use crate::fault::ConsoleFault;
 use crate::queues::Queues;
 use crate::session::HARTS;
-use script::Schedule;
 use plain_tree::{Bytes, Call};
-use script::{CallLine, Command, Reason, ScriptLine};
+use script::{CallLine, Command, Reason, Schedule, ScriptLine};
 use std::alloc::{AllocError, Global};
 
 /// The most bytes that one call reads or writes.

@@ -1,7 +1,6 @@
 //! Mounting a disk in memory.
 ghost use Rattle.std.specs.Prelude.{◌≡◌, IfOk, IfErr};
-ghost use Rattle.block_device.specs.Blocks.{blocks_of};
-ghost use Rattle.image_tree.specs.Trees.{tree_in};
+ghost use Rattle.console.specs.Vocabulary.{blocks_of, tree_in};
 ghost use Rattle.console.specs.Histories.{WhereSet};
 ghost use Rattle.console.specs.Images.{RefusesDisk};
 ghost use Rattle.console.specs.Scripts.{IsMountedOn};

@@ -5,10 +5,10 @@ ghost use Rattle.console.specs.Notes.{copy_for, no_notes, run_in, rows_in, what_
 
 use crate::verb::Verb;
 use circular_buffer::Iter;
-use script::{Mode, Tail};
 use fs_machine::Kind;
 use hart_core::{Came, Event, Outcome, StartRefused, Stop};
 use plain_tree::Answer;
+use script::{Mode, Tail};
 use std::alloc::{AllocError, Global};
 use std::marker::Model;
 

@@ -1,6 +1,6 @@
 //! The numbers, names and words under which refused starts, stops and steps are printed.
 ghost use Rattle.std.specs.Prelude.{◌≡◌, ◌<◌};
-ghost use Rattle.script.specs.Grammar.{kind_word};
+ghost use Rattle.console.specs.Vocabulary.{kind_word};
 ghost use Rattle.console.specs.Numbers.{kind_place, start_name, start_number, stop_name, stop_number};
 
 use fs_machine::Kind;

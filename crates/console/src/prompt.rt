@@ -1,8 +1,6 @@
 //! Lines that are typed at a prompt: each is answered before the next is read.
 ghost use Rattle.std.specs.Prelude.{◌≡◌, IfOk, IfErr, OnOk};
-ghost use Rattle.std.specs.Io.KnownBytes.{Appends};
-ghost use Rattle.image_tree.specs.Damage.{IsWellFormed};
-ghost use Rattle.script.specs.Asking.{asked_by};
+ghost use Rattle.console.specs.Vocabulary.{Appends, IsWellFormed, asked_by};
 ghost use Rattle.console.specs.Behaviours.{IsWritten, Runs};
 ghost use Rattle.console.specs.Commands.{all_harts, state};
 ghost use Rattle.console.specs.Histories.{history_from};
@@ -18,9 +16,8 @@ use crate::run::{desk_of, finish, image_disk, read_fault};
 use crate::session::Session;
 use crate::state::write_state;
 use block_device::{Device, MemoryDisk};
-use script::Mode;
 use plain_tree::Tree;
-use script::{Asked, Reason, ScriptFault, asked_in};
+use script::{Asked, Mode, Reason, ScriptFault, asked_in};
 use std::alloc::Global;
 use std::io::{BufRead, Write};
 

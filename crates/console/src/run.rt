@@ -1,8 +1,6 @@
 //! Running a script.
 ghost use Rattle.std.specs.Prelude.{◌≡◌, ◌<◌, ◌^◌, IfOk, IfErr, IfSome, OnOk};
-ghost use Rattle.std.specs.Io.KnownBytes.{Appends};
-ghost use Rattle.block_device.specs.Blocks.{blocks_of};
-ghost use Rattle.image_tree.specs.Damage.{IsWellFormed};
+ghost use Rattle.console.specs.Vocabulary.{Appends, blocks_of, IsWellFormed};
 ghost use Rattle.console.specs.declared.fault.ConsoleFault.TheVariants.{Memory};
 ghost use Rattle.console.specs.Histories.{history_from, history_on};
 ghost use Rattle.console.specs.Images.{bytes_for, disk_for, fresh_bytes, JudgesImage};
@@ -21,12 +19,11 @@ use crate::notes::Notes;
 use crate::queues::Queues;
 use crate::session::Session;
 use block_device::{Device, MemoryDisk};
-use script::{Mode, write_shape};
 use explain::Keeper;
 use image_tree::examine;
 use mkfs::{MakeRefused, make};
 use plain_tree::Tree;
-use script::parse;
+use script::{Mode, parse, write_shape};
 use std::alloc::Global;
 use std::io;
 use std::io::{Read, Write};

@@ -1,6 +1,6 @@
 //! How far each hart's call has come, and where the log's commit is, for whoever types lines.
 ghost use Rattle.std.specs.Prelude.{◌≡◌, ◌++◌, OnOk, codes, decimal};
-ghost use Rattle.std.specs.Io.KnownBytes.{Appends};
+ghost use Rattle.console.specs.Vocabulary.{Appends};
 ghost use Rattle.console.specs.Prompts.{calls_text, doing_text, joined_text, locks_text, phase_text, state_text, step_text, waits_text};
 ghost use Rattle.console.specs.Sessions.{doing_at};
 

@@ -1,19 +1,18 @@
 //! What an event came to, told and noted.
 ghost use Rattle.std.specs.Prelude.{◌≡◌, OnOk};
-ghost use Rattle.std.specs.Io.KnownBytes.{Appends};
+ghost use Rattle.console.specs.Vocabulary.{Appends, told_line};
 ghost use Rattle.console.specs.Behaviours.{IfTold};
 ghost use Rattle.console.specs.Commands.{IsPassed, flow_of, flow_of_step};
 ghost use Rattle.console.specs.Notes.{what_of, with_what};
 ghost use Rattle.console.specs.Told.{refused_text, step_told, stopped_text, told_of};
-ghost use Rattle.script.specs.Text.{told_line};
 
 use crate::fault::ConsoleFault;
 use crate::flow::Flow;
 use crate::notes::{Notes, what_of};
 use crate::numbers::{start_name, start_number, stop_name, stop_number};
 use crate::verb::Verb;
-use script::{write_numbered, write_reply};
 use hart_core::{Came, Event, Outcome, StartRefused, Stop};
+use script::{write_numbered, write_reply};
 use std::io;
 use std::io::Write;
 

@@ -9,9 +9,9 @@
 use clap::ArgMatches;
 use clap::error::ErrorKind;
 use console::{ConsoleFault, run_prompt, run_script, status};
-use script::{IMAGE, Mode, SAVE, Schedule, has_prompt, has_threads, mode_of, options};
 use console_threads::{ThreadsFault, run_threads};
 use mkfs::{ImageRefused, SaveRefused, read_image, save, shown, try_to_save};
+use script::{IMAGE, Mode, SAVE, Schedule, has_prompt, has_threads, mode_of, options};
 use std::alloc::AllocError;
 use std::io::{BufWriter, Write};
 use std::process::ExitCode;

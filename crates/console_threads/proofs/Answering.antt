@@ -1,10 +1,5 @@
 -- The replies to a row of calls, one call after the other.
-use Rattle.std.proofs.Common.{◌≡◌, ◌+◌, ◌*◌, List, [], ◌∷◌, ◌++◌, length, ap, sym, ◌∙◌, arith, append_assoc, append-nil, length-append, inl, inr}
-use Rattle.plain_tree.specs.declared.answer.Reply.{Reply}
-use Rattle.plain_tree.specs.declared.call.Call.{Call}
-use Rattle.locked_world.specs.HandedBack.{HandsBack}
-use Rattle.hart_runner.specs.Seats.{SeatV}
-use Rattle.console_threads.specs.Worked.{AnswersSome, HasMade, HasMadeAll}
+use Rattle.console_threads.proofs.Vocabulary.{◌≡◌, ◌+◌, ◌*◌, List, [], ◌∷◌, ◌++◌, length, ap, sym, ◌∙◌, arith, append_assoc, append-nil, length-append, inl, inr, Reply, Call, HandsBack, SeatV, AnswersSome, HasMade, HasMadeAll}
 
 -- a call without a reply
 unanswered : (calls : List Call) (call : Call) (replies : List Reply) → AnswersSome calls replies → AnswersSome (calls ++ call ∷ []) replies

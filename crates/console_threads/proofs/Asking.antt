@@ -1,11 +1,5 @@
 -- The calls of each hart, from its lines.
-use Rattle.std.proofs.Common.{◌≡◌, ◌-◌, List, [], ◌∷◌, ◌++◌, length, drop, map, refl, ap, sym, ◌∙◌, arith, append_assoc, length-drop}
-use Rattle.std.proofs.lemmas.List.{nil_from_length}
-use Rattle.std.proofs.lemmas.Simd.{map-map}
-use Rattle.plain_tree.specs.declared.call.Call.{Call}
-use Rattle.script.specs.declared.call.CallLine.{CallLine}
-use Rattle.script.specs.Said.{call_said}
-use Rattle.console.specs.Lines.{called}
+use Rattle.console_threads.proofs.Vocabulary.{◌≡◌, ◌-◌, List, [], ◌∷◌, ◌++◌, length, drop, map, refl, ap, sym, ◌∙◌, arith, append_assoc, length-drop, nil_from_length, map-map, Call, CallLine, call_said, called}
 
 -- one line more
 pub call_more : (calls all : List Call) (call : Call) (line : CallLine) (lines rest : List CallLine) → call ≡ called (call_said line) → lines ≡ line ∷ rest → calls ++ map (λ l. called (call_said l)) lines ≡ all → (calls ++ call ∷ []) ++ map (λ l. called (call_said l)) rest ≡ all

@@ -1,15 +1,5 @@
 -- What the end of the kernel says of what the harts have made.
-use Rattle.std.proofs.Common.{◌≡◌, ℕ, ◌+◌, ◌*◌, List, [], ◌∷◌, ◌++◌, None, All, map, length, get_or, drop, refl, ap, sym, ◌∙◌, subst, arith, sum_by}
-use Rattle.std.specs.Prelude.{IfNone}
-use Rattle.std.proofs.lemmas.List.Elements.{All-nil, All-cons, All-head, All-tail}
-use Rattle.std.proofs.lemmas.List.Sums.{sum_by-cons}
-use Rattle.std.proofs.lemmas.Simd.{map-map}
-use Rattle.plain_tree.specs.declared.call.Call.{Call}
-use Rattle.locked_world.specs.Kept.{StoredRun, count_of, replies_of}
-use Rattle.hart_runner.specs.Seats.{SeatV}
-use Rattle.console_threads.specs.declared.work.Task.{Task}
-use Rattle.console_threads.specs.declared.work.Worked.{Worked}
-use Rattle.console_threads.specs.Worked.{AllAnswered, AnswersSome, EachAnswered, EachWorked, HasMadeAll, HasWorked, eight_harts}
+use Rattle.console_threads.proofs.Vocabulary.{◌≡◌, ℕ, ◌+◌, ◌*◌, List, [], ◌∷◌, ◌++◌, None, All, map, length, get_or, drop, refl, ap, sym, ◌∙◌, subst, arith, sum_by, IfNone, All-nil, All-cons, All-head, All-tail, sum_by-cons, map-map, Call, StoredRun, count_of, replies_of, SeatV, Task, Worked, AllAnswered, AnswersSome, EachAnswered, EachWorked, HasMadeAll, HasWorked, eight_harts}
 
 of_map : {X Y : Type 0} (P : Y → Type 0) (f : X → Y) (xs : List X) → All P (map f xs) → All (λ x. P (f x)) xs
 of_map P f [] all = All-nil (λ x. P (f x))

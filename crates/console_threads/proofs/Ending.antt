@@ -1,27 +1,7 @@
 -- How a run by threads ends, and why there is none.
-use Rattle.std.proofs.Common.{◌≡◌, ℕ, List, Option, Bool, true, false, Result, Ok, Err, refl, sym, ◌∙◌, subst, inl, inr}
-use Rattle.std.specs.Prelude.{IfErr, IfOk, OnOk}
-use Rattle.std.specs.Io.KnownBytes.{Appends}
-use Rattle.hart_core.specs.declared.events.Came.{Came}
-use Rattle.hart_core.specs.declared.events.Event.{Event}
-use Rattle.image_tree.specs.Damage.{IsWellFormed, JudgesFault}
-use Rattle.image_tree.specs.declared.fault.MountFault.{MountFault}
+use Rattle.console_threads.proofs.Vocabulary.{◌≡◌, ℕ, List, Option, Bool, true, false, Result, Ok, Err, refl, sym, ◌∙◌, subst, inl, inr, IfErr, IfOk, OnOk, Appends, Came, Event, IsWellFormed, JudgesFault, MountFault, StoredRun, Call, Mode, ConsoleFault, IsUntold, TellsHistory, WhereSet, history_on, NotesOf, no_notes, run_in, PrintsAll, ThreadsFault, Console, Device, Strange, IsAsked, IsUnasked, IsMounted, JudgesRun, of_mount, IsNoRun, IsPrinted, IsUnprinted, IsUntoldRun, RunsThreads, TellsRun, harts_text, noted_in, eight_harts}
 use Rattle.image_tree.specs.declared.fault.MountFault.TheVariants as mounts
-use Rattle.locked_world.specs.Kept.{StoredRun}
-use Rattle.plain_tree.specs.declared.call.Call.{Call}
-use Rattle.script.specs.declared.mode.Mode.{Mode}
-use Rattle.console.specs.declared.fault.ConsoleFault.{ConsoleFault}
 use Rattle.console.specs.declared.fault.ConsoleFault.TheVariants as faults
-use Rattle.console.specs.Histories.{IsUntold, TellsHistory, WhereSet, history_on}
-use Rattle.console.specs.Notes.{NotesOf, no_notes, run_in}
-use Rattle.console.specs.Runs.{PrintsAll}
-use Rattle.console_threads.specs.declared.fault.ThreadsFault.{ThreadsFault}
-use Rattle.console_threads.specs.declared.fault.ThreadsFault.TheVariants.{Console, Device, Strange}
-use Rattle.console_threads.specs.Asked.{IsAsked, IsUnasked}
-use Rattle.console_threads.specs.Faults.{IsMounted, JudgesRun, of_mount}
-use Rattle.console_threads.specs.Runs.{IsNoRun, IsPrinted, IsUnprinted, IsUntoldRun, RunsThreads, TellsRun}
-use Rattle.console_threads.specs.Told.{harts_text, noted_in}
-use Rattle.console_threads.specs.Worked.{eight_harts}
 
 -- ---- no kernel
 

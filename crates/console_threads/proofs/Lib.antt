@@ -1,3 +1,5 @@
+pub mod Lemmas
+pub mod Vocabulary
 pub mod Answering
 pub mod Asking
 pub mod Closing

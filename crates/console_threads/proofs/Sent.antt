@@ -2,10 +2,8 @@
 use denote.RattleType.{RattleType}
 use denote.Param.Send.{IsSend, sendable}
 use denote.Param.SendFields.{declared_send}
-use Rattle.std.proofs.Crossing.{crosses}
-use Rattle.std.specs.declared.sync.ledger.Ledger.{Ghosts}
+use Rattle.console_threads.proofs.Vocabulary.{crosses, Ghosts, seat_send}
 use Rattle.plain_tree.proofs.call.Call.TheSendSync as call
-use Rattle.hart_runner.proofs.Sent.{seat_send}
 use Rattle.console_threads.specs.contracts.work.Task as task
 
 pub task_send : (L : RattleType) (g : Ghosts L.Denot) → IsSend L → IsSend (task.the_row L g)

@@ -1,10 +1,5 @@
 -- The calls that a hart was to start, event after event.
-use Rattle.std.proofs.Common.{◌≡◌, ℕ, ◌+◌, ◌<◌, ◌≤◌, List, [], ◌∷◌, ◌++◌, length, drop, get_or, ap, sym, ◌∙◌, arith, length-drop}
-use Rattle.std.specs.Prelude.{◌↔◌, ◌≢◌}
-use Rattle.std.proofs.lemmas.List.{at_drop_all, at_drop_more}
-use Rattle.hart_core.specs.declared.events.Event.{Event}
-use Rattle.plain_tree.specs.declared.call.Call.{Call}
-use Rattle.console_threads.specs.Started.{started_by, starts_in}
+use Rattle.console_threads.proofs.Vocabulary.{◌≡◌, ℕ, ◌+◌, ◌<◌, ◌≤◌, List, [], ◌∷◌, ◌++◌, length, drop, get_or, ap, sym, ◌∙◌, arith, length-drop, ◌↔◌, ◌≢◌, at_drop_all, at_drop_more, Event, Call, started_by, starts_in}
 
 module _ (hart : ℕ) (events : List Event) (asked : List Call) where
   -- what is left of the events starts what is left of the calls

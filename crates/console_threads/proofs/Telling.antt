@@ -1,14 +1,5 @@
 -- What is printed and noted of a list of events, one after the other.
-use Rattle.std.proofs.Common.{◌≡◌, ℕ, ◌+◌, ◌<◌, ◌≤◌, min, List, [], ◌∷◌, ◌++◌, length, drop, get_or, Option, Some, None, refl, ap, sym, ◌∙◌, subst, arith, length-drop}
-use Rattle.std.specs.Io.KnownBytes.{Appends}
-use Rattle.std.proofs.lemmas.List.{at_drop_all, at_drop_more}
-use Rattle.hart_core.specs.declared.events.Came.{Came}
-use Rattle.hart_core.specs.declared.events.Event.{Event}
-use Rattle.script.proofs.Appending.{appends_both, appends_nothing}
-use Rattle.console.specs.declared.notes.What.{What}
-use Rattle.console.specs.Notes.{KeptRun, NotesOf, copy_for, with_note, with_what}
-use Rattle.console.specs.Sessions.{hart_in}
-use Rattle.console_threads.specs.Told.{hart_text, harts_text, line_for, noted_in, what_in}
+use Rattle.console_threads.proofs.Vocabulary.{◌≡◌, ℕ, ◌+◌, ◌<◌, ◌≤◌, min, List, [], ◌∷◌, ◌++◌, length, drop, get_or, Option, Some, None, refl, ap, sym, ◌∙◌, subst, arith, length-drop, Appends, at_drop_all, at_drop_more, Came, Event, appends_both, appends_nothing, What, KeptRun, NotesOf, copy_for, with_note, with_what, hart_in, hart_text, harts_text, line_for, noted_in, what_in}
 
 split : {X : Type 0} (xs : List X) (i : ℕ) (x : X) → i < length xs → x ≡ get_or xs i x → drop i xs ≡ x ∷ drop (i + 1) xs
 split xs i x lt is = at_drop_more (λ ys. ys) xs i x lt ∙ ap (λ y. y ∷ drop (i + 1) xs) (sym is)

@@ -1,13 +1,5 @@
 -- The work of each of eight harts.
-use Rattle.std.proofs.Common.{◌≡◌, ◌∷◌, [], List, Option, Some, None, length, slice_index_or, ap, sym, ◌∙◌, subst}
-use Rattle.std.specs.Prelude.{IfNone}
-use Rattle.plain_tree.specs.declared.call.Call.{Call}
-use Rattle.hart_runner.proofs.Eight.{eight}
-use Rattle.hart_runner.specs.Seats.{SeatV}
-use Rattle.console_threads.specs.declared.work.Broke.{Broke}
-use Rattle.console_threads.specs.declared.work.Task.{Task}
-use Rattle.console_threads.specs.declared.work.Worked.{Worked}
-use Rattle.console_threads.specs.Worked.{EachWorked, HasMadeAll, HasWorked}
+use Rattle.console_threads.proofs.Vocabulary.{◌≡◌, ◌∷◌, [], List, Option, Some, None, length, slice_index_or, ap, sym, ◌∙◌, subst, IfNone, Call, eight, SeatV, Broke, Task, Worked, EachWorked, HasMadeAll, HasWorked}
 
 pub each_of_eight : {L : _} (ts : List (Task L)) → length ts ≡ 8 → (a b c d e f g h : Task L) → a ≡ slice_index_or ts 0 a → b ≡ slice_index_or ts 1 b → c ≡ slice_index_or ts 2 c → d ≡ slice_index_or ts 3 d → e ≡ slice_index_or ts 4 e → f ≡ slice_index_or ts 5 f → g ≡ slice_index_or ts 6 g → h ≡ slice_index_or ts 7 h
     → (s t u v w x y z : Worked L) → HasWorked a s → HasWorked b t → HasWorked c u → HasWorked d v → HasWorked e w → HasWorked f x → HasWorked g y → HasWorked h z → EachWorked ts (s ∷ t ∷ u ∷ v ∷ w ∷ x ∷ y ∷ z ∷ [])

@@ -1,10 +1,7 @@
 -- The calls that a script asks of each hart, and why there are none.
 use Rattle.std.specs.Prelude.{◌≡◌, ℕ, List, Option, IfSome, Ok, Err, map}
-use Rattle.plain_tree.specs.declared.call.Call.{Call}
-use Rattle.script.specs.declared.mode.Schedule.TheVariants.{Round}
-use Rattle.console.specs.declared.fault.ConsoleFault.{ConsoleFault}
+use Rattle.console_threads.specs.Vocabulary.{Call, Round, ConsoleFault, CourseOf, called, script_course}
 use Rattle.console.specs.declared.fault.ConsoleFault.TheVariants as faults
-use Rattle.console.specs.Lines.{CourseOf, called, script_course}
 
 -- this text starts these calls on each hart, in the order of its lines
 pub record Asks (text : List ℕ) (calls : List (List Call)) : Type 0 where

@@ -1,11 +1,9 @@
 -- Why a script's threads don't come to their end, and the exit status of a program that tells so.
 use Rattle.std.specs.Prelude.{ℕ, List}
-use Rattle.image_tree.specs.Damage.{IsWellFormed}
-use Rattle.image_tree.specs.declared.fault.MountFault.{MountFault}
+use Rattle.console_threads.specs.Vocabulary.{IsWellFormed, MountFault, JudgesImage}
 use Rattle.image_tree.specs.declared.fault.MountFault.TheVariants as mounts
 use Rattle.console.specs.declared.fault.ConsoleFault.TheVariants as faults
 use Rattle.console.specs.Faults as console
-use Rattle.console.specs.Images.{JudgesImage}
 use Rattle.console_threads.specs.declared.fault.ThreadsFault.{ThreadsFault}
 use Rattle.console_threads.specs.declared.fault.ThreadsFault.TheVariants.{Console, Device, Strange}
 

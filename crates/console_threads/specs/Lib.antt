@@ -1,3 +1,4 @@
+pub mod Vocabulary
 pub mod Asked
 pub mod Faults
 pub mod Runs

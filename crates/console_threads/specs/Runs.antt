@@ -1,14 +1,7 @@
 -- A script that threads run.
 use Rattle.std.specs.Prelude.{◌≡◌, ℕ, ◌-◌, ◌^◌, List, Option, Result, Ok, Err}
-use Rattle.std.specs.Io.KnownBytes.{Appends}
-use Rattle.plain_tree.specs.declared.call.Call.{Call}
-use Rattle.locked_world.specs.Kept.{StoredRun, ClosedRun, HasOneHistory}
-use Rattle.script.specs.declared.mode.Mode.{Mode}
-use Rattle.console.specs.declared.fault.ConsoleFault.{ConsoleFault}
+use Rattle.console_threads.specs.Vocabulary.{Appends, Call, StoredRun, ClosedRun, HasOneHistory, Mode, ConsoleFault, history_on, no_notes, PrintsAll}
 use Rattle.console.specs.declared.fault.ConsoleFault.TheVariants as faults
-use Rattle.console.specs.Histories.{history_on}
-use Rattle.console.specs.Notes.{no_notes}
-use Rattle.console.specs.Runs.{PrintsAll}
 use Rattle.console_threads.specs.declared.fault.ThreadsFault.{ThreadsFault}
 use Rattle.console_threads.specs.declared.fault.ThreadsFault.TheVariants.{Console, Device, Strange}
 use Rattle.console_threads.specs.Asked.{IsAsked, IsUnasked}

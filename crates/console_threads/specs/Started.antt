@@ -1,8 +1,6 @@
 -- The calls that harts were to start, in a list of events.
 use Rattle.std.specs.Prelude.{◌≡◌, ℕ, List, [], ◌∷◌, ◌++◌, ◌==◌, if◌then◌else◌}
-use Rattle.hart_core.specs.declared.events.Event.{Event}
-use Rattle.hart_core.specs.declared.events.Event.TheVariants.{Start, Step}
-use Rattle.plain_tree.specs.declared.call.Call.{Call}
+use Rattle.console_threads.specs.Vocabulary.{Event, Start, Step, Call}
 
 abbrev pub started_by : ℕ → Event → List Call
 started_by hart (Start at call) = if at == hart then call ∷ [] else []

@@ -1,18 +1,9 @@
 -- What is printed and noted of a run that has ended: its events, with what each came to.
 use Rattle.std.specs.Prelude.{ℕ, List, [], ◌∷◌, ◌++◌, ◌==◌, if◌then◌else◌, Option, Some, None}
-use Rattle.hart_core.specs.declared.events.Came.{Came}
+use Rattle.console_threads.specs.Vocabulary.{Came, Event, Outcome, Call, reply_line, told_line, What, NotesOf, what_of, what_of_step, with_what, hart_in, refused_text, verb_of, word_of}
 use Rattle.hart_core.specs.declared.events.Came.TheVariants as came
-use Rattle.hart_core.specs.declared.events.Event.{Event}
 use Rattle.hart_core.specs.declared.events.Event.TheVariants as event
-use Rattle.hart_core.specs.declared.outcome.Outcome.{Outcome}
 use Rattle.hart_core.specs.declared.outcome.Outcome.TheVariants as outcome
-use Rattle.plain_tree.specs.declared.call.Call.{Call}
-use Rattle.script.specs.Text.{reply_line, told_line}
-use Rattle.console.specs.declared.notes.What.{What}
-use Rattle.console.specs.Notes.{NotesOf, what_of, what_of_step, with_what}
-use Rattle.console.specs.Sessions.{hart_in}
-use Rattle.console.specs.Told.{refused_text}
-use Rattle.console.specs.Verbs.{verb_of, word_of}
 
 -- ---- lines
 

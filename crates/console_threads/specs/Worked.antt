@@ -1,10 +1,6 @@
 -- What harts make of their calls.
 use Rattle.std.specs.Prelude.{◌≡◌, ◌⊎◌, ℕ, ◌+◌, ◌*◌, List, [], ◌∷◌, ◌++◌, IfNone, length, sum_by}
-use Rattle.plain_tree.specs.declared.answer.Reply.{Reply}
-use Rattle.plain_tree.specs.declared.call.Call.{Call}
-use Rattle.locked_world.specs.HandedBack.{HandsBack}
-use Rattle.locked_world.specs.Kept.{StoredRun, count_of, replies_of}
-use Rattle.hart_runner.specs.Seats.{SeatV}
+use Rattle.console_threads.specs.Vocabulary.{Reply, Call, HandsBack, StoredRun, count_of, replies_of, SeatV}
 use Rattle.console_threads.specs.declared.work.Task.{Task}
 use Rattle.console_threads.specs.declared.work.Worked.{Worked}
 

@@ -1,13 +1,11 @@
 //! The calls that a script asks of each hart.
 ghost use Rattle.std.specs.Prelude.{◌≡◌, IfOk, IfErr, map};
-ghost use Rattle.script.specs.Said.{call_said};
-ghost use Rattle.console.specs.Lines.{called};
+ghost use Rattle.console_threads.specs.Vocabulary.{call_said, called};
 ghost use Rattle.console_threads.specs.Asked.{IsAsked, IsUnasked};
 
 use console::{ConsoleFault, Course, LONGEST_SCRIPT, call_of, course_of, read_script};
-use script::Schedule;
 use plain_tree::Call;
-use script::{CallLine, parse};
+use script::{CallLine, Schedule, parse};
 use std::alloc::{AllocError, Global};
 use std::collections::VecDeque;
 use std::io::Read;

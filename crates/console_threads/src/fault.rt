@@ -34,7 +34,7 @@ impl From<ConsoleFault> for ThreadsFault {
 
 impl From<AllocError> for ThreadsFault {
     ghost use Rattle.std.specs.Prelude.{◌≡◌};
-    ghost use Rattle.console.specs.declared.fault.ConsoleFault.TheVariants.{Memory};
+    ghost use Rattle.console_threads.specs.Vocabulary.{Memory};
     ghost use Rattle.console_threads.specs.declared.fault.ThreadsFault.TheVariants.{Console};
 
     ghost from_gives = { λ _ e. e ≡ Console Memory };

@@ -1,8 +1,6 @@
 //! Running a script by threads.
 ghost use Rattle.std.specs.Prelude.{◌≡◌, ◌↔◌, ◌-◌, ◌^◌, [], All, IfOk, IfErr, OnOk, IsTrue, map};
-ghost use Rattle.block_device.specs.Blocks.{blocks_of};
-ghost use Rattle.image_tree.specs.Damage.{IsWellFormed};
-ghost use Rattle.console.specs.Images.{bytes_for, disk_for};
+ghost use Rattle.console_threads.specs.Vocabulary.{blocks_of, IsWellFormed, bytes_for, disk_for};
 ghost use Rattle.console_threads.specs.Faults.{IsMounted, JudgesRun};
 ghost use Rattle.console_threads.specs.Runs.{IsPrinted, IsUnprinted, RunsThreads, TellsRun};
 ghost use Rattle.console_threads.specs.Worked.{AllAnswered, eight_harts};
@@ -14,11 +12,11 @@ use crate::tell::{notes_of, write_harts};
 use crate::work::run_calls;
 use block_device::MemoryDisk;
 use console::{ConsoleFault, finish_on, image_disk};
-use script::Mode;
 use hart_core::Event;
 use hart_runner::{Kernel, NoGate, Seat};
 use locked_world::Closed;
 use plain_tree::Call;
+use script::Mode;
 use std::alloc::Global;
 use std::io::{Read, Write};
 use std::marker::Brand;

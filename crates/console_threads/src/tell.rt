@@ -1,15 +1,13 @@
 //! What is printed of a run that has ended.
 ghost use Rattle.std.specs.Prelude.{◌≡◌, Some, IfOk, OnOk};
-ghost use Rattle.std.specs.Io.KnownBytes.{Appends};
-ghost use Rattle.console.specs.Notes.{no_notes, with_what};
-ghost use Rattle.console.specs.Sessions.{hart_in};
+ghost use Rattle.console_threads.specs.Vocabulary.{Appends, no_notes, with_what, hart_in};
 ghost use Rattle.console_threads.specs.Told.{hart_text, harts_text, line_for, line_of, noted_in, what_in};
 ghost use Rattle.console_threads.specs.Worked.{eight_harts};
 
 use console::{Notes, Verb, What, hart_in, what_of, what_of_step, write_refused};
-use script::{Mode, write_reply};
 use hart_core::{Came, Event, Outcome};
 use plain_tree::{Call, Reply};
+use script::{Mode, write_reply};
 use std::alloc::{AllocError, Global};
 use std::io;
 use std::io::Write;

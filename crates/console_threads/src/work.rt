@@ -1,7 +1,6 @@
 //! Eight harts that make their calls at once.
 ghost use Rattle.std.specs.Prelude.{◌≡◌, [], None, IfOk, IfErr, IfNone, All, map};
-ghost use Rattle.hart_runner.specs.Calls.{IsAnswered, IsRefused};
-ghost use Rattle.hart_runner.specs.Seats.{busy_of};
+ghost use Rattle.console_threads.specs.Vocabulary.{IsAnswered, IsRefused, busy_of};
 ghost use Rattle.console_threads.specs.Faults.{IsBroken};
 ghost use Rattle.console_threads.specs.Worked.{AllAnswered, EachWorked, HasMade, HasWorked, eight_harts};
 

@@ -1,13 +1,5 @@
 -- A slot is free exactly where it is all zeros.
-use Rattle.std.proofs.Common.{◌≡◌, ℕ, ◌+◌, ◌*◌, ◌<◌, true, ◌==◌, List, length, replicate, Option, Some, None, refl, sym, ap, ◌∙◌, arith}
-use Rattle.std.proofs.lemmas.Bool.{and_parts, eqb-true}
-use Rattle.std.proofs.lemmas.Bool.Decides.{same_from_decides}
-use Rattle.fs_layout.specs.declared.entry.Dirent.{Dirent}
-use Rattle.fs_layout.specs.declared.entry.Dirent.TheVariants.{Free, Used}
-use Rattle.fs_layout.specs.Bytes.{record_at, IsBytes}
-use Rattle.fs_layout.specs.Entry.{dirent_of, dirent_at}
-use Rattle.fs_layout.proofs.Entries.{dirent_of-spell, spell-dirent_of}
-use Rattle.directory.specs.Slots.{is_free, is_clear, u64_at}
+use Rattle.directory.proofs.Vocabulary.{◌≡◌, ℕ, ◌+◌, ◌*◌, ◌<◌, true, ◌==◌, List, length, replicate, Option, Some, None, refl, sym, ap, ◌∙◌, arith, and_parts, eqb-true, same_from_decides, Dirent, Free, Used, record_at, IsBytes, dirent_of, dirent_at, dirent_of-spell, spell-dirent_of, is_free, is_clear, u64_at}
 use Rattle.directory.proofs.OneSlot.{slot_in, zeros_at}
 use Rattle.directory.proofs.Words.{same_row, u64_at-part}
 

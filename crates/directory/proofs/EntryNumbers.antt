@@ -1,16 +1,5 @@
 -- The number in a slot is that of its entry.
-use Rattle.std.proofs.Common.{◌≡◌, ℕ, ◌*◌, ◌&&◌, true, false, eqb, List, drop, Option, Some, None, sym, ◌∙◌, refl, nat_le, ⊎_elim}
-use Rattle.std.proofs.lemmas.Bool.{and_parts, eqb-true}
-use Rattle.std.specs.List.{list_all, position_or_len}
-use Rattle.fs_layout.specs.declared.entry.Dirent.{Dirent}
-use Rattle.fs_layout.specs.declared.entry.Dirent.TheVariants.{Free, Used}
-use Rattle.fs_layout.specs.Bytes.{u16_at, record_at}
-use Rattle.fs_layout.specs.Name.{is_name, is_zero}
-use Rattle.fs_layout.specs.Entry.{dirent_of, dirent_at, name_of, used_of, free_of}
-use Rattle.fs_layout.proofs.Branches.{which_branch}
-use Rattle.fs_layout.proofs.Entries.{number-part}
-use Rattle.directory.specs.Programs.{Aim, Named, Unused, Entry}
-use Rattle.directory.specs.Laws.{is_sought, number_of}
+use Rattle.directory.proofs.Vocabulary.{◌≡◌, ℕ, ◌*◌, ◌&&◌, true, false, eqb, List, drop, Option, Some, None, sym, ◌∙◌, refl, nat_le, ⊎_elim, and_parts, eqb-true, list_all, position_or_len, Dirent, Free, Used, u16_at, record_at, is_name, is_zero, dirent_of, dirent_at, name_of, used_of, free_of, which_branch, number-part, Aim, Named, Unused, Entry, is_sought, number_of}
 use Rattle.directory.proofs.Named.{free_not_used}
 
 used_not_free : (number : ℕ) (field : List ℕ) → used_of number field ≡ Some Free → ⊥

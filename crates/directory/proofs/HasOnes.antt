@@ -1,24 +1,8 @@
 -- Each part has an operation to make.
-use Rattle.fs_layout.specs.declared.inode.Dinode.{Dinode}
-use Rattle.fs_machine.proofs.HasOnes.{HasOne, first}
-use Rattle.fs_machine.specs.declared.hand.Hand.{Hand}
-use Rattle.inode_data.specs.FetchingBlocks.{block_left}
-use Rattle.inode_table.specs.Storing.{store_left}
-use Rattle.directory.specs.Programs.{Aim}
-use Rattle.directory.specs.Clearing.{clear_left}
-use Rattle.directory.specs.EnterParts.{enter_left}
-use Rattle.directory.specs.Filling.{fill_left}
-use Rattle.inode_data.specs.PartWriting.{write_left}
-use Rattle.directory.specs.Searching.{search_left}
-use Rattle.directory.specs.declared.clear.Clear.{Clear}
+use Rattle.directory.proofs.Vocabulary.{Dinode, HasOne, first, Hand, block_left, store_left, Aim, clear_left, enter_left, fill_left, write_left, search_left, Clear, Enter, Fill, Search, store_has, block_has, write_has}
 use Rattle.directory.specs.declared.clear.Clear.TheVariants as clear
-use Rattle.directory.specs.declared.enter.Enter.{Enter}
 use Rattle.directory.specs.declared.enter.Enter.TheVariants as enter
-use Rattle.directory.specs.declared.fill.Fill.{Fill}
-use Rattle.directory.specs.declared.search.Search.{Search}
 use Rattle.directory.specs.declared.search.Search.TheVariants as search
-use Rattle.inode_table.proofs.HasOnes.{store_has}
-use Rattle.inode_data.proofs.HasOnes.{block_has, write_has}
 
 pub search_has : (aim : Aim) (d : Dinode) (m : Search) (h : Hand) → HasOne (search_left aim d m h)
 search_has aim d (search.Fetching at m) h = first (block_left m h) _ (block_has m h)

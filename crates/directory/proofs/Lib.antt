@@ -1,3 +1,5 @@
+pub mod Lemmas
+pub mod Vocabulary
 pub mod Cleared
 pub mod EntryNumbers
 pub mod HasOnes

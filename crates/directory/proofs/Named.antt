@@ -1,19 +1,5 @@
 -- A slot compared where it stands is compared by what it is.
-use Rattle.std.proofs.Common.{◌≡◌, ◌≢◌, ℕ, ◌+◌, ◌-◌, ◌*◌, ◌<◌, ◌≤◌, true, false, not, eqb, ◌==◌, ◌&&◌, List, ◌++◌, length, drop, replicate, Option, Some, None, refl, sym, ap, ◌∙◌, arith, ⊎_elim, length-append, length-drop}
-use Rattle.std.proofs.lemmas.Bool.{and_parts, cases_lt, eq-eqb, eqb-true, ne_eqb, eqb-false, not-true}
-use Rattle.std.proofs.lemmas.Bool.Decides.{same_from_decides}
-use Rattle.std.proofs.lemmas.Slice.Eq.{bytes_eq-Decides}
-use Rattle.std.proofs.lemmas.List.{drop_at, length-replicate, get_or_append_left, get_or-append_right}
-use Rattle.fs_layout.specs.declared.entry.Dirent.{Dirent}
-use Rattle.fs_layout.specs.declared.entry.Dirent.TheVariants.{Free, Used}
-use Rattle.fs_layout.specs.Bytes.{u16_bytes, u16_at, record_at, IsBytes}
-use Rattle.std.specs.List.{list_all}
-use Rattle.fs_layout.specs.Name.{is_zero, IsName}
-use Rattle.fs_layout.specs.Entry.{spell_dirent, dirent_of, used_of, free_of, dirent_at}
-use Rattle.fs_layout.proofs.Branches.{which_branch}
-use Rattle.fs_layout.proofs.Entries.{dirent_of-spell, spell-dirent_of, number-part, name_parts}
-use Rattle.fs_layout.proofs.Numbers.{u16_at-lt, u16_bytes-at, length-u16_bytes}
-use Rattle.directory.specs.Slots.{is_named, field_of, has_words, u64_at}
+use Rattle.directory.proofs.Vocabulary.{◌≡◌, ◌≢◌, ℕ, ◌+◌, ◌-◌, ◌*◌, ◌<◌, ◌≤◌, true, false, not, eqb, ◌==◌, ◌&&◌, List, ◌++◌, length, drop, replicate, Option, Some, None, refl, sym, ap, ◌∙◌, arith, ⊎_elim, length-append, length-drop, and_parts, cases_lt, eq-eqb, eqb-true, ne_eqb, eqb-false, not-true, same_from_decides, bytes_eq-Decides, drop_at, length-replicate, get_or_append_left, get_or-append_right, Dirent, Free, Used, u16_bytes, u16_at, record_at, IsBytes, list_all, is_zero, IsName, spell_dirent, dirent_of, used_of, free_of, dirent_at, which_branch, dirent_of-spell, spell-dirent_of, number-part, name_parts, u16_at-lt, u16_bytes-at, length-u16_bytes, is_named, field_of, has_words, u64_at}
 use Rattle.directory.proofs.OneSlot.{IsSlot, slot_in, field_fits, zeros_at}
 use Rattle.directory.proofs.Words.{same_row, u64_at-part, u64_at-drop}
 

@@ -1,8 +1,5 @@
 -- The bytes of a slot.
-use Rattle.std.proofs.Common.{◌≡◌, ℕ, ◌+◌, ◌*◌, ◌<◌, ◌≤◌, List, length, drop, get_or, replicate, arith, ⊎_elim, length-drop}
-use Rattle.std.proofs.lemmas.Bool.{cases_lt}
-use Rattle.std.proofs.lemmas.List.{length-replicate, length-take, length-take-le, get_or-take, get_or-drop, get_or_past, get_or-replicate}
-use Rattle.fs_layout.specs.Bytes.{record_at, IsBytes}
+use Rattle.directory.proofs.Vocabulary.{◌≡◌, ℕ, ◌+◌, ◌*◌, ◌<◌, ◌≤◌, List, length, drop, get_or, replicate, arith, ⊎_elim, length-drop, cases_lt, length-replicate, length-take, length-take-le, get_or-take, get_or-drop, get_or_past, get_or-replicate, record_at, IsBytes}
 
 pub record IsSlot (bytes : List ℕ) : Type 0 where
   pub long : length bytes ≡ 16

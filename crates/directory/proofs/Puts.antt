@@ -1,8 +1,5 @@
 -- A block into which an entry was put.
-use Rattle.std.proofs.Common.{refl, arith}
-use Rattle.fs_layout.proofs.Entries.{reads_back, others_stay}
-use Rattle.directory.specs.Laws.{PutsOneEntry}
-use Rattle.directory.specs.Programs.{with_dirent}
+use Rattle.directory.proofs.Vocabulary.{refl, arith, reads_back, others_stay, PutsOneEntry, with_dirent}
 
 pub puts_one : PutsOneEntry
 unfolding with_dirent

@@ -1,26 +1,5 @@
 -- What a search finds.
-use Rattle.std.proofs.Common.{◌≡◌, ℕ, zero, suc, ◌+◌, ◌-◌, ◌*◌, ◌/◌, ◌%◌, ◌<◌, ◌≤◌, nat_le, ◌&&◌, Bool, true, false, List, [], ◌++◌, Option, Some, None, refl, sym, ap, ◌∙◌, arith, ⊎_elim, append_assoc, subst, zero-add}
-use Rattle.std.proofs.lemmas.Bool.{cases_lt, le-leb, lt-leb}
-use Rattle.std.specs.Prelude.{slice_index}
-use Rattle.std.specs.Option.{option_map}
-use Rattle.fs_layout.specs.Indirect.{numbers_in}
-use Rattle.fs_layout.specs.declared.inode.Dinode.{Dinode}
-use Rattle.fs_layout.specs.Entry.{dirent_at}
-use Rattle.atomic_programs.specs.Prog.{Ret, Do, bind}
-use Rattle.fs_machine.specs.Machines.{P}
-use Rattle.fs_machine.specs.Programs.{fetch, read_unless}
-use Rattle.fs_machine.specs.Steps.{Get}
-use Rattle.bitmap_alloc.specs.First.{first_below}
-use Rattle.bitmap_alloc.specs.Laws.{Oracle, outcome, recorded, recording}
-use Rattle.bitmap_alloc.proofs.First.{FirstIs, first_is}
-use Rattle.inode_data.specs.declared.addresses.Address.{Address}
-use Rattle.inode_data.specs.declared.addresses.Address.TheVariants.{Direct, InTable}
-use Rattle.inode_data.specs.Addresses.{address, table_of}
-use Rattle.inode_data.specs.Programs.{FetchedBlock, fetch_at, fetch_block, fetch_named, fetch_number, give_fetched}
-use Rattle.directory.specs.declared.found.Found.{Found}
-use Rattle.directory.specs.Slots.{is_used, first_named, first_free, first_used}
-use Rattle.directory.specs.Programs.{Aim, Named, Unused, Entry, block_count, slot_count, slots_in, first_in, found_at, found_in, look_at, or_next, search_from}
-use Rattle.directory.specs.Laws.{Shows, slot_at, is_sought, number_of, IsFirst, FindsTheFirst, FindsNothingInTheDead}
+use Rattle.directory.proofs.Vocabulary.{◌≡◌, ℕ, zero, suc, ◌+◌, ◌-◌, ◌*◌, ◌/◌, ◌%◌, ◌<◌, ◌≤◌, nat_le, ◌&&◌, Bool, true, false, List, [], ◌++◌, Option, Some, None, refl, sym, ap, ◌∙◌, arith, ⊎_elim, append_assoc, subst, zero-add, cases_lt, le-leb, lt-leb, slice_index, option_map, numbers_in, Dinode, dirent_at, Ret, Do, bind, P, fetch, read_unless, Get, first_below, Oracle, outcome, recorded, recording, FirstIs, first_is, Address, Direct, InTable, address, table_of, FetchedBlock, fetch_at, fetch_block, fetch_named, fetch_number, give_fetched, Found, is_used, first_named, first_free, first_used, Aim, Named, Unused, Entry, block_count, slot_count, slots_in, first_in, found_at, found_in, look_at, or_next, search_from, Shows, slot_at, is_sought, number_of, IsFirst, FindsTheFirst, FindsNothingInTheDead}
 use Rattle.directory.proofs.EntryNumbers.{sought-number}
 
 -- ---- one program after the other

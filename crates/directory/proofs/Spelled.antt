@@ -1,9 +1,6 @@
 -- The bytes of an entry, written one part after the other.
-use Rattle.std.proofs.Common.{◌≡◌, ℕ, ◌+◌, ◌-◌, ◌/◌, ◌%◌, List, [], ◌∷◌, ◌++◌, length, drop, replicate, ap, ◌∙◌, arith}
-use Rattle.std.proofs.lemmas.List.{drop-replicate}
+use Rattle.directory.proofs.Vocabulary.{◌≡◌, ℕ, ◌+◌, ◌-◌, ◌/◌, ◌%◌, List, [], ◌∷◌, ◌++◌, length, drop, replicate, ap, ◌∙◌, arith, drop-replicate, little_bytes, u16_bytes}
 use borrow.Rule.Slice.PartMut.{put_mid}
-use Rattle.byteorder.specs.Endian.{little_bytes}
-use Rattle.fs_layout.specs.Bytes.{u16_bytes}
 
 -- the low 16 bits of a number are spelled as the number is
 low_bytes : (number : ℕ) → little_bytes 2 (number % 65536) ≡ little_bytes 2 number

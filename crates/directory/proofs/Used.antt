@@ -1,9 +1,5 @@
 -- The first used slot from a place on.
-use Rattle.std.proofs.Common.{◌≡◌, ℕ, ◌<◌, ◌≤◌, true, false, ◌&&◌, nat_le, List, Some, None, sym, arith, ⊎_elim}
-use Rattle.std.proofs.lemmas.Bool.{cases_lt, le-leb, lt-leb, and_left, and_right, and_from}
-use Rattle.fs_layout.specs.Entry.{dirent_at}
-use Rattle.directory.specs.Slots.{first_used, is_used}
-use Rattle.bitmap_alloc.proofs.First.{this_below, none_below}
+use Rattle.directory.proofs.Vocabulary.{◌≡◌, ℕ, ◌<◌, ◌≤◌, true, false, ◌&&◌, nat_le, List, Some, None, sym, arith, ⊎_elim, cases_lt, le-leb, lt-leb, and_left, and_right, and_from, dirent_at, first_used, is_used, this_below, none_below}
 
 module _ (block : List ℕ) (from : ℕ) where
   -- none up to here

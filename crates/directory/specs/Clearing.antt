@@ -1,19 +1,8 @@
 -- A name's slot cleared.
 use Rattle.std.specs.Prelude.{◌≡◌, ◌<◌, ◌^◌, None, IsSome}
-use Rattle.fs_layout.specs.declared.inode.Dinode.{Dinode}
-use Rattle.fs_layout.specs.declared.entry.Dirent.TheVariants.{Free}
-use Rattle.atomic_programs.specs.Prog.{bind}
-use Rattle.fs_machine.specs.Machines.{P}
-use Rattle.inode_table.specs.Programs.{inode_block}
-use Rattle.inode_data.specs.Programs.{FetchedBlock}
+use Rattle.directory.specs.Vocabulary.{Dinode, Free, bind, P, inode_block, FetchedBlock, Hand, First, Op, block_left, block_asked, store_left, store_asked, store_place, StoreReady, block_in, FetchesFirst, HasBlock}
 use Rattle.directory.specs.Programs.{give_record, most_slots, put_dirent}
-use Rattle.fs_machine.specs.declared.hand.Hand.{Hand}
-use Rattle.fs_machine.specs.declared.hand.Place.TheVariants.{First}
-use Rattle.fs_machine.specs.declared.op.Op.{Op}
 use Rattle.fs_machine.specs.declared.op.Op.TheVariants as ops
-use Rattle.inode_data.specs.FetchingBlocks.{block_left, block_asked}
-use Rattle.inode_table.specs.Storing.{store_left, store_asked, store_place, StoreReady}
-use Rattle.inode_data.specs.InHand.{block_in, FetchesFirst, HasBlock}
 use Rattle.directory.specs.declared.clear.Clear.{Clear}
 use Rattle.directory.specs.declared.clear.Clear.TheVariants.{Fetching, Write, Storing}
 use Rattle.directory.specs.declared.clear.Slot.{Slot}

@@ -1,17 +1,10 @@
 -- A name entered.
 use Rattle.std.specs.Prelude.{ℕ, ◌+◌, ◌*◌, ◌==◌, if◌then◌else◌, ◌^◌, ◌<◌, ◌≤◌, IsSome}
-use Rattle.fs_layout.specs.Widths.{bits_per_block, dirent_len}
-use Rattle.atomic_programs.specs.Prog.{bind}
-use Rattle.fs_machine.specs.Machines.{P}
-use Rattle.inode_table.specs.Programs.{inode_block}
+use Rattle.directory.specs.Vocabulary.{bits_per_block, dirent_len, bind, P, inode_block, Hand, Op, write_left, write_asked, WriteReady, Written}
 use Rattle.directory.specs.Programs.{Unused, most_slots}
 use Rattle.directory.specs.Entering.{EnteredState, enter_at, entered_by}
 use Rattle.directory.specs.declared.enter.Room.TheVariants.{There, NoBlock}
-use Rattle.fs_machine.specs.declared.hand.Hand.{Hand}
-use Rattle.fs_machine.specs.declared.op.Op.{Op}
 use Rattle.directory.specs.Searching.{search_left, search_asked, SearchReady}
-use Rattle.inode_data.specs.PartWriting.{write_left, write_asked, WriteReady}
-use Rattle.inode_data.specs.declared.write_part.Written.{Written}
 use Rattle.directory.specs.declared.enter.Enter.{Enter}
 use Rattle.directory.specs.declared.enter.Enter.TheVariants.{Searching, Writing}
 use Rattle.directory.specs.declared.enter.Entered.{Entered}

@@ -1,13 +1,7 @@
 -- A name entered: a program over what all harts share. Nothing is marked in it.
 use Rattle.std.specs.Prelude.{ℕ, ◌+◌, ◌*◌, ◌==◌, nat_lt, if◌then◌else◌, List, Option, Some, None}
-use Rattle.fs_layout.specs.declared.inode.Dinode.{Dinode}
-use Rattle.fs_layout.specs.declared.superblock.Super.{Super}
-use Rattle.fs_layout.specs.declared.entry.Dirent.TheVariants.{Used}
-use Rattle.fs_layout.specs.Entry.{spell_dirent}
-use Rattle.fs_layout.specs.Widths.{dirent_len}
-use Rattle.atomic_programs.specs.Prog.{Prog, Ret, bind}
-use Rattle.fs_machine.specs.Steps.{Op, Answer}
-use Rattle.inode_data.specs.Writing.{WriteResult, write_part}
+use Rattle.directory.specs.Vocabulary.{Dinode, Super, Used, spell_dirent, dirent_len, Prog, Ret, bind, Answer, WriteResult, write_part}
+use Rattle.fs_machine.specs.Steps.{Op}
 use Rattle.directory.specs.Programs.{Unused, most_slots, search, slot_count}
 use Rattle.directory.specs.declared.found.Found.{Found}
 use Rattle.directory.specs.declared.enter.Room.{Room}

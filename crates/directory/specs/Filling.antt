@@ -1,17 +1,6 @@
 -- The names of a new directory, written.
 use Rattle.std.specs.Prelude.{ℕ, ◌*◌, ◌==◌, List, ◌++◌}
-use Rattle.fs_layout.specs.declared.inode.Dinode.{Dinode}
-use Rattle.fs_layout.specs.declared.superblock.Super.{Super}
-use Rattle.fs_layout.specs.declared.entry.Dirent.TheVariants.{Used}
-use Rattle.fs_layout.specs.Entry.{spell_dirent}
-use Rattle.fs_layout.specs.Widths.{dirent_len}
-use Rattle.plain_tree.specs.Tree.{dot, dotdot}
-use Rattle.atomic_programs.specs.Prog.{Ret, bind}
-use Rattle.fs_machine.specs.Machines.{P}
-use Rattle.inode_data.specs.Writing.{WriteResult, write_part}
-use Rattle.fs_machine.specs.declared.hand.Hand.{Hand}
-use Rattle.fs_machine.specs.declared.op.Op.{Op}
-use Rattle.inode_data.specs.PartWriting.{write_left, write_asked, WriteReady}
+use Rattle.directory.specs.Vocabulary.{Dinode, Super, Used, spell_dirent, dirent_len, dot, dotdot, Ret, bind, P, WriteResult, write_part, Hand, Op, write_left, write_asked, WriteReady}
 use Rattle.directory.specs.declared.fill.Fill.{Fill}
 use Rattle.directory.specs.declared.fill.Filled.{Filled}
 

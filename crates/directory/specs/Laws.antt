@@ -1,14 +1,6 @@
 -- What a search finds, whatever its operations answer, and what a block has after a slot was written.
 use Rattle.std.specs.Prelude.{◌≡◌, ◌≢◌, ℕ, ◌/◌, ◌%◌, ◌<◌, nat_le, ◌&&◌, List, [], length, Bool, true, false, Option, Some, None}
-use Rattle.fs_layout.specs.declared.inode.Dinode.{Dinode}
-use Rattle.fs_layout.specs.declared.entry.Dirent.{Dirent}
-use Rattle.fs_layout.specs.declared.entry.Dirent.TheVariants.{Free, Used}
-use Rattle.fs_layout.specs.Entry.{dirent_at, IsDirent}
-use Rattle.fs_layout.specs.Widths.{block_len, dirents_per_block}
-use Rattle.atomic_programs.specs.Prog.{Ret}
-use Rattle.fs_machine.specs.Machines.{P}
-use Rattle.bitmap_alloc.specs.Laws.{Oracle, outcome, recorded}
-use Rattle.inode_data.specs.Programs.{FetchedBlock, fetch_block}
+use Rattle.directory.specs.Vocabulary.{Dinode, Dirent, Free, Used, dirent_at, IsDirent, block_len, dirents_per_block, Ret, P, Oracle, outcome, recorded, FetchedBlock, fetch_block}
 use Rattle.directory.specs.declared.found.Found.{Found}
 use Rattle.directory.specs.Slots.{is_named, is_free, is_used}
 use Rattle.directory.specs.Programs.{Aim, Named, Unused, Entry, block_count, slot_count, is_live_directory, lookup, search, with_dirent}

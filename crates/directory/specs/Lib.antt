@@ -1,3 +1,4 @@
+pub mod Vocabulary
 pub mod Clearing
 pub mod EnterParts
 pub mod Entering

@@ -1,16 +1,7 @@
 -- A directory searched: programs over what all harts share. Nothing is marked in them.
 use Rattle.std.specs.Prelude.{ℕ, zero, suc, ◌+◌, ◌-◌, ◌*◌, ◌/◌, ◌%◌, max, ◌==◌, ◌&&◌, if◌then◌else◌, nat_lt, ℤ, pos, negsuc, min, List, Bool, false, Option, Some, None}
-use Rattle.std.specs.Option.{option_map}
-use Rattle.fs_layout.specs.declared.inode.Dinode.{Dinode}
-use Rattle.fs_layout.specs.declared.entry.Dirent.{Dirent}
-use Rattle.fs_layout.specs.Bytes.{overwrite, u16_at}
-use Rattle.fs_layout.specs.Entry.{spell_dirent}
-use Rattle.fs_layout.specs.Widths.{dirent_len, dirents_per_block}
-use Rattle.atomic_programs.specs.Prog.{Prog, Ret, Do, bind, unmarked}
-use Rattle.fs_machine.specs.Steps.{Op, Answer, Put}
-use Rattle.inode_table.specs.Programs.{store}
-use Rattle.inode_data.specs.Programs.{FetchedBlock, fetch_block}
-use Rattle.inode_data.specs.Widths.{most_blocks}
+use Rattle.directory.specs.Vocabulary.{option_map, Dinode, Dirent, overwrite, u16_at, spell_dirent, dirent_len, dirents_per_block, Prog, Ret, Do, bind, unmarked, Answer, Put, store, FetchedBlock, fetch_block, most_blocks}
+use Rattle.fs_machine.specs.Steps.{Op}
 use Rattle.directory.specs.Slots.{first_named, first_free, first_used}
 use Rattle.directory.specs.declared.found.Found.{Found}
 

@@ -1,22 +1,11 @@
 -- A directory searched.
 use Rattle.std.specs.Prelude.{◌≡◌, ◌+◌, ◌<◌, Option, None, IsSome, if◌then◌else◌}
-use Rattle.fs_layout.specs.declared.inode.Dinode.{Dinode}
-use Rattle.atomic_programs.specs.Prog.{Ret, Do, bind, unmarked}
+use Rattle.directory.specs.Vocabulary.{Dinode, Ret, Do, bind, unmarked, P, begun_of, Begun, most_blocks, Hand, First, Op, block_at, block_left, block_asked, FetchesFirst}
 use Rattle.fs_machine.specs.Steps as steps
-use Rattle.fs_machine.specs.Machines.{P}
-use Rattle.inode_data.specs.Beginnings.{begun_of}
-use Rattle.inode_data.specs.declared.begun.Begun.{Begun}
-use Rattle.inode_data.specs.Widths.{most_blocks}
 use Rattle.directory.specs.Programs.{Aim, Entry, is_directory, look_at, or_next, search, search_from}
 use Rattle.directory.specs.Sought.{IsSlot}
 use Rattle.directory.specs.declared.found.Found.{Found}
-use Rattle.fs_machine.specs.declared.hand.Hand.{Hand}
-use Rattle.fs_machine.specs.declared.hand.Place.TheVariants.{First}
-use Rattle.fs_machine.specs.declared.op.Op.{Op}
 use Rattle.fs_machine.specs.declared.op.Op.TheVariants as ops
-use Rattle.fs_machine.specs.Hands.{block_at}
-use Rattle.inode_data.specs.FetchingBlocks.{block_left, block_asked}
-use Rattle.inode_data.specs.InHand.{FetchesFirst}
 use Rattle.directory.specs.declared.search.Blocks.{Blocks}
 use Rattle.directory.specs.declared.search.Search.{Search}
 use Rattle.directory.specs.declared.search.Search.TheVariants.{Fetching, Giving}

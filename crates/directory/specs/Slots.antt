@@ -1,13 +1,6 @@
 -- The slots of a directory's block, looked at where they stand.
 use Rattle.std.specs.Prelude.{ℕ, ◌+◌, ◌-◌, ◌*◌, ◌==◌, nat_le, ◌&&◌, not, List, ◌++◌, length, drop, replicate, Bool, true, false, Option, Some, None}
-use Rattle.std.specs.Str.{bytes_eq}
-use Rattle.byteorder.specs.Endian.{little_number}
-use Rattle.fs_layout.specs.declared.entry.Dirent.{Dirent}
-use Rattle.fs_layout.specs.declared.entry.Dirent.TheVariants.{Free, Used}
-use Rattle.fs_layout.specs.Bytes.{u16_at}
-use Rattle.fs_layout.specs.Entry.{dirent_at}
-use Rattle.fs_layout.specs.Widths.{dirent_len, dirent_name_at, name_len}
-use Rattle.bitmap_alloc.specs.First.{first_below}
+use Rattle.directory.specs.Vocabulary.{bytes_eq, little_number, Dirent, Free, Used, u16_at, dirent_at, dirent_len, dirent_name_at, name_len, first_below}
 
 -- the slot is used, by this name
 abbrev pub is_named : List ℕ → Option Dirent → Bool

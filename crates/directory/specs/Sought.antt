@@ -1,6 +1,6 @@
 -- What is sought among the slots of a directory, and what is found.
 use Rattle.std.specs.Prelude.{ℕ, ◌<◌, Option, IfSome}
-use Rattle.fs_layout.specs.Name.{IsName}
+use Rattle.directory.specs.Vocabulary.{IsName}
 use Rattle.directory.specs.Programs.{Aim, Named, Unused, Entry, most_slots}
 use Rattle.directory.specs.declared.found.Found.{Found}
 use Rattle.directory.specs.declared.found.Sought.{Sought}

@@ -1,13 +1,7 @@
 //! A name's slot cleared.
 ghost use Rattle.std.specs.Prelude.{◌≡◌, ◌<◌, ◌^◌, Some, None, IsSome, IfSome, IfNone};
-ghost use Rattle.fs_layout.specs.declared.inode.Dinode.{Dinode as DinodeState};
-ghost use Rattle.fs_layout.specs.declared.entry.Dirent.TheVariants.{Free};
-ghost use Rattle.inode_table.specs.Programs.{inode_block};
+ghost use Rattle.directory.specs.Vocabulary.{Dinode as DinodeState, Free, inode_block, IsAfter, answer_in, Goes, left_after, bare, Hand as HandState, beside_buffers, NoBuffers};
 ghost use Rattle.directory.specs.Programs.{most_slots, put_entry, with_slot};
-ghost use Rattle.fs_machine.specs.Ops.{IsAfter, answer_in};
-ghost use Rattle.fs_machine.specs.Controls.{Goes, left_after, bare};
-ghost use Rattle.fs_machine.specs.declared.hand.Hand.{Hand as HandState};
-ghost use Rattle.inode_data.specs.InHand.{beside_buffers, NoBuffers};
 ghost use Rattle.directory.specs.Clearing.{clear_left, clear_asked, ClearReady};
 
 use crate::place::clear_at;

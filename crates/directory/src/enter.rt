@@ -1,17 +1,8 @@
 //! A name entered.
 ghost use Rattle.std.specs.Prelude.{◌≡◌, ◌<◌, ◌≤◌, ◌^◌, Some, None, IsSome, IfSome, IfNone};
-ghost use Rattle.fs_layout.specs.declared.entry.Dirent.TheVariants.{Used};
-ghost use Rattle.fs_layout.specs.Entry.{spell_dirent};
-ghost use Rattle.fs_layout.specs.Name.{IsName};
-ghost use Rattle.fs_layout.specs.Widths.{bits_per_block};
-ghost use Rattle.inode_table.specs.Programs.{inode_block};
-ghost use Rattle.inode_data.specs.Beginnings.{begun_of, IfBegun};
+ghost use Rattle.directory.specs.Vocabulary.{Used, spell_dirent, IsName, bits_per_block, inode_block, begun_of, IfBegun, IsAfter, answer_in, Goes, left_after, bare, Hand as HandState, beside_buffers, NoBuffers};
 ghost use Rattle.directory.specs.Programs.{most_slots};
 ghost use Rattle.directory.specs.Entering.{EnteredState, enter, enter_at, slot_for};
-ghost use Rattle.fs_machine.specs.Ops.{IsAfter, answer_in};
-ghost use Rattle.fs_machine.specs.Controls.{Goes, left_after, bare};
-ghost use Rattle.fs_machine.specs.declared.hand.Hand.{Hand as HandState};
-ghost use Rattle.inode_data.specs.InHand.{beside_buffers, NoBuffers};
 ghost use Rattle.directory.specs.EnterParts.{entered_as, enter_left, enter_asked, entered_in, EnterReady, IsEntering};
 
 use crate::found::{Found, MOST_SLOTS, Sought};

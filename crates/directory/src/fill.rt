@@ -1,12 +1,6 @@
 //! The names of a new directory, written.
 ghost use Rattle.std.specs.Prelude.{◌≡◌, ◌≤◌, ◌<◌, ◌^◌, Some, None, IsSome, IfSome, IfNone};
-ghost use Rattle.fs_layout.specs.Widths.{bits_per_block};
-ghost use Rattle.inode_table.specs.Programs.{inode_block};
-ghost use Rattle.fs_machine.specs.Ops.{IsAfter, answer_in};
-ghost use Rattle.fs_machine.specs.Controls.{Goes, left_after, bare};
-ghost use Rattle.fs_machine.specs.declared.hand.Hand.{Hand as HandState};
-ghost use Rattle.inode_data.specs.InHand.{beside_buffers, NoBuffers};
-ghost use Rattle.inode_data.specs.PartWriting.{written_as};
+ghost use Rattle.directory.specs.Vocabulary.{bits_per_block, inode_block, IsAfter, answer_in, Goes, left_after, bare, Hand as HandState, beside_buffers, NoBuffers, written_as};
 ghost use Rattle.directory.specs.Filling.{dots, fill, fill_left, fill_asked, filled_in, FillReady};
 ghost use Rattle.directory.specs.declared.fill.Filled.{Filled as FilledState};
 

@@ -1,7 +1,6 @@
 //! What is sought and found in a block of a directory.
 ghost use Rattle.std.specs.Prelude.{◌≡◌, ◌+◌, ◌-◌, ◌*◌, ◌≤◌, ◌<◌, IfSome};
-ghost use Rattle.fs_layout.specs.Widths.{dirents_per_block};
-ghost use Rattle.inode_data.specs.Widths.{most_blocks};
+ghost use Rattle.directory.specs.Vocabulary.{dirents_per_block, most_blocks};
 ghost use Rattle.directory.specs.Programs.{slot_count, block_count, slots_in, first_in, found_at, found_in, is_directory, is_live_directory};
 ghost use Rattle.directory.specs.Sought.{aim_of, IsSlot, IsSought};
 

@@ -1,12 +1,7 @@
 // What a buffer has of a directory.
 ghost use Rattle.std.specs.Prelude.{◌≡◌, ◌<◌, Some, IsSome, None};
-ghost use Rattle.std.specs.Option.{MatchOption};
-ghost use Rattle.fs_machine.specs.Tied.{bytes_of};
-ghost use Rattle.fs_machine.specs.Hands.{bytes_at, with_bytes, with_content};
-ghost use Rattle.fs_layout.specs.declared.entry.Dirent.TheVariants.{Free};
-ghost use Rattle.fs_layout.specs.Widths.{dirents_per_block};
+ghost use Rattle.directory.specs.Vocabulary.{MatchOption, bytes_of, bytes_at, with_bytes, with_content, Free, dirents_per_block, First};
 ghost use Rattle.directory.specs.Programs.{with_dirent};
-ghost use Rattle.fs_machine.specs.declared.hand.Place.TheVariants.{First};
 
 use buffer_cache::Buffer;
 use fs_layout::{Dirent, write_dirent};

@@ -1,19 +1,8 @@
 //! A directory searched, a block at a time.
 ghost use Rattle.std.specs.Prelude.{◌≡◌, ◌+◌, ◌≤◌, ◌<◌, ℕ, List, Some, None, IsSome, IfSome, IfNone};
-ghost use Rattle.std.specs.Option.{MatchOption};
-ghost use Rattle.atomic_programs.specs.Prog.{asks};
-ghost use Rattle.inode_data.specs.Beginnings.{IfBegun};
-ghost use Rattle.inode_data.specs.Widths.{most_blocks};
+ghost use Rattle.directory.specs.Vocabulary.{MatchOption, asks, IfBegun, most_blocks, bytes_at, op_in, answer_in, CanDo, Prepared, IsAfter, Goes, left_after, Hand as HandState, First, Leaves, Dinode as DinodeState, NoBuffers};
 ghost use Rattle.directory.specs.Programs.{Aim, Entry, Named, found_in, lookup, search, search_from};
 ghost use Rattle.directory.specs.Sought.{aim_of, IsSlot, IsSought};
-ghost use Rattle.fs_machine.specs.Hands.{bytes_at};
-ghost use Rattle.fs_machine.specs.Ops.{op_in, answer_in, CanDo, Prepared, IsAfter};
-ghost use Rattle.fs_machine.specs.Controls.{Goes, left_after};
-ghost use Rattle.fs_machine.specs.declared.hand.Hand.{Hand as HandState};
-ghost use Rattle.fs_machine.specs.declared.hand.Place.TheVariants.{First};
-ghost use Rattle.inode_data.specs.Locating.{Leaves};
-ghost use Rattle.fs_layout.specs.declared.inode.Dinode.{Dinode as DinodeState};
-ghost use Rattle.inode_data.specs.InHand.{NoBuffers};
 ghost use Rattle.directory.specs.Searching.{begun_left, entries, search_left, search_asked, SearchReady};
 
 use crate::found::{Found, Sought, block_count, found_in, is_directory, is_live_directory};

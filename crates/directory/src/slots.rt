@@ -1,9 +1,6 @@
 //! The slots of a directory's block, looked at where they stand: no name is built for one.
 ghost use Rattle.std.specs.Prelude.{◌≡◌, ◌+◌, ◌*◌, ◌<◌, ◌≤◌, length, IfSome};
-ghost use Rattle.fs_layout.specs.Bytes.{u16_at};
-ghost use Rattle.fs_layout.specs.Entry.{dirent_at};
-ghost use Rattle.fs_layout.specs.Name.{IsName};
-ghost use Rattle.fs_layout.specs.Widths.{dirent_len, dirents_per_block, name_len};
+ghost use Rattle.directory.specs.Vocabulary.{u16_at, dirent_at, IsName, dirent_len, dirents_per_block, name_len};
 ghost use Rattle.directory.specs.Slots.{field_of, first_free, first_named, first_used, has_words, is_clear, is_used, u64_at};
 
 use byteorder::{ByteOrder, LittleEndian};

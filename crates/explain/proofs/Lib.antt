@@ -1,2 +1,4 @@
+pub mod Lemmas
+pub mod Vocabulary
 pub mod Mounting
 pub mod Running

@@ -1,13 +1,5 @@
 -- A world that is mounted on a copy of an image, or isn't.
-use Rattle.std.proofs.Common.{◌≡◌, ℕ, List, subst}
-use Rattle.block_device.specs.Blocks.{blocks_of}
-use Rattle.fs_layout.specs.Recovered.{sizes_of}
-use Rattle.image_tree.specs.declared.fault.MountFault.{MountFault}
-use Rattle.image_tree.specs.declared.fault.MountFault.TheVariants.{Damaged, DeviceFault, NoMemory}
-use Rattle.image_tree.specs.Damage.{IsWellFormed, JudgesFault}
-use Rattle.hart_core.specs.Mounting.{Rests}
-use Rattle.hart_core.specs.Worlds.{WorldOf}
-use Rattle.explain.specs.Explained.{IsRefusedMount, StartsOn, never, refused_by}
+use Rattle.explain.proofs.Vocabulary.{◌≡◌, ℕ, List, subst, blocks_of, sizes_of, MountFault, Damaged, DeviceFault, NoMemory, IsWellFormed, JudgesFault, Rests, WorldOf, IsRefusedMount, StartsOn, never, refused_by}
 
 pub starts_on : (image disk : List ℕ) (w : WorldOf (List ℕ)) → disk ≡ image → IsWellFormed (blocks_of disk) → Rests blocks_of never disk w.harts → w.sizes ≡ sizes_of (blocks_of disk) → StartsOn image w
 starts_on image disk w same well rests sizes = subst (λ (d : List ℕ). StartsOn d w) same (record { well = well; mounted = record { rests = rests; sizes = sizes } })

@@ -1,28 +1,6 @@
 -- What a list that explains a trace, or its want, says of the run that came to the trace.
-use Rattle.std.proofs.Common.{◌≡◌, ℕ, false, List, [], ◌∷◌, Result, Ok, Err, subst, ◌∙◌, inl, inr}
-use Rattle.std.specs.Prelude.{MatchResult, Vec}
-use Rattle.std.specs.List.{All}
-use Rattle.std.specs.declared.alloc.Global.{Global}
-use Rattle.std.proofs.lemmas.Bool.{or_parts}
-use Rattle.std.proofs.lemmas.List.Elements.{All-cons, All-nil}
-use Rattle.block_device.specs.Blocks.{blocks_of}
-use Rattle.plain_tree.specs.declared.trace.Placed.{Placed}
-use Rattle.plain_tree.specs.declared.trace.Trace.{Trace}
-use Rattle.plain_tree.specs.declared.trace.TracedCall.{TracedCall}
-use Rattle.plain_tree.specs.Calls.{call_climbs}
-use Rattle.plain_tree.specs.Explains.{Explains}
-use Rattle.plain_tree.specs.TreeData.{TreeData}
-use Rattle.image_tree.specs.Trees.{tree_in}
-use Rattle.hart_core.specs.declared.events.Came.{Came}
-use Rattle.hart_core.specs.declared.events.Event.{Event}
-use Rattle.hart_core.specs.Runs.{trace_in}
-use Rattle.hart_core.proofs.Histories.{explained}
-use Rattle.tree_histories.specs.Told.{any_climbs}
-use Rattle.explain.specs.declared.play.Played.{Played}
-use Rattle.explain.specs.declared.refused.ExplainRefused.{ExplainRefused}
+use Rattle.explain.proofs.Vocabulary.{◌≡◌, ℕ, false, List, [], ◌∷◌, Result, Ok, Err, subst, ◌∙◌, inl, inr, MatchResult, Vec, All, Global, or_parts, All-cons, All-nil, blocks_of, Placed, Trace, TracedCall, call_climbs, Explains, TreeData, tree_in, Came, Event, trace_in, explained, any_climbs, Played, ExplainRefused, ExplainsRun, IsFoundFor, IsRefusedFor, IsRefusedMount, IsRefusedSo, RunOn, never, IsPlayed}
 use Rattle.explain.specs.declared.refused.ExplainRefused.TheVariants as refused
-use Rattle.explain.specs.Explained.{ExplainsRun, IsFoundFor, IsRefusedFor, IsRefusedMount, IsRefusedSo, RunOn, never}
-use Rattle.explain.specs.Played.{IsPlayed}
 
 pub refused_so : (image : List ℕ) (events : List Event) (e : ExplainRefused) → IsRefusedMount image e → IsRefusedSo image events e
 refused_so image events refused.NoMemory mount = tt

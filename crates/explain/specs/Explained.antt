@@ -1,24 +1,7 @@
 -- What a run of events on an image is explained by, and why it isn't.
 use Rattle.std.specs.Prelude.{◌≡◌, ◌⊎◌, ℕ, true, false, List, MatchResult, Result, Vec}
-use Rattle.std.specs.declared.alloc.Global.{Global}
-use Rattle.block_device.specs.Blocks.{blocks_of}
-use Rattle.plain_tree.specs.declared.call.Call.{Call}
-use Rattle.plain_tree.specs.declared.trace.Placed.{Placed}
-use Rattle.plain_tree.specs.declared.trace.Trace.{Trace}
-use Rattle.plain_tree.specs.Explains.{Explains}
-use Rattle.plain_tree.specs.TreeData.{TreeData}
-use Rattle.image_tree.specs.declared.fault.MountFault.{MountFault}
+use Rattle.explain.specs.Vocabulary.{Global, blocks_of, Call, Placed, Trace, Explains, TreeData, MountFault, IsFirstDamage, IsWellFormed, tree_in, EventOf, Outside, Came, Event, HartsOf, FoundRoom, HasHistory, IsHistory, IsMounted, trace_in, WorldOf, any_climbs, any_full}
 use Rattle.image_tree.specs.declared.fault.MountFault.TheVariants as faults
-use Rattle.image_tree.specs.Damage.{IsFirstDamage, IsWellFormed}
-use Rattle.image_tree.specs.Trees.{tree_in}
-use Rattle.atomic_programs.specs.Calls.{Event as EventOf}
-use Rattle.fs_machine.specs.LogPart.{Outside}
-use Rattle.hart_core.specs.declared.events.Came.{Came}
-use Rattle.hart_core.specs.declared.events.Event.{Event}
-use Rattle.hart_core.specs.Harts.{HartsOf}
-use Rattle.hart_core.specs.Runs.{FoundRoom, HasHistory, IsHistory, IsMounted, trace_in}
-use Rattle.hart_core.specs.Worlds.{WorldOf}
-use Rattle.tree_histories.specs.Told.{any_climbs, any_full}
 use Rattle.explain.specs.declared.refused.ExplainRefused.{ExplainRefused}
 use Rattle.explain.specs.declared.refused.ExplainRefused.TheVariants as refused
 

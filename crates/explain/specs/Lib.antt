@@ -1,3 +1,4 @@
+pub mod Vocabulary
 pub mod Explained
 pub mod Numbers
 pub mod Played

@@ -1,6 +1,6 @@
 -- The numbers and names under which refusals are printed.
 use Rattle.std.specs.Prelude.{ℕ, List, codes}
-use Rattle.image_tree.specs.Faults.{damage_number, damage_name}
+use Rattle.explain.specs.Vocabulary.{damage_number, damage_name}
 use Rattle.explain.specs.declared.refused.ExplainRefused.{ExplainRefused}
 use Rattle.explain.specs.declared.refused.ExplainRefused.TheVariants.{NoMemory, Damaged, FullSeen, Climbs}
 

@@ -1,14 +1,6 @@
 -- What the parts of an explanation answer.
 use Rattle.std.specs.Prelude.{◌≡◌, List, ℕ, IfOk, MatchOption, Option, Result, Vec}
-use Rattle.std.specs.declared.alloc.Global.{Global}
-use Rattle.block_device.specs.Blocks.{blocks_of}
-use Rattle.plain_tree.specs.declared.refused.NoMemory.{NoMemory}
-use Rattle.plain_tree.specs.declared.trace.Placed.{Placed}
-use Rattle.plain_tree.specs.declared.trace.Trace.{Trace}
-use Rattle.plain_tree.specs.Explains.{Explains}
-use Rattle.plain_tree.specs.TreeData.{TreeData}
-use Rattle.image_tree.specs.Trees.{tree_in}
-use Rattle.hart_core.specs.declared.events.Event.{Event}
+use Rattle.explain.specs.Vocabulary.{Global, blocks_of, NoMemory, Placed, Trace, Explains, TreeData, tree_in, Event}
 use Rattle.explain.specs.declared.play.Played.{Played}
 use Rattle.explain.specs.Explained.{RunOn}
 

@@ -1,16 +1,15 @@
 // The history of a run.
 ghost use Rattle.std.specs.Prelude.{◌≡◌, MatchResult};
-ghost use Rattle.hart_core.specs.Runs.{trace_in};
+ghost use Rattle.explain.specs.Vocabulary.{trace_in};
 ghost use Rattle.explain.specs.Explained.{ExplainsRun, IsFoundFor, IsRefusedSo};
 
 use crate::keep::Keeper;
 use crate::play::{Played, play};
 use crate::refused::ExplainRefused;
-use tree_histories::{any_climbs, any_full};
 use hart_core::{Came, Event, trace};
-use tree_histories::find_history;
 use plain_tree::{NoMemory, Placed, Tree};
 use std::alloc::Global;
+use tree_histories::{any_climbs, any_full, find_history};
 
 /// Mounts a copy of the image in memory, runs these events, and hands out a list of tree steps that explains what they
 /// showed of calls: event number, call, step and answer each. Without events the list is empty.

@@ -1,12 +1,11 @@
 // The tree kept beside a run, for the order in which its steps acted.
 ghost use Rattle.std.specs.Prelude.{◌≡◌, IfOk};
 
-use tree_histories::Kept;
 use hart_core::{Came, Event, Observer, Outcome, find_fault};
-use tree_histories::Hint;
 use path_walk::Heard;
 use plain_tree::{Call, NoMemory, Tree};
 use std::alloc::{AllocError, Global};
+use tree_histories::{Hint, Kept};
 
 /// Is told of a run's events as they are made, and keeps a tree beside it, and the steps of the tree in the order in which the run makes
 /// them. A list that explains the run is sought by them first, and nothing else rests on them: so no clause says what they are.

@@ -1,8 +1,6 @@
 // A run in memory.
 ghost use Rattle.std.specs.Prelude.{◌≡◌, IfOk, MatchResult};
-ghost use Rattle.block_device.specs.Blocks.{blocks_of};
-ghost use Rattle.image_tree.specs.Damage.{fault_count_of};
-ghost use Rattle.image_tree.specs.Trees.{tree_in};
+ghost use Rattle.explain.specs.Vocabulary.{blocks_of, fault_count_of, tree_in};
 ghost use Rattle.explain.specs.Explained.{IsRefusedMount, StartsOn, refused_by};
 ghost use Rattle.explain.specs.Played.{IsPlayed};
 

@@ -1,13 +1,7 @@
 -- Each part has an operation to make.
-use Rattle.fs_machine.proofs.HasOnes.{HasOne, first}
-use Rattle.fs_machine.specs.declared.hand.Hand.{Hand}
-use Rattle.inode_table.specs.Loading.{load_left}
-use Rattle.file_table.specs.LockingFiles.{file_left, open_left}
-use Rattle.file_table.specs.declared.lock_file.LockFile.{LockFile}
+use Rattle.file_table.proofs.Vocabulary.{HasOne, first, Hand, load_left, file_left, open_left, LockFile, LockOpen, load_has}
 use Rattle.file_table.specs.declared.lock_file.LockFile.TheVariants as file
-use Rattle.file_table.specs.declared.lock_open.LockOpen.{LockOpen}
 use Rattle.file_table.specs.declared.lock_open.LockOpen.TheVariants as opened
-use Rattle.inode_table.proofs.HasOnes.{load_has}
 
 pub file_has : (m : LockFile) (h : Hand) → HasOne (file_left m h)
 file_has (file.Lock k i w fd) h = tt

@@ -1,21 +1,8 @@
 -- A descriptor's inode locked, and loaded.
 use Rattle.std.specs.Prelude.{◌≡◌, ◌-◌, ◌<◌, ◌^◌, ℕ, Option, Some, None}
-use Rattle.fs_layout.specs.declared.inode.Dinode.{Dinode}
-use Rattle.atomic_programs.specs.Prog.{Ret, Do, bind, unmarked}
-use Rattle.fs_machine.specs.Inodes.{LockedState, Refuses, Locks}
-use Rattle.fs_machine.specs.declared.files.OpenFile.{OpenFile}
-use Rattle.fs_machine.specs.declared.files.Want.{Want}
+use Rattle.file_table.specs.Vocabulary.{Dinode, Ret, Do, bind, unmarked, LockedState, Refuses, Locks, OpenFile, Want, P, inode_block, load_unless, HandState as Hand, SeatState as Seat, Op, inode_at, number_in, record_in, IsLoadedAt, load_left, load_asked, IsLoading}
 use Rattle.fs_machine.specs.Steps as steps
-use Rattle.fs_machine.specs.Machines.{P}
-use Rattle.inode_table.specs.Programs.{inode_block, load_unless}
-use Rattle.fs_machine.specs.declared.hand.Hand.{Hand}
-use Rattle.fs_machine.specs.declared.hand.Seat.{Seat}
-use Rattle.fs_machine.specs.declared.op.Op.{Op}
 use Rattle.fs_machine.specs.declared.op.Op.TheVariants as ops
-use Rattle.fs_machine.specs.Hands.{inode_at}
-use Rattle.inode_table.specs.HeldInodes.{number_in, record_in, IsLoadedAt}
-use Rattle.inode_table.specs.Loading.{load_left, load_asked}
-use Rattle.inode_table.specs.LoadingHeld.{IsLoading}
 use Rattle.file_table.specs.declared.lock_file.HeldFile.{HeldFile}
 use Rattle.file_table.specs.declared.lock_file.FileLocked.{FileLocked}
 use Rattle.file_table.specs.declared.lock_file.FileLocked.TheVariants as result

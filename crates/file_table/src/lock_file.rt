@@ -1,16 +1,9 @@
 //! A descriptor's inode locked, and loaded, where it may be had.
 ghost use Rattle.std.specs.Prelude.{◌≡◌, None, IfSome, IfNone};
-ghost use Rattle.fs_machine.specs.Inodes.{LockedState};
-ghost use Rattle.fs_machine.specs.Hands.{inode_at};
-ghost use Rattle.fs_machine.specs.Ops.{IsAfter, answer_in};
-ghost use Rattle.fs_machine.specs.Controls.{Goes, left_after, bare};
-ghost use Rattle.fs_machine.specs.declared.hand.Hand.{Hand as HandState};
-ghost use Rattle.fs_machine.specs.declared.hand.Seat.{Seat as SeatState};
-ghost use Rattle.inode_table.specs.LoadingHeld.{beside_lock};
+ghost use Rattle.file_table.specs.Vocabulary.{LockedState, inode_at, IsAfter, answer_in, Goes, left_after, bare, HandState, SeatState, beside_lock};
 ghost use Rattle.file_table.specs.LockingFiles.{lock_file_loaded, file_left, file_value, file_asked, file_seat, FileEnds, FileReady, HasInodeBlocks};
 
-use fs_machine::{OpenFile, Refused, Want};
-use fs_machine::{Answer, Hand, Op, Part, Routine, Seat};
+use fs_machine::{Answer, Hand, Op, OpenFile, Part, Refused, Routine, Seat, Want};
 use inode_table::{LoadInode, load_held};
 
 /// An open file, and where its inode's lock is.

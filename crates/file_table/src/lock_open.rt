@@ -1,13 +1,6 @@
 //! The inode of an open file locked, and loaded.
 ghost use Rattle.std.specs.Prelude.{◌≡◌, None, Option, IfSome, IfNone};
-ghost use Rattle.fs_layout.specs.declared.inode.Dinode.{Dinode as DinodeState};
-ghost use Rattle.fs_machine.specs.declared.files.OpenFile.{OpenFile as OpenFileState};
-ghost use Rattle.fs_machine.specs.Hands.{inode_at};
-ghost use Rattle.fs_machine.specs.Ops.{IsAfter, answer_in};
-ghost use Rattle.fs_machine.specs.Controls.{Goes, left_after, bare};
-ghost use Rattle.fs_machine.specs.declared.hand.Hand.{Hand as HandState};
-ghost use Rattle.fs_machine.specs.declared.hand.Seat.{Seat as SeatState};
-ghost use Rattle.inode_table.specs.LoadingHeld.{beside_lock};
+ghost use Rattle.file_table.specs.Vocabulary.{Dinode as DinodeState, OpenFile as OpenFileState, inode_at, IsAfter, answer_in, Goes, left_after, bare, HandState, SeatState, beside_lock};
 ghost use Rattle.file_table.specs.LockingFiles.{lock_open_loaded, open_left, open_value, open_asked, open_seat, HasFile, HasInodeBlocks, OpenReady};
 
 use crate::lock_file::HeldFile;

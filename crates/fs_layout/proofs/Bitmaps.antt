@@ -1,9 +1,5 @@
 -- A byte of a bitmap with one bit changed.
-use Rattle.std.proofs.Common.{◌≡◌, ◌≢◌, ℕ, ◌/◌, ◌%◌, ◌<◌, Bool, cond, eqb, List, length, get_or, set, refl, ⊎_elim, arith}
-use Rattle.std.proofs.lemmas.List.{get_or-set_same, get_or-set_other}
-use Rattle.std.proofs.lemmas.Bool.{cases_eq, eq-eqb, ne_eqb}
-use Rattle.std.specs.Int.{bit_at}
-use Rattle.fs_layout.specs.Bits.{bit_of}
+use Rattle.fs_layout.proofs.Vocabulary.{◌≡◌, ◌≢◌, ℕ, ◌/◌, ◌%◌, ◌<◌, Bool, cond, eqb, List, length, get_or, set, refl, ⊎_elim, arith, get_or-set_same, get_or-set_other, cases_eq, eq-eqb, ne_eqb, bit_at, bit_of}
 
 pub changed_bit : (block : List ℕ) (b c v : ℕ) (want : Bool) → b / 8 < length block
     → eqb (bit_at v (b % 8)) 1 ≡ want

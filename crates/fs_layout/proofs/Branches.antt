@@ -1,5 +1,5 @@
 -- Which branch of a choice gave its value.
-use Rattle.std.proofs.Common.{◌≡◌, Bool, true, false, cond, ◌⊎◌, inl, inr, refl}
+use Rattle.fs_layout.proofs.Vocabulary.{◌≡◌, Bool, true, false, cond, ◌⊎◌, inl, inr, refl}
 
 pub which_branch : {X : Type 0} (b : Bool) (x y z : X) → cond b x y ≡ z → ((b ≡ true) × (x ≡ z)) ⊎ ((b ≡ false) × (y ≡ z))
 which_branch true x y z h = inl (refl, h)

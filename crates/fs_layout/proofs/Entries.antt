@@ -1,17 +1,7 @@
 -- An entry and its 16 bytes determine each other.
-use Rattle.std.proofs.Common.{◌≡◌, ◌≢◌, ℕ, zero, suc, ◌+◌, ◌-◌, ◌*◌, ◌<◌, ◌≤◌, true, false, not, ⊎_elim, length-drop, eqb, ◌&&◌, nat_lt, nat_le, List, [], ◌∷◌, ◌++◌, length, take, drop, replicate, Some, None, refl, sym, ap, ◌∙◌, arith, append_assoc, length-append}
-use Rattle.std.proofs.lemmas.List.{take_at, drop_at, length-replicate, length-take-le, take-append-drop, drop-take, drop-drop}
-use Rattle.std.proofs.lemmas.List.Sums.{prefix_len-le-length}
+use Rattle.fs_layout.proofs.Vocabulary.{◌≡◌, ◌≢◌, ℕ, zero, suc, ◌+◌, ◌-◌, ◌*◌, ◌<◌, ◌≤◌, true, false, not, ⊎_elim, length-drop, eqb, ◌&&◌, nat_lt, nat_le, List, [], ◌∷◌, ◌++◌, length, take, drop, replicate, Some, None, refl, sym, ap, ◌∙◌, arith, append_assoc, length-append, take_at, drop_at, length-replicate, length-take-le, take-append-drop, drop-take, drop-drop, prefix_len-le-length, and_parts, ne_eqb, eqb-true, nat_tests, list_all, position_or_len, Dirent, Free, Used, u16_bytes, u16_at, overwrite, record_at, IsBytes, is_zero, is_name_byte, is_name, spell_dirent, dirent_of, used_of, free_of, name_of, dirent_at, IsDirent}
 use Rattle.fs_layout.proofs.Branches.{which_branch}
 use Rattle.fs_layout.proofs.Overwrites.{then_overwrite, part-overwrite, record_at-overwrite}
-use Rattle.std.proofs.lemmas.Bool.{and_parts, ne_eqb, eqb-true}
-use Rattle.std.proofs.lemmas.Bool.Decides.{nat_tests}
-use Rattle.std.specs.List.{list_all, position_or_len}
-use Rattle.fs_layout.specs.declared.entry.Dirent.{Dirent}
-use Rattle.fs_layout.specs.declared.entry.Dirent.TheVariants.{Free, Used}
-use Rattle.fs_layout.specs.Bytes.{u16_bytes, u16_at, overwrite, record_at, IsBytes}
-use Rattle.fs_layout.specs.Name.{is_zero, is_name_byte, is_name}
-use Rattle.fs_layout.specs.Entry.{spell_dirent, dirent_of, used_of, free_of, name_of, dirent_at, IsDirent}
 use Rattle.fs_layout.proofs.Numbers.{u16_at-part, length-u16_bytes, u16_at-bytes, u16_bytes-at}
 
 -- no byte of a name is zero

@@ -1,13 +1,6 @@
 -- An inode and its 64 bytes determine each other.
-use Rattle.std.proofs.Common.{◌≡◌, ℕ, ◌+◌, ◌*◌, ◌^◌, ◌<◌, ◌≤◌, List, [], ◌++◌, length, drop, refl, sym, ap, ◌∙◌, arith, append_assoc, length-append, FitsSigned, ℤ, pos, negsuc}
-use Rattle.std.proofs.lemmas.List.{append-nil}
-use Rattle.std.proofs.lemmas.Int.{to_z-of_z, of_z-to_z}
-use Rattle.std.specs.Int.{w16, cast_signed, cast_unsigned}
-use Rattle.std.specs.List.{flat_map}
-use Rattle.fs_layout.specs.declared.inode.Dinode.{Dinode}
+use Rattle.fs_layout.proofs.Vocabulary.{◌≡◌, ℕ, ◌+◌, ◌*◌, ◌^◌, ◌<◌, ◌≤◌, List, [], ◌++◌, length, drop, refl, sym, ap, ◌∙◌, arith, append_assoc, length-append, FitsSigned, ℤ, pos, negsuc, append-nil, to_z-of_z, of_z-to_z, w16, cast_signed, cast_unsigned, flat_map, Dinode, overwrite, u16_bytes, u32_bytes, i16_bytes, u16_at, u32_at, i16_at, u32s_at, IsBytes, spell_dinode, dinode_of, dinode_at, IsDinode}
 use Rattle.fs_layout.proofs.Overwrites.{then_overwrite}
-use Rattle.fs_layout.specs.Bytes.{overwrite, u16_bytes, u32_bytes, i16_bytes, u16_at, u32_at, i16_at, u32s_at, IsBytes}
-use Rattle.fs_layout.specs.Inode.{spell_dinode, dinode_of, dinode_at, IsDinode}
 use Rattle.fs_layout.proofs.Numbers.{length-u16_bytes, length-u32_bytes, length-u32s_bytes, u16_at-part, u32_at-part, u32s_at-part, u16_at-behind, u32_at-behind, u32s_at-behind, u16_at-bytes, u32_at-bytes, u32s_at-bytes, u16_bytes-at, u32_bytes-at, u32s_bytes-at, u16_at-lt}
 
 pub length-spell_dinode : (d : Dinode) → length d.addrs ≡ 13 → length (spell_dinode d) ≡ 64

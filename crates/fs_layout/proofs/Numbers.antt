@@ -1,10 +1,5 @@
 -- Laws of numbers in bytes.
-use Rattle.std.proofs.Common.{◌≡◌, ℕ, zero, suc, ◌+◌, ◌-◌, ◌*◌, ◌/◌, ◌%◌, ◌^◌, ◌<◌, ◌≤◌, List, [], ◌∷◌, ◌++◌, length, take, drop, get_or, refl, sym, ap, ◌∙◌, arith, append_assoc, length-append}
-use Rattle.std.proofs.lemmas.List.{drop_at, drop-drop, drop_all, drop_more, get_or-drop, drop-take}
-use Rattle.std.specs.List.{flat_map, AllByRecursion}
-use Rattle.byteorder.specs.Endian.{little_number}
-use Rattle.byteorder.specs.Numbers.{little_number-reads_back, little_from-take, little_from-lt}
-use Rattle.fs_layout.specs.Bytes.{u16_bytes, u32_bytes, u16_at, u32_at, u32s_at, IsBytes}
+use Rattle.fs_layout.proofs.Vocabulary.{◌≡◌, ℕ, zero, suc, ◌+◌, ◌-◌, ◌*◌, ◌/◌, ◌%◌, ◌^◌, ◌<◌, ◌≤◌, List, [], ◌∷◌, ◌++◌, length, take, drop, get_or, refl, sym, ap, ◌∙◌, arith, append_assoc, length-append, drop_at, drop-drop, drop_all, drop_more, get_or-drop, drop-take, flat_map, AllByRecursion, little_number, little_number-reads_back, little_from-take, little_from-lt, u16_bytes, u32_bytes, u16_at, u32_at, u32s_at, IsBytes}
 
 pub length-u16_bytes : (n : ℕ) → length (u16_bytes n) ≡ 2
 unfolding u16_bytes

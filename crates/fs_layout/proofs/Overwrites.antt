@@ -1,10 +1,6 @@
 -- Laws of `overwrite`.
-use Rattle.std.proofs.Common.{◌≡◌, ℕ, ◌+◌, ◌-◌, ◌<◌, ◌≤◌, ◌*◌, ◌≢◌, ⊎_elim, List, [], ◌++◌, length, take, drop, refl, sym, ap, ◌∙◌, arith, append_assoc, length-append, length-drop}
-use Rattle.std.proofs.lemmas.List.{append-nil, length-take-le, take_at, drop_at, drop-drop, drop_all, take_rest, drop-take, take-take, take-append-le}
-use Rattle.std.proofs.Math.Nat.{mul-le-mul_left}
-use Rattle.std.proofs.lemmas.Bool.{cases_lt}
+use Rattle.fs_layout.proofs.Vocabulary.{◌≡◌, ℕ, ◌+◌, ◌-◌, ◌<◌, ◌≤◌, ◌*◌, ◌≢◌, ⊎_elim, List, [], ◌++◌, length, take, drop, refl, sym, ap, ◌∙◌, arith, append_assoc, length-append, length-drop, append-nil, length-take-le, take_at, drop_at, drop-drop, drop_all, take_rest, drop-take, take-take, take-append-le, mul-le-mul_left, cases_lt, overwrite, record_at}
 use borrow.Rule.Slice.PartMut.{put_mid}
-use Rattle.fs_layout.specs.Bytes.{overwrite, record_at}
 
 -- a write at the front of `&mut s[a..]`
 pub put_mid-tail : (xs ys zs : List ℕ) (a : ℕ)

@@ -1,15 +1,5 @@
 -- Records that are numbers of four bytes, one after the other: superblock, head of the log, indirect block.
-use Rattle.std.proofs.Common.{◌≡◌, ◌≢◌, ℕ, suc, ◌+◌, ◌*◌, ◌^◌, ◌<◌, ◌≤◌, nat_le, zero, true, false, cond, eqb, List, [], ◌∷◌, ◌++◌, length, drop, get_or, set, length-set, refl, sym, ap, ◌∙◌, ⊎_elim, arith, Some, None, Option, Bool}
-use Rattle.std.proofs.lemmas.List.{append-nil, ext_get_or, get_or-set_same, get_or-set_other, drop_all}
-use Rattle.std.proofs.lemmas.Bool.{cases_eq, eqb-true}
-use Rattle.std.proofs.lemmas.Bool.Decides.{nat_tests}
-use Rattle.std.specs.List.{flat_map, AllByRecursion}
-use Rattle.fs_layout.specs.declared.superblock.Super.{Super}
-use Rattle.fs_layout.specs.declared.log_head.LogHead.{LogHead}
-use Rattle.fs_layout.specs.Bytes.{overwrite, record_at, u32_bytes, u32_at, u32s_at, IsBytes}
-use Rattle.fs_layout.specs.Super.{super_numbers, spell_super, super_fields, super_of, IsSuper}
-use Rattle.fs_layout.specs.LogHead.{spell_log_head, head_numbers, log_head, log_head_of}
-use Rattle.fs_layout.specs.Indirect.{numbers_in, spell_numbers}
+use Rattle.fs_layout.proofs.Vocabulary.{◌≡◌, ◌≢◌, ℕ, suc, ◌+◌, ◌*◌, ◌^◌, ◌<◌, ◌≤◌, nat_le, zero, true, false, cond, eqb, List, [], ◌∷◌, ◌++◌, length, drop, get_or, set, length-set, refl, sym, ap, ◌∙◌, ⊎_elim, arith, Some, None, Option, Bool, append-nil, ext_get_or, get_or-set_same, get_or-set_other, drop_all, cases_eq, eqb-true, nat_tests, flat_map, AllByRecursion, Super, LogHead, overwrite, record_at, u32_bytes, u32_at, u32s_at, IsBytes, super_numbers, spell_super, super_fields, super_of, IsSuper, spell_log_head, head_numbers, log_head, log_head_of, numbers_in, spell_numbers}
 use Rattle.fs_layout.proofs.Branches.{which_branch}
 use Rattle.fs_layout.proofs.Overwrites.{part-overwrite, record_at-overwrite}
 use Rattle.fs_layout.proofs.Numbers.{length-u32_bytes, length-u32s_bytes, u32_at-part, u32_at-bytes, u32s_at-bytes, u32s_bytes-at, length-u32s_at}

@@ -1,7 +1,6 @@
 -- Numbers and bytes in a block.
 use Rattle.std.specs.Prelude.{ℕ, zero, suc, ◌+◌, ◌*◌, ℤ, List, [], ◌∷◌, ◌++◌, length, take, drop, slice_index, ◌<◌}
-use Rattle.std.specs.Int.{w16, cast_signed, cast_unsigned}
-use Rattle.byteorder.specs.Endian.{little_bytes, little_number}
+use Rattle.fs_layout.specs.Vocabulary.{w16, cast_signed, cast_unsigned, little_bytes, little_number}
 use Rattle.fs_layout.specs.Widths.{number_len}
 
 -- the block with these bytes from a place on, and nothing else changed

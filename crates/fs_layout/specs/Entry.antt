@@ -1,6 +1,6 @@
 -- A directory entry: the number of an inode, and its name padded with zeros; a free slot is all zeros.
 use Rattle.std.specs.Prelude.{◌≢◌, ℕ, ◌-◌, ◌^◌, ◌<◌, ◌==◌, ◌&&◌, if◌then◌else◌, List, ◌++◌, length, take, drop, replicate, Option, Some, None}
-use Rattle.std.specs.List.{list_all, position_or_len}
+use Rattle.fs_layout.specs.Vocabulary.{list_all, position_or_len}
 use Rattle.fs_layout.specs.declared.entry.Dirent.{Dirent}
 use Rattle.fs_layout.specs.declared.entry.Dirent.TheVariants.{Free, Used}
 use Rattle.fs_layout.specs.Bytes.{u16_bytes, u16_at, record_at}

@@ -1,6 +1,6 @@
 -- The block numbers of an indirect block.
 use Rattle.std.specs.Prelude.{ℕ, List}
-use Rattle.std.specs.List.{flat_map}
+use Rattle.fs_layout.specs.Vocabulary.{flat_map}
 use Rattle.fs_layout.specs.Bytes.{u32_bytes, u32s_at}
 use Rattle.fs_layout.specs.Widths.{numbers_per_block}
 

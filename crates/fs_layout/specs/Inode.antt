@@ -1,7 +1,6 @@
 -- An inode on the disk.
 use Rattle.std.specs.Prelude.{◌≡◌, ℕ, ◌^◌, ◌<◌, List, ◌++◌, length, FitsSigned}
-use Rattle.std.specs.Int.{w16}
-use Rattle.std.specs.List.{flat_map, AllByRecursion}
+use Rattle.fs_layout.specs.Vocabulary.{w16, flat_map, AllByRecursion}
 use Rattle.fs_layout.specs.declared.inode.Dinode.{Dinode}
 use Rattle.fs_layout.specs.Bytes.{i16_bytes, u32_bytes, i16_at, u32_at, u32s_at, record_at}
 use Rattle.fs_layout.specs.Widths.{inode_len, addresses, inode_kind_at, inode_major_at, inode_minor_at, inode_nlink_at, inode_size_at, inode_addresses_at}

@@ -1,3 +1,4 @@
+pub mod Vocabulary
 pub mod Bits
 pub mod Bytes
 pub mod Entry

@@ -1,6 +1,6 @@
 -- The head of the log: how many blocks are logged, and then their numbers.
 use Rattle.std.specs.Prelude.{ℕ, nat_le, if◌then◌else◌, List, ◌∷◌, length, Option, Some, None}
-use Rattle.std.specs.List.{flat_map}
+use Rattle.fs_layout.specs.Vocabulary.{flat_map}
 use Rattle.fs_layout.specs.declared.log_head.LogHead.{LogHead}
 use Rattle.fs_layout.specs.Bytes.{u32_bytes, u32_at, u32s_at}
 use Rattle.fs_layout.specs.Widths.{log_head_len, log_head_count_at, log_head_numbers_at}

@@ -1,6 +1,6 @@
 -- The name of a directory's element.
 use Rattle.std.specs.Prelude.{ℕ, ◌==◌, ◌&&◌, nat_lt, nat_le, not, Bool, IsTrue, List, length}
-use Rattle.std.specs.List.{list_all}
+use Rattle.fs_layout.specs.Vocabulary.{list_all}
 use Rattle.fs_layout.specs.Widths.{name_len, slash}
 
 abbrev pub is_zero : ℕ → Bool

@@ -1,7 +1,6 @@
 -- The disk as recovery leaves it. A disk is the list of its blocks, each the list of its bytes.
 use Rattle.std.specs.Prelude.{◌≡◌, ◌⊎◌, ℕ, ◌+◌, ◌<◌, ◌≤◌, ◌==◌, List, position}
-use Rattle.std.specs.Option.{option_map_or}
-use Rattle.block_device.specs.Blocks.{block_at}
+use Rattle.fs_layout.specs.Vocabulary.{option_map_or, block_at}
 use Rattle.fs_layout.specs.declared.superblock.Super.{Super}
 use Rattle.fs_layout.specs.Bytes.{u32_at}
 use Rattle.fs_layout.specs.Super.{super_fields}

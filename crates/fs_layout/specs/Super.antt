@@ -1,6 +1,6 @@
 -- The superblock: the magic number, then where the parts of a disk lie.
 use Rattle.std.specs.Prelude.{ℕ, ◌==◌, ◌^◌, ◌<◌, if◌then◌else◌, List, [], ◌∷◌, Option, Some, None}
-use Rattle.std.specs.List.{flat_map, AllByRecursion}
+use Rattle.fs_layout.specs.Vocabulary.{flat_map, AllByRecursion}
 use Rattle.fs_layout.specs.declared.superblock.Super.{Super}
 use Rattle.fs_layout.specs.Bytes.{u32_bytes, u32_at}
 use Rattle.fs_layout.specs.Widths.{magic, super_magic_at, super_size_at, super_nblocks_at, super_ninodes_at, super_nlog_at, super_logstart_at, super_inodestart_at, super_bmapstart_at}

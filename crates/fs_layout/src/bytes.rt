@@ -1,6 +1,6 @@
 //! Numbers in a block, lowest byte first.
 ghost use Rattle.std.specs.Prelude.{◌≡◌, ◌+◌, ◌*◌, ◌≤◌, ◌<◌, ◌++◌, ◌^◌, length, replicate};
-ghost use Rattle.std.specs.List.{flat_map, AllByRecursion};
+ghost use Rattle.fs_layout.specs.Vocabulary.{flat_map, AllByRecursion};
 ghost use Rattle.fs_layout.specs.Bytes.{overwrite, u16_bytes, u32_bytes, i16_bytes, u16_at, i16_at, u32_at, u32s_at};
 
 use crate::widths::NUMBER_LEN;

@@ -1,6 +1,6 @@
 //! A directory entry on the disk, of which a block has 64. docs/FORMATS.md has its table.
 ghost use Rattle.std.specs.Prelude.{◌≡◌, ◌≢◌, ◌+◌, ◌*◌, ◌≤◌, ◌<◌, ℕ, List, Some, length, drop};
-ghost use Rattle.std.specs.List.{list_all, position_or_len};
+ghost use Rattle.fs_layout.specs.Vocabulary.{list_all, position_or_len};
 ghost use Rattle.fs_layout.specs.Bytes.{overwrite, IsBytes};
 ghost use Rattle.fs_layout.specs.Entry.{dirent_at, dirent_of, spell_dirent, used_of, free_of, IsDirent};
 ghost use Rattle.fs_layout.specs.declared.entry.Dirent.{Dirent};

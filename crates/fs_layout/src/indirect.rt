@@ -1,6 +1,6 @@
 //! The block numbers of an indirect block.
 ghost use Rattle.std.specs.Prelude.{◌≡◌, ◌+◌, ◌*◌, ◌<◌, ◌^◌, ℕ, List, length, slice_index, slice_set};
-ghost use Rattle.std.specs.List.{AllByRecursion};
+ghost use Rattle.fs_layout.specs.Vocabulary.{AllByRecursion};
 ghost use Rattle.fs_layout.specs.Bytes.{overwrite, u32_bytes, IsBytes};
 ghost use Rattle.fs_layout.specs.Indirect.{numbers_in, spell_numbers};
 ghost use Rattle.fs_layout.specs.Widths.{block_len, number_len, numbers_per_block};

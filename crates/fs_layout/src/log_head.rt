@@ -1,7 +1,7 @@
 //! The head of the log: its first block. docs/FORMATS.md has its table; the xv6 book, chapter 8, its
 //! use.
 ghost use Rattle.std.specs.Prelude.{◌≡◌, ◌+◌, ◌*◌, ◌≤◌, ◌<◌, ◌^◌, ℕ, List, Some, length};
-ghost use Rattle.std.specs.List.{AllByRecursion};
+ghost use Rattle.fs_layout.specs.Vocabulary.{AllByRecursion};
 ghost use Rattle.fs_layout.specs.Bytes.{overwrite, u32s_at, IsBytes};
 ghost use Rattle.fs_layout.specs.LogHead.{log_head, log_head_of, spell_log_head};
 ghost use Rattle.fs_layout.specs.Widths.{log_head_count_at, log_head_len, log_head_numbers_at, number_len};

@@ -1,6 +1,6 @@
 //! The disk as recovery leaves it.
 ghost use Rattle.std.specs.Prelude.{◌≡◌, ◌≢◌, ◌+◌, ◌<◌, ℕ, List, length, slice_index};
-ghost use Rattle.block_device.specs.Blocks.{block_at};
+ghost use Rattle.fs_layout.specs.Vocabulary.{block_at};
 ghost use Rattle.fs_layout.specs.Recovered.{logged, recovered, sizes_of};
 
 /// What the words for the recovered disk mean, block by block: a logged block has the bytes of its

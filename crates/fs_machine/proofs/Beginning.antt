@@ -1,21 +1,5 @@
 -- A free place that becomes an inode's, and what counting up answers.
-use Rattle.std.proofs.Common.{◌≡◌, ◌≢◌, ℕ, ◌==◌, ◌<◌, List, length, length-set, get_or, true, refl, sym, ◌∙◌, ap, subst, arith, Option, Some, None, inl, inr}
-use Rattle.std.specs.Prelude.{slice_get, slice_set, IfSome}
-use Rattle.std.specs.List.{position}
-use Rattle.std.proofs.lemmas.List.{set-set}
-use Rattle.std.proofs.lemmas.Bool.Decides.{nat_tests}
-use Rattle.std.proofs.lemmas.List.Quantifiers.{position-Some}
-use Rattle.std.proofs.lemmas.Option.{slice_get-get_or, same_Some, none-some}
-use Rattle.sleep_lock.specs.SleepLock.{SlotState, GuardState, guard_of, taken, filled}
-use Rattle.sleep_lock.specs.Row.{lock_of, unlocked, IsOut}
-use Rattle.sleep_lock.proofs.Lists.{slice_get-set_other}
-use Rattle.atomic_programs.specs.Prog.{Ran}
-use Rattle.fs_machine.specs.declared.entries.Entry.{Entry}
-use Rattle.fs_machine.specs.declared.entries.Inode.{Inode}
-use Rattle.fs_machine.specs.Tables.{TablesState, place_of, is_for, is_unused}
-use Rattle.fs_machine.specs.Inodes.{up_inode, up_by, up_new, counted_at, begun_at}
-use Rattle.fs_machine.specs.Locks.{LeavesLocked}
-use Rattle.fs_machine.specs.Soundness.{IsSoundInodes, AllPlaced, PlaceFits, IsOnce}
+use Rattle.fs_machine.proofs.Vocabulary.{◌≡◌, ◌≢◌, ℕ, ◌==◌, ◌<◌, List, length, length-set, get_or, true, refl, sym, ◌∙◌, ap, subst, arith, Option, Some, None, inl, inr, slice_get, slice_set, IfSome, position, set-set, nat_tests, position-Some, slice_get-get_or, same_Some, none-some, SlotState, GuardState, guard_of, taken, filled, lock_of, unlocked, IsOut, slice_get-set_other, Ran, Entry, Inode, TablesState, place_of, is_for, is_unused, up_inode, up_by, up_new, counted_at, begun_at, LeavesLocked, IsSoundInodes, AllPlaced, PlaceFits, IsOnce}
 use Rattle.fs_machine.proofs.Places.{position_none, none_passes, fails}
 use Rattle.fs_machine.proofs.Locking.{slot_at, lock_is}
 use Rattle.fs_machine.proofs.Counting.{at_set}

@@ -1,17 +1,5 @@
 -- What counting a reference makes of the inodes in memory.
-use Rattle.std.proofs.Common.{◌≡◌, ◌≢◌, ◌⊎◌, ℕ, ◌-◌, ◌<◌, List, length, length-set, refl, sym, ◌∙◌, ap, subst, arith, Option, Some, None, inl, inr}
-use Rattle.std.specs.Prelude.{slice_get, slice_set}
-use Rattle.std.proofs.lemmas.Bool.{cases_eq}
-use Rattle.std.proofs.lemmas.Option.{slice_get_within, same_Some, none-some}
-use Rattle.sleep_lock.specs.SleepLock.{SlotState, GuardState, emptied}
-use Rattle.sleep_lock.specs.Row.{IsOut}
-use Rattle.sleep_lock.proofs.Lists.{slice_get-set_same, slice_get-set_other}
-use Rattle.fs_machine.specs.declared.entries.Entry.{Entry}
-use Rattle.fs_machine.specs.declared.entries.Inode.{Inode}
-use Rattle.fs_machine.specs.Tables.{TablesState, place_of, references_of, references_in, references_at, holder_of, holder_in, holder_at, one_more, one_less}
-use Rattle.fs_machine.specs.Lists.{change_at}
-use Rattle.fs_machine.specs.Locks.{IsLocked, LeavesLocked}
-use Rattle.fs_machine.specs.Soundness.{IsSoundInodes, AllPlaced, PlaceFits, IsOnce}
+use Rattle.fs_machine.proofs.Vocabulary.{◌≡◌, ◌≢◌, ◌⊎◌, ℕ, ◌-◌, ◌<◌, List, length, length-set, refl, sym, ◌∙◌, ap, subst, arith, Option, Some, None, inl, inr, slice_get, slice_set, cases_eq, slice_get_within, same_Some, none-some, SlotState, GuardState, emptied, IsOut, slice_get-set_same, slice_get-set_other, Entry, Inode, TablesState, place_of, references_of, references_in, references_at, lock_holder as holder_of, holder_in, holder_at, one_more, one_less, change_at, IsLocked, LeavesLocked, IsSoundInodes, AllPlaced, PlaceFits, IsOnce}
 use Rattle.fs_machine.proofs.Places.{Found, change_set}
 
 -- what is at a place of a list that was written

@@ -1,20 +1,5 @@
 -- The last reference to a dead inode.
-use Rattle.std.proofs.Common.{◌≡◌, ℕ, ◌==◌, if◌then◌else◌, List, Bool, true, false, refl, sym, ◌∙◌, ap, arith, Option, Some, None}
-use Rattle.std.specs.Prelude.{slice_get, slice_set, IsSome, is_some}
-use Rattle.std.proofs.lemmas.Bool.Decides.{nat_tests}
-use Rattle.std.proofs.lemmas.List.{set-set}
-use Rattle.std.proofs.lemmas.Option.{same_Some, none-some}
-use Rattle.fs_layout.specs.declared.inode.Dinode.{Dinode}
-use Rattle.sleep_lock.specs.SleepLock.{SlotState, GuardState, guard_of, taken, filled}
-use Rattle.sleep_lock.specs.Row.{lock_of, unlocked}
-use Rattle.sleep_lock.proofs.Lists.{set_same}
-use Rattle.atomic_programs.specs.Prog.{Ran}
-use Rattle.fs_machine.specs.declared.entries.Entry.{Entry}
-use Rattle.fs_machine.specs.declared.entries.Inode.{Inode}
-use Rattle.fs_machine.specs.Lists.{change_at}
-use Rattle.fs_machine.specs.Tables.{TablesState, place_of}
-use Rattle.fs_machine.specs.Inodes.{dying, dead_in, dead_of, drop_inode, drop_at, drop_dying, drop_walked, walked_at, walked_dying, uncounted_at, Counts, Keeps, Dies, is_positive, freed_at, drop_freed}
-use Rattle.fs_machine.specs.Soundness.{IsSoundInodes, PlaceFits}
+use Rattle.fs_machine.proofs.Vocabulary.{◌≡◌, ℕ, ◌==◌, if◌then◌else◌, List, Bool, true, false, refl, sym, ◌∙◌, ap, arith, Option, Some, None, slice_get, slice_set, IsSome, is_some, nat_tests, set-set, same_Some, none-some, Dinode, SlotState, GuardState, guard_of, taken, filled, lock_of, unlocked, set_same, Ran, Entry, Inode, change_at, TablesState, place_of, dying, dead_in, dead_of, drop_inode, drop_at, drop_dying, drop_walked, walked_at, walked_dying, uncounted_at, Counts, Keeps, Dies, is_positive, freed_at, drop_freed, IsSoundInodes, PlaceFits}
 use Rattle.fs_machine.proofs.Locking.{slot_at, lock_is}
 
 same_one : (r : ℕ) → r ≡ 1 → (r == 1) ≡ true

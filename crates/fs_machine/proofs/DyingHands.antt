@@ -1,13 +1,6 @@
 -- An inode that dies where a reference is dropped is loaded.
-use Rattle.std.proofs.Common.{◌≡◌, ℕ, Option, Some, None, refl, subst}
-use Rattle.std.specs.Prelude.{IsSome, slice_get}
-use Rattle.fs_layout.specs.declared.inode.Dinode.{Dinode}
-use Rattle.atomic_programs.specs.Prog.{Ran}
-use Rattle.fs_machine.specs.Inodes.{Dies, drop_at, drop_dying, drop_inode, dying}
-use Rattle.fs_machine.specs.Tables.{place_of}
-use Rattle.fs_machine.specs.LogPart.{Outside}
+use Rattle.fs_machine.proofs.Vocabulary.{◌≡◌, ℕ, Option, Some, None, refl, subst, IsSome, slice_get, Dinode, Ran, Dies, drop_at, drop_dying, drop_inode, dying, place_of, Outside, State, exec, in_tables}
 use Rattle.fs_machine.specs.Steps as steps
-use Rattle.fs_machine.specs.Steps.{State, exec, in_tables}
 
 pub dies_loaded : (h k n : ℕ) (o : Option Dinode) (x : Outside) (s t : State) → exec h x (steps.Down (steps.Held n)) s ≡ Ran (Dies k o) t → IsSome o
 unfolding exec drop_inode

@@ -1,12 +1,6 @@
 -- How the end of a transaction goes on.
-use Rattle.std.proofs.Common.{◌≡◌, ◌<◌, ◌-◌, ℕ, zero, suc, Bool, ap, ◌∙◌, arith}
-use Rattle.fs_machine.specs.Machines.{P}
-use Rattle.fs_machine.specs.Programs.{finish, after_leave, commits, commit_unless}
-use Rattle.fs_machine.specs.declared.hand.Hand.{Hand}
-use Rattle.fs_machine.specs.declared.op.Answer.{Answer}
+use Rattle.fs_machine.proofs.Vocabulary.{◌≡◌, ◌<◌, ◌-◌, ℕ, zero, suc, Bool, ap, ◌∙◌, arith, P, finish, after_leave, commits, commit_unless, Hand, Answer, answer_in, yes_in, left_by, Goes}
 use Rattle.fs_machine.specs.declared.op.Op.TheVariants as ops
-use Rattle.fs_machine.specs.Ops.{answer_in, yes_in, left_by}
-use Rattle.fs_machine.specs.Controls.{Goes}
 
 module _ (a : Answer) (h : Hand) where
   pub leave-goes : (says : Bool) → yes_in a ≡ says → let p : P (Unit {0}) = finish in Goes p (answer_in ops.Leave a h) (after_leave (left_by says))

@@ -1,22 +1,6 @@
 -- What is in hand goes with the state after each operation.
-use Rattle.std.proofs.Common.{◌≡◌, ◌≢◌, ℕ, List, [], Option, Some, None, IfSome, refl, sym, ap, ◌∙◌, subst, ◌⊎◌, inl, inr, ⊎_elim}
-use Rattle.sleep_lock.specs.SleepLock.{GuardState}
-use Rattle.buffer_cache.specs.Buffers.{BufferState}
-use Rattle.fs_machine.specs.declared.entries.Inode.{Inode}
-use Rattle.fs_machine.specs.Steps.{State}
-use Rattle.fs_machine.specs.Stays.{LeavesAll, LeavesAllBut, HasNone}
-use Rattle.fs_machine.specs.Locks.{IsLocked}
-use Rattle.fs_machine.specs.Tied.{IsOwn, IsOwnInode, IsTied, LeavesTied, bytes_of}
-use Rattle.fs_machine.specs.declared.hand.Hand.{Hand}
-use Rattle.fs_machine.specs.declared.hand.Place.{Place}
-use Rattle.fs_machine.specs.declared.hand.Place.TheVariants.{First, Second}
-use Rattle.fs_machine.specs.declared.hand.Seat.{Seat}
-use Rattle.fs_machine.specs.declared.hand.Seat.TheVariants.{One, Two}
-use Rattle.fs_machine.specs.Hands.{AreOwn, HandFits, buffer_at, with_buffer, inode_at, with_aside, with_inode, reference_at, with_listed, with_reference, with_seated, with_txn, block_at, bytes_at, inode_in, no_inode, number_at, with_content, with_bytes}
-use Rattle.fs_machine.specs.Ops.{content_at}
-use Rattle.std.specs.Option.{option_map, option_map_or, unwrap_or, MatchOption}
-use Rattle.std.specs.Prelude.{IsSome}
-use Rattle.buffer_cache.specs.Seats.{SeatState, seat_of, IsHeld, IsGuardOf}
+use Rattle.fs_machine.proofs.Vocabulary.{◌≡◌, ◌≢◌, ℕ, List, [], Option, Some, None, IfSome, refl, sym, ap, ◌∙◌, subst, ◌⊎◌, inl, inr, ⊎_elim, GuardState, BufferState, Inode, State, LeavesAll, LeavesAllBut, HasNone, IsLocked, IsOwn, IsOwnInode, IsTied, LeavesTied, bytes_of, Hand, Place, First, Second, Seat, One, Two, AreOwn, HandFits, buffer_at, with_buffer, inode_at, with_aside, with_inode, reference_at, with_listed, with_reference, with_seated, with_txn, block_at, bytes_at, inode_in, no_inode, number_at, with_bytes, content_at, option_map, option_map_or, unwrap_or, MatchOption, IsSome, SeatState, seat_of, IsHeld, IsGuardOf}
+use Rattle.fs_machine.specs.Hands.{with_content}
 
 -- ---- places in general
 

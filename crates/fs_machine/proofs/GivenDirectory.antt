@@ -1,14 +1,6 @@
 -- What a child's new directory makes of the tables.
-use Rattle.std.proofs.Common.{◌≡◌, ◌∙◌, ℕ, List, ap, sym, Some, None}
-use Rattle.std.specs.Prelude.{slice_get}
-use Rattle.atomic_programs.specs.Prog.{Ran}
-use Rattle.fs_machine.specs.declared.desk.Desk.{Desk}
-use Rattle.fs_machine.specs.declared.entries.Entry.{Entry}
+use Rattle.fs_machine.proofs.Vocabulary.{◌≡◌, ◌∙◌, ℕ, List, ap, sym, Some, None, slice_get, Ran, Desk, Entry, change_at, TablesState, place_of, one_more, directory_of, with_directory, given_directory}
 use Rattle.fs_machine.specs.declared.slots.Given.TheVariants as given
-use Rattle.fs_machine.specs.Lists.{change_at}
-use Rattle.fs_machine.specs.Tables.{TablesState, place_of, one_more}
-use Rattle.fs_machine.specs.Inodes.{directory_of, with_directory}
-use Rattle.fs_machine.specs.Files.{given_directory}
 
 module _ (h child n : ℕ) (t : TablesState) (is : n ≡ directory_of (slice_get t.desks h)) where
   pub given_nowhere : place_of n t.entries ≡ None

@@ -1,21 +1,7 @@
 -- How programs in one another go on.
-use Rattle.std.proofs.Common.{◌≡◌, ℕ, List, [], Option, Some, None, refl, ap}
-use Rattle.std.specs.Prelude.{IsSome, is_some, true, false}
-use Rattle.std.specs.Option.{option_map_or, MatchOption, unwrap_or}
-use Rattle.atomic_programs.specs.Prog.{Ret, Do, bind, once, unmarked}
-use Rattle.sleep_lock.specs.SleepLock.{GuardState}
-use Rattle.buffer_cache.specs.Buffers.{BufferState}
+use Rattle.fs_machine.proofs.Vocabulary.{◌≡◌, ℕ, List, [], Option, Some, None, refl, ap, IsSome, is_some, true, false, option_map_or, MatchOption, unwrap_or, Ret, Do, bind, once, unmarked, GuardState, BufferState, P, fetch, read_unless, bytes_of, Hand, Place, Answer, buffer_at, block_at, bytes_at, answer_in, content_at, Goes}
 use Rattle.fs_machine.specs.Steps as steps
-use Rattle.fs_machine.specs.Machines.{P}
-use Rattle.fs_machine.specs.Programs.{fetch, read_unless}
-use Rattle.fs_machine.specs.Tied.{bytes_of}
-use Rattle.fs_machine.specs.declared.hand.Hand.{Hand}
-use Rattle.fs_machine.specs.declared.hand.Place.{Place}
-use Rattle.fs_machine.specs.declared.op.Answer.{Answer}
 use Rattle.fs_machine.specs.declared.op.Op.TheVariants as ops
-use Rattle.fs_machine.specs.Hands.{buffer_at, block_at, bytes_at}
-use Rattle.fs_machine.specs.Ops.{answer_in, content_at}
-use Rattle.fs_machine.specs.Controls.{Goes}
 
 -- a program that goes on does so within another
 pub goes_bind : {A B : Type 0} (p q : P A) (f : A → P B) (answer : (o : steps.Op) → steps.Answer o) → Goes p answer q → Goes (bind p f) answer (bind q f)

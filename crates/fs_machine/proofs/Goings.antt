@@ -1,25 +1,7 @@
 -- How a program goes on, by what is in hand.
-use Rattle.std.proofs.Common.{◌≡◌, ℕ, List, Option, refl, sym, subst, ap, ◌∙◌, None}
-use Rattle.buffer_cache.specs.Buffers.{BufferState}
-use Rattle.std.specs.Prelude.{Bool, true, false, Some}
-use Rattle.fs_machine.specs.declared.hand.Place.{Place}
-use Rattle.fs_machine.specs.declared.hand.Seat.{Seat}
-use Rattle.fs_machine.specs.declared.hand.Seat.TheVariants.{One, Two}
-use Rattle.fs_machine.specs.declared.hand.Place.TheVariants.{First, Second}
-use Rattle.sleep_lock.specs.SleepLock.{GuardState}
-use Rattle.fs_machine.specs.declared.entries.Inode.{Inode}
-use Rattle.atomic_programs.specs.Prog.{Ret, bind}
+use Rattle.fs_machine.proofs.Vocabulary.{◌≡◌, ℕ, List, Option, refl, sym, subst, ap, ◌∙◌, None, BufferState, Bool, true, false, Some, Place, Seat, One, Two, First, Second, GuardState, Inode, Ret, bind, P, Hand, block_at, bytes_at, inode_in, reference_at, with_buffer, with_inode, with_reference, IsClaimed, Is, Goes, Fetch, Fetched, fetch_left, fetch_block, fetched_bytes, FetchEnds}
 use Rattle.fs_machine.specs.Steps as steps
-use Rattle.fs_machine.specs.Machines.{P}
-use Rattle.fs_machine.specs.declared.hand.Hand.{Hand}
-use Rattle.fs_machine.specs.Hands.{block_at, bytes_at, inode_in, reference_at, with_buffer, with_inode, with_reference}
-use Rattle.fs_machine.specs.Ops.{IsClaimed}
-use Rattle.fs_machine.specs.declared.op.Answer.TheVariants.{Is}
-use Rattle.fs_machine.specs.Controls.{Goes}
 use Rattle.fs_machine.proofs.Going.{goes_bind, block_of}
-use Rattle.fs_machine.specs.declared.fetch.Fetch.{Fetch}
-use Rattle.fs_machine.specs.declared.fetch.Fetched.{Fetched}
-use Rattle.fs_machine.specs.Fetching.{fetch_left, fetch_block, fetched_bytes, FetchEnds}
 
 pub fetched_goes : {B : Type 0} (f : Fetch) (before h : Hand) (answer : (o : steps.Op) → steps.Answer o) (out : Fetched) (k : ℕ → List ℕ → P B) → Goes (fetch_left f before) answer (Ret (fetched_bytes out h)) → FetchEnds f out h
     → Goes (bind (fetch_left f before) (k (fetch_block f))) answer (k (block_at out.place h) (bytes_at out.place h))

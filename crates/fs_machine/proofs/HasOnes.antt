@@ -1,14 +1,6 @@
 -- A program that has an operation to make.
-use Rattle.atomic_programs.specs.Prog.{Ret, Do, bind}
-use Rattle.fs_machine.specs.Machines.{P}
-use Rattle.std.proofs.Common.{◌<◌, ℕ, zero, suc, arith}
-use Rattle.fs_machine.specs.Programs.{commits}
-use Rattle.fs_machine.specs.declared.hand.Hand.{Hand}
-use Rattle.fs_machine.specs.Fetching.{fetch_left}
-use Rattle.fs_machine.specs.Finishing.{finish_left, FinishReady}
-use Rattle.fs_machine.specs.declared.fetch.Fetch.{Fetch}
+use Rattle.fs_machine.proofs.Vocabulary.{Ret, Do, bind, P, ◌<◌, ℕ, zero, suc, arith, commits, Hand, fetch_left, finish_left, FinishReady, Fetch, Finish}
 use Rattle.fs_machine.specs.declared.fetch.Fetch.TheVariants as fetch
-use Rattle.fs_machine.specs.declared.finish.Finish.{Finish}
 use Rattle.fs_machine.specs.declared.finish.Finish.TheVariants as finish
 
 abbrev pub HasOne : {A : Type 0} → P A → Type 0

@@ -1,26 +1,7 @@
 -- What a call of the tables comes to, in the whole.
-use Rattle.std.proofs.Common.{◌≡◌, ◌≢◌, ◌∙◌, ℕ, List, [], ◌∷◌, Bool, true, false, cond, refl, sym, ap, Option, Some, None}
-use Rattle.std.proofs.lemmas.Option.{same_Some, none-some}
-use Rattle.std.specs.Prelude.{IfNone, IfSome, find, is_none}
-use Rattle.sleep_lock.specs.SleepLock.{GuardState}
-use Rattle.group_log.specs.Soundness.{LogState}
-use Rattle.fs_machine.specs.declared.entries.Inode.{Inode}
-use Rattle.fs_machine.specs.declared.entries.Dropped.{Dropped}
+use Rattle.fs_machine.proofs.Vocabulary.{◌≡◌, ◌≢◌, ◌∙◌, ℕ, List, [], ◌∷◌, Bool, true, false, cond, refl, sym, ap, Option, Some, None, same_Some, none-some, IfNone, IfSome, find, is_none, GuardState, LogState, Inode, Dropped, Ran, OpenFile, Want, Refused, TablesState, file_named, place_of, references_of, references_in, lock_file, lock_unless, with_file, lock_inode, refusal_of, Refuses, first_free, is_unreferenced, IsLocked, IfDying, Core, LogPart, join_log, State, RefusesJoin, in_log, joins, join_unless, with_open, lock_open, IsOwnInode, HasNone}
 use Rattle.fs_machine.specs.declared.entries.Dropped.TheVariants as dropped
-use Rattle.atomic_programs.specs.Prog.{Ran}
-use Rattle.fs_machine.specs.declared.files.OpenFile.{OpenFile}
-use Rattle.fs_machine.specs.declared.files.Want.{Want}
 use Rattle.fs_machine.specs.declared.files.Want.TheVariants as want
-use Rattle.fs_machine.specs.declared.files.Refused.{Refused}
-use Rattle.fs_machine.specs.Tables.{TablesState, file_named, place_of, references_of, references_in}
-use Rattle.fs_machine.specs.Inodes.{lock_file, lock_unless, with_file, lock_inode, refusal_of, Refuses, first_free, is_unreferenced}
-use Rattle.fs_machine.specs.Locks.{IsLocked}
-use Rattle.fs_machine.specs.Results.{IfDying}
-use Rattle.fs_machine.specs.declared.shared.Core.{Core}
-use Rattle.fs_machine.specs.LogPart.{LogPart, join_log}
-use Rattle.fs_machine.specs.Steps.{State, RefusesJoin, in_log, joins, join_unless, with_open, lock_open}
-use Rattle.fs_machine.specs.Tied.{IsOwnInode}
-use Rattle.fs_machine.specs.Stays.{HasNone}
 
 pub still-in : {D : Type 0} (l : LogState D) (old new : TablesState) (r : Option (GuardState Inode)) → IfNone r (new ≡ old)
     → IfNone r (◌≡◌ {A = Core D} (record { log = l; tables = new }) (record { log = l; tables = old }))

@@ -1,3 +1,5 @@
+pub mod Lemmas
+pub mod Vocabulary
 pub mod Ran
 pub mod Parts
 pub mod Held

@@ -1,20 +1,6 @@
 -- What the lock of an inode tried, or given back, makes of the tables.
-use Rattle.std.proofs.Common.{◌≡◌, ◌≢◌, ℕ, ◌<◌, List, length, length-set, get_or, refl, sym, ◌∙◌, ap, subst, arith, Option, Some, None, inl, inr}
-use Rattle.std.specs.Prelude.{IfSome, slice_get, slice_set}
-use Rattle.std.proofs.lemmas.Bool.{cases_eq}
-use Rattle.std.proofs.lemmas.Option.{slice_get_within, slice_get-get_or, same_Some, none-some}
-use Rattle.sleep_lock.specs.SleepLock.{SlotState, GuardState, guard_of, taken, filled, emptied}
-use Rattle.sleep_lock.specs.Row.{lock_at as lock_row_at, lock_of, unlocked, IsOut, IsNumbered}
-use Rattle.sleep_lock.proofs.Lists.{set_same, slice_get-set_same, slice_get-set_other}
-use Rattle.sleep_lock.proofs.Locks.{lock_laws}
-use Rattle.fs_machine.specs.Lists.{change_at}
-use Rattle.fs_machine.specs.declared.entries.Entry.{Entry}
-use Rattle.fs_machine.specs.declared.entries.Inode.{Inode}
-use Rattle.fs_machine.specs.Tables.{TablesState, place_of, holder_of, holder_in, holder_at}
-use Rattle.fs_machine.specs.Locks.{IsLocked, LeavesLocked}
-use Rattle.fs_machine.specs.Inodes.{lock_inode, lock_at, got_by, unlock_inode, unlock_at}
-use Rattle.fs_machine.specs.Results.{locked_as}
-use Rattle.fs_machine.specs.Soundness.{IsSoundInodes, AllPlaced, IsOnce, PlaceFits}
+use Rattle.fs_machine.proofs.Vocabulary.{◌≡◌, ◌≢◌, ℕ, ◌<◌, List, length, length-set, get_or, refl, sym, ◌∙◌, ap, subst, arith, Option, Some, None, inl, inr, IfSome, slice_get, slice_set, cases_eq, slice_get_within, slice_get-get_or, same_Some, none-some, SlotState, GuardState, guard_of, taken, filled, emptied, lock_row_at, lock_of, unlocked, IsOut, IsNumbered, set_same, slice_get-set_same, slice_get-set_other, lock_laws, change_at, Entry, Inode, TablesState, place_of, lock_holder as holder_of, holder_in, holder_at, IsLocked, LeavesLocked, lock_inode, lock_at, unlock_inode, unlock_at, locked_as, IsSoundInodes, AllPlaced, IsOnce, PlaceFits}
+use Rattle.fs_machine.specs.Inodes.{got_by}
 use Rattle.fs_machine.proofs.Places.{Found, placed, change_set, all_placed_set}
 
 pub lock_ran : (h n k : ℕ) (t : TablesState) (new : List (SlotState Inode)) (r : Option (GuardState Inode)) → place_of n t.entries ≡ Some k → (new, r) ≡ lock_of t.locks k h

@@ -1,13 +1,5 @@
 -- The tables at first are sound.
-use Rattle.std.proofs.Common.{◌≡◌, inl, inr, ℕ, zero, suc, ◌+◌, ◌<◌, List, [], ◌∷◌, refl, sym, ◌∙◌, ap, subst, arith, Some, None, replicate}
-use Rattle.std.specs.Prelude.{slice_get, slice_set}
-use Rattle.std.proofs.lemmas.Option.{same_Some, none-some}
-use Rattle.sleep_lock.specs.SleepLock.{SlotState, filled}
-use Rattle.sleep_lock.specs.Row.{row_of}
-use Rattle.fs_machine.specs.declared.entries.Entry.{Entry}
-use Rattle.fs_machine.specs.declared.entries.Inode.{Inode}
-use Rattle.fs_machine.specs.Fresh.{fresh}
-use Rattle.fs_machine.specs.Soundness.{IsSoundInodes, AllPlaced, PlaceFits, IsOnce}
+use Rattle.fs_machine.proofs.Vocabulary.{◌≡◌, inl, inr, ℕ, zero, suc, ◌+◌, ◌<◌, List, [], ◌∷◌, refl, sym, ◌∙◌, ap, subst, arith, Some, None, replicate, slice_get, slice_set, same_Some, none-some, SlotState, filled, row_of, Entry, Inode, fresh, IsSoundInodes, AllPlaced, PlaceFits, IsOnce}
 use Rattle.fs_machine.proofs.Counting.{at_set}
 
 replicate_at : {X : Type 0} (n k : ℕ) (x y : X) → slice_get (replicate n x) k ≡ Some y → y ≡ x

@@ -1,19 +1,9 @@
 -- What the steps on descriptors and open files answer, and what they leave.
-use Rattle.std.proofs.Common.{◌≡◌, ℕ, zero, suc, true, false, List, [], ◌∷◌, length, length-set, refl, ap, sym, ◌∙◌, Option, Some, None}
-use Rattle.std.specs.Prelude.{slice_get, slice_set}
-use Rattle.std.specs.List.{position, list_any}
-use Rattle.atomic_programs.specs.Prog.{Ran}
-use Rattle.fs_machine.specs.declared.desk.Desk.{Desk}
-use Rattle.fs_machine.specs.declared.files.FilePlace.{FilePlace}
-use Rattle.fs_machine.specs.declared.files.FilePlace.TheVariants.{Free, Taken, Open}
-use Rattle.fs_machine.specs.declared.files.NewFile.{NewFile}
-use Rattle.fs_machine.specs.declared.files.OpenFile.{OpenFile}
+use Rattle.fs_machine.proofs.Vocabulary.{◌≡◌, ℕ, zero, suc, true, false, List, [], ◌∷◌, length, length-set, refl, ap, sym, ◌∙◌, Option, Some, None, slice_get, slice_set, position, list_any, Ran, Desk, FilePlace, Free, Taken, NewFile, OpenFile, change_at, first_empty, TablesState, place_named, file_named, file_in, open_at, with_offset, moved_at, is_free, hand_of, descriptors_of, with_hand, with_descriptor, opened, names, take_place, take_at, open_file, open_in, open_by, double_descriptor, double_at, double_to, shut_descriptor, shut_at, freed_if}
+use Rattle.fs_machine.specs.declared.files.FilePlace.TheVariants.{Open}
 use Rattle.fs_machine.specs.declared.slots.Doubled.TheVariants as doubled
 use Rattle.fs_machine.specs.declared.slots.Shut.TheVariants as shut
-use Rattle.fs_machine.specs.Lists.{change_at, first_empty}
-use Rattle.fs_machine.specs.Tables.{TablesState, place_named, file_named, file_in, open_at}
-use Rattle.fs_machine.specs.Inodes.{with_offset, moved_at}
-use Rattle.fs_machine.specs.Files.{is_free, hand_of, descriptors_of, with_hand, with_descriptor, opened, names, take_place, take_at, open_file, open_in, open_by, double_descriptor, double_at, double_to, shut_descriptor, shut_at, freed_at, freed_if}
+use Rattle.fs_machine.specs.Files.{freed_at}
 use Rattle.fs_machine.proofs.Places.{length-change_at}
 
 -- lengths stay

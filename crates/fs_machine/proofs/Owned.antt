@@ -1,32 +1,10 @@
 -- No operation of a hart changes what is another's of the log.
-use Rattle.std.proofs.Common.{◌≡◌, ◌≢◌, inl, inr, ℕ, zero, suc, Bool, true, false, List, [], ◌∷◌, Option, Some, None, length, refl, sym, subst, ap, ◌∙◌, if◌then◌else◌}
-use Rattle.std.specs.Prelude.{slice_get, slice_set}
+use Rattle.fs_machine.proofs.Vocabulary.{◌≡◌, ◌≢◌, inl, inr, ℕ, zero, suc, Bool, true, false, List, [], ◌∷◌, Option, Some, None, length, refl, sym, subst, ap, ◌∙◌, if◌then◌else◌, slice_get, slice_set, slice_get-set_other, get_of, SeatState, holder_of, with_seat, with_content, Got, has, joined, next_phase, group_in, phase_at_leave, limit_of, turn_is_out, seats_after, seats_at_fault, Halted, join_waits, pick, Did, Waits, Ran, Stops, OpenFile, Refused, TablesState, file_named, refusal_of, lock_inode, lock_file, settle_inode, up_inode, first_free, take_place, open_file, double_descriptor, shut_descriptor, give_next, LogPart, Outside, Passes, Fails, with_seats, join_if, got_by, read_block, put_block, commit_if, write_log, written, failed, LeavesOne, LeavesIt, State, Join, JoinToWrite, Leave, Get, Read, Put, Commit, Lock, LockFile, LockOpen, Unlock, Settle, Up, Claim, Down, CheckFile, TakePlace, TakeDescriptor, Double, Close, Give, Reply, exec, in_log, in_tables, joins, join_unless, lock_open, claims, claim_first, up_whom, drop_which, May, Honest, IsWholeLog, After, own_of, LeavesOwn}
 use Rattle.std.proofs.lemmas.List.{length-set}
-use Rattle.sleep_lock.proofs.Lists.{slice_get-set_other}
 use Rattle.block_device.specs.Blocks.{block_at}
-use Rattle.buffer_cache.specs.Getting.{get_of}
-use Rattle.buffer_cache.specs.Seats.{SeatState, holder_of, with_seat, with_content}
-use Rattle.buffer_cache.specs.declared.got.Got.{Got}
 use Rattle.buffer_cache.specs.declared.got.Got.TheVariants as got
-use Rattle.group_log.specs.Group.{has, joined, one_more}
-use Rattle.group_log.specs.Phases.{next_phase, group_in, phase_at_leave}
-use Rattle.group_log.specs.Soundness.{limit_of}
-use Rattle.group_log.specs.Turns.{turn_is_out, seats_after, seats_at_fault}
-use Rattle.group_log.specs.declared.phase.Phase.TheVariants.{Halted}
-use Rattle.group_log.specs.Waiting.{join_waits}
-use Rattle.group_log.proofs.Seats.{pick}
-use Rattle.atomic_programs.specs.Prog.{Did, Waits, Ran, Stops}
-use Rattle.fs_machine.specs.declared.files.OpenFile.{OpenFile}
-use Rattle.fs_machine.specs.declared.files.Refused.{Refused}
+use Rattle.group_log.specs.Group.{one_more}
 use Rattle.fs_machine.specs.declared.files.Want.TheVariants as want
-use Rattle.fs_machine.specs.Tables.{TablesState, file_named}
-use Rattle.fs_machine.specs.Inodes.{refusal_of, lock_inode, lock_file, settle_inode, up_inode, first_free}
-use Rattle.fs_machine.specs.Files.{take_place, open_file, double_descriptor, shut_descriptor, give_next}
-use Rattle.fs_machine.specs.LogPart.{LogPart, Outside, Passes, Fails, with_seats, join_if, got_by, read_block, put_block, commit_if, write_log, written, failed, LeavesOne, LeavesIt}
-use Rattle.fs_machine.specs.Steps.{State, Join, JoinToWrite, Leave, Get, Read, Put, Commit, Lock, LockFile, LockOpen, Unlock, Settle, Up, Claim, Down, CheckFile, TakePlace, TakeDescriptor, Double, Close, Give, Reply, exec, in_log, in_tables, joins, join_unless, lock_open, claims, claim_first, up_whom, drop_which}
-use Rattle.fs_machine.specs.Premises.{May, Honest}
-use Rattle.fs_machine.specs.Whole.{IsWholeLog, After}
-use Rattle.fs_machine.specs.Own.{own_of, LeavesOwn}
 use Rattle.fs_machine.proofs.Owning.{SameFor, same_for, same_get, same_content, same_put, same_back, same_fault, same_after, not_mine_held}
 
 owns : (g : ℕ) (s t : LogPart) → slice_get t.members g ≡ slice_get s.members g → SameFor g s.seats t.seats → t.sizes ≡ s.sizes → length t.contents ≡ length s.contents → own_of g t ≡ own_of g s

@@ -1,20 +1,9 @@
 -- What an operation leaves of what is another hart's.
-use Rattle.std.proofs.Common.{◌≡◌, ◌≢◌, inl, inr, ℕ, ◌+◌, ◌≤◌, ◌==◌, Bool, true, false, List, [], ◌∷◌, ◌++◌, Option, Some, None, length, refl, sym, subst, ap, ◌∙◌, arith, if◌then◌else◌}
-use Rattle.std.proofs.lemmas.Bool.{cases_eq, eqb-true}
-use Rattle.std.specs.Prelude.{slice_index, is_some, is_none, not, ◌&&◌, cond}
-use Rattle.std.specs.Option.{option_map, option_and_then}
-use Rattle.std.proofs.lemmas.Bool.Decides.{nat_tests}
+use Rattle.fs_machine.proofs.Vocabulary.{◌≡◌, ◌≢◌, inl, inr, ℕ, ◌+◌, ◌≤◌, ◌==◌, Bool, true, false, List, [], ◌∷◌, ◌++◌, Option, Some, None, length, refl, sym, subst, ap, ◌∙◌, arith, if◌then◌else◌, cases_eq, eqb-true, slice_index, is_some, is_none, not, ◌&&◌, cond, option_map, option_and_then, nat_tests, change_first, change_to_end, count_of, get_of, get_by, get_new, SeatState, seat_of, holder_of, has_block, is_held_by, is_number, is_out, with_seat, with_holder, with_content, with_pin, without_holder, as_new, given_back, Got, Phase, Open, Staging, Installing, Halted, turn_is_out, seats_after, seats_at_fault, pick, first_passes, seat_changed, seat_of_others, seat_given_back, others_given_back, mine_of}
 use Rattle.std.specs.List.{find}
-use Rattle.buffer_cache.specs.Lists.{change_first, change_to_end, count_of}
-use Rattle.buffer_cache.specs.Getting.{get_of, get_by, get_new, guard_of}
-use Rattle.buffer_cache.specs.Seats.{SeatState, seat_of, holder_of, has_block, is_held_by, is_number, is_free, is_out, with_seat, with_holder, with_content, with_pin, without_holder, as_new, given_back}
-use Rattle.buffer_cache.specs.declared.got.Got.{Got}
+use Rattle.buffer_cache.specs.Getting.{guard_of}
+use Rattle.buffer_cache.specs.Seats.{is_free}
 use Rattle.buffer_cache.specs.declared.got.Got.TheVariants as got
-use Rattle.group_log.specs.declared.phase.Phase.{Phase}
-use Rattle.group_log.specs.declared.phase.Phase.TheVariants.{Open, Staging, Installing, Halted}
-use Rattle.group_log.specs.Turns.{turn_is_out, seats_after, seats_at_fault}
-use Rattle.group_log.proofs.Seats.{pick, first_passes, seat_changed, seat_of_others, seat_given_back, others_given_back}
-use Rattle.fs_machine.specs.Own.{mine_of}
 
 -- ---- counts
 

@@ -1,17 +1,8 @@
 -- What a call of a part comes to, in the whole.
-use Rattle.std.proofs.Common.{◌≡◌, ℕ, Option, Some, None, Result, Ok, Err, refl}
-use Rattle.sleep_lock.specs.SleepLock.{GuardState}
-use Rattle.buffer_cache.specs.Buffers.{BufferState}
-use Rattle.buffer_cache.specs.declared.got.Got.{Got}
+use Rattle.fs_machine.proofs.Vocabulary.{◌≡◌, ℕ, Option, Some, None, Result, Ok, Err, refl, GuardState, BufferState, Got, Progress, did_in, Inode, Dropped, locked_as, dropped_as, joined_as, got_as, read_as, committed_as}
 use Rattle.buffer_cache.specs.declared.got.Got.TheVariants as got
-use Rattle.group_log.specs.declared.commit.Progress.{Progress}
 use Rattle.group_log.specs.declared.commit.Progress.TheVariants as progress
-use Rattle.atomic_programs.specs.Prog.{did_in}
-use Rattle.fs_machine.specs.declared.entries.Inode.{Inode}
-use Rattle.fs_machine.specs.declared.entries.Dropped.{Dropped}
 use Rattle.fs_machine.specs.declared.entries.Dropped.TheVariants as dropped
-use Rattle.fs_machine.specs.Results.{locked_as, dropped_as}
-use Rattle.fs_machine.specs.Did.{joined_as, got_as, read_as, committed_as}
 
 module _ {S T : Type 0} (into : S → T) (s : S) where
   pub joined-in : (r : Option ℕ) → did_in into (joined_as r s) ≡ joined_as r (into s)

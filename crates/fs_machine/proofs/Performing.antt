@@ -1,17 +1,6 @@
 -- What an operation says, by what its function of the core says.
-use Rattle.std.proofs.Common.{◌≡◌, ℕ, List, refl, sym, subst, inl}
-use Rattle.atomic_programs.specs.Prog.{Waits as ItWaits}
-use Rattle.fs_machine.specs.declared.shared.Core.{Core}
-use Rattle.fs_machine.specs.LogPart.{Passes}
-use Rattle.fs_machine.specs.Steps.{state_of, exec}
-use Rattle.fs_machine.specs.Premises.{Honest}
-use Rattle.fs_machine.specs.declared.hand.Hand.{Hand}
-use Rattle.fs_machine.specs.declared.op.Op.{Op}
-use Rattle.fs_machine.specs.declared.op.Answer.{Answer}
+use Rattle.fs_machine.proofs.Vocabulary.{◌≡◌, ℕ, List, refl, sym, subst, inl, Waits as ItWaits, Core, Passes, state_of, exec, Honest, Hand, Op, Answer, HandFits, op_in, Performs}
 use Rattle.fs_machine.specs.declared.op.Did.TheVariants.{Waits}
-use Rattle.fs_machine.specs.Hands.{HandFits}
-use Rattle.fs_machine.specs.Ops.{op_in}
-use Rattle.fs_machine.specs.Performs.{Performs}
 
 module _ {D : Type 0} (contents : D → List (List ℕ)) (failures : D → ℕ) (Called : D → D → Type 0) where
   -- one that waits

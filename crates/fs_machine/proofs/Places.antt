@@ -1,18 +1,5 @@
 -- Where an inode has its place.
-use Rattle.std.proofs.Common.{◌≡◌, ℕ, zero, suc, ◌+◌, ◌<◌, ◌≤◌, ◌==◌, List, [], ◌∷◌, length, get_or, set, length-set, Bool, true, false, cond, not, refl, sym, ◌∙◌, ap, subst, arith, Option, Some, None, nat_lt, inl, inr}
-use Rattle.std.specs.Prelude.{slice_get, slice_set, ◌&&◌}
-use Rattle.std.proofs.lemmas.Bool.{cases_eq}
-use Rattle.std.proofs.lemmas.Bool.Decides.{nat_tests}
-use Rattle.std.specs.List.{position, position_or_len}
-use Rattle.std.proofs.lemmas.Option.{slice_get_within, slice_get-get_or, get_or_from_slice_get, same_Some, none-some}
-use Rattle.std.proofs.lemmas.List.Quantifiers.{position-Some}
-use Rattle.sleep_lock.specs.SleepLock.{SlotState}
-use Rattle.sleep_lock.proofs.Lists.{slice_get-set_same, slice_get-set_other}
-use Rattle.fs_machine.specs.declared.entries.Entry.{Entry}
-use Rattle.fs_machine.specs.declared.entries.Inode.{Inode}
-use Rattle.fs_machine.specs.Lists.{change_at}
-use Rattle.fs_machine.specs.Tables.{is_for, place_of}
-use Rattle.fs_machine.specs.Soundness.{IsOnce, AllPlaced, PlaceFits}
+use Rattle.fs_machine.proofs.Vocabulary.{◌≡◌, ℕ, zero, suc, ◌+◌, ◌<◌, ◌≤◌, ◌==◌, List, [], ◌∷◌, length, get_or, set, length-set, Bool, true, false, cond, not, refl, sym, ◌∙◌, ap, subst, arith, Option, Some, None, nat_lt, inl, inr, slice_get, slice_set, ◌&&◌, cases_eq, nat_tests, position, position_or_len, slice_get_within, slice_get-get_or, get_or_from_slice_get, same_Some, none-some, position-Some, SlotState, slice_get-set_same, slice_get-set_other, Entry, Inode, change_at, is_for, place_of, IsOnce, AllPlaced, PlaceFits}
 
 -- ---- lists
 

@@ -1,32 +1,8 @@
 -- What each call of the log makes is what its operation makes.
-use Rattle.std.proofs.Common.{◌≡◌, ◌≢◌, ℕ, Bool, true, false, List, [], Option, Some, None, Result, Ok, Err, length, refl, sym, subst, ap, ◌∙◌}
-use Rattle.std.specs.Prelude.{◌↔◌, ◌⊎◌, slice_set, IsTrue, IsNone, IsSome, IfSome, OnOk, OnErr}
-use Rattle.std.specs.Option.{unwrap_or}
-use Rattle.block_device.specs.Blocks.{block_at, faults_after}
-use Rattle.sleep_lock.specs.SleepLock.{GuardState}
-use Rattle.buffer_cache.specs.Buffers.{BufferState}
-use Rattle.buffer_cache.specs.Getting.{get_of, IfHeld}
-use Rattle.buffer_cache.specs.Seats.{IsHeld, seen, with_seat, with_content, with_pin, given_back}
-use Rattle.buffer_cache.specs.declared.got.Got.{Got}
+use Rattle.fs_machine.proofs.Vocabulary.{◌≡◌, ◌≢◌, ℕ, Bool, true, false, List, [], Option, Some, None, Result, Ok, Err, length, refl, sym, subst, ap, ◌∙◌, ◌↔◌, ◌⊎◌, slice_set, IsTrue, IsNone, IsSome, IfSome, OnOk, OnErr, unwrap_or, faults_after, GuardState, BufferState, get_of, IfHeld, IsHeld, seen, with_seat, with_content, with_pin, given_back, Got, Left, Phase, Open, Staging, Installing, Halted, Progress, joined, with_block, members_with, write_to, write_of, next_phase, group_in, phase_at_leave, LogState, limit_of, turn_is_out, seats_after, seats_at_fault, join_waits, left_at, progress_at, faults_at, IfMade, IfFailed, waits_same, Ran, Stops, TablesState, Core, part_of, Passes, Fails, join_if, got_by, with_seats, commit_if, is_open, join_log, leave_log, get_block, read_block, put_block, commit_log, LeavesIt, LeavesOne, written, IsOutsideLog, bytes_of, IsOwn, joined_as, got_as, IfGotNone, read_as, committed_as, said_read, said_written}
+use Rattle.block_device.specs.Blocks.{block_at}
 use Rattle.buffer_cache.specs.declared.got.Got.TheVariants as got
-use Rattle.group_log.specs.declared.log.Left.{Left}
-use Rattle.group_log.specs.declared.phase.Phase.{Phase}
-use Rattle.group_log.specs.declared.phase.Phase.TheVariants.{Open, Staging, Installing, Halted}
-use Rattle.group_log.specs.declared.commit.Progress.{Progress}
 use Rattle.group_log.specs.declared.commit.Progress.TheVariants as progress
-use Rattle.group_log.specs.Group.{joined, with_block, members_with}
-use Rattle.group_log.specs.Phases.{write_to, write_of, next_phase, group_in, phase_at_leave}
-use Rattle.group_log.specs.Soundness.{LogState, limit_of}
-use Rattle.group_log.specs.Turns.{turn_is_out, seats_after, seats_at_fault}
-use Rattle.group_log.specs.Waiting.{join_waits, left_at, progress_at, faults_at, IfMade, IfFailed}
-use Rattle.group_log.proofs.Getting.{waits_same}
-use Rattle.atomic_programs.specs.Prog.{Ran, Stops}
-use Rattle.fs_machine.specs.Tables.{TablesState}
-use Rattle.fs_machine.specs.declared.shared.Core.{Core}
-use Rattle.fs_machine.specs.LogPart.{part_of, Passes, Fails, join_if, got_by, with_seats, commit_if, is_open, join_log, leave_log, get_block, read_block, put_block, commit_log, LeavesIt, LeavesOne, written}
-use Rattle.fs_layout.specs.Recovered.{IsOutsideLog}
-use Rattle.fs_machine.specs.Tied.{bytes_of, IsOwn}
-use Rattle.fs_machine.specs.Did.{joined_as, got_as, IfGotNone, read_as, committed_as, said_read, said_written}
 
 untrue : (b : Bool) → (b ≡ true → true ≡ false) → b ≡ false
 untrue true f = f refl

@@ -1,36 +1,7 @@
 -- What each operation makes of the blocks as they are seen.
-use Rattle.std.proofs.Common.{◌≡◌, ◌≢◌, inl, inr, ℕ, ◌<◌, ◌≤◌, ◌==◌, Bool, true, false, List, Option, Some, None, length, refl, sym, subst, ap, ◌∙◌, if◌then◌else◌}
-use Rattle.std.specs.Prelude.{IsSome, is_some}
-use Rattle.fs_layout.specs.Recovered.{IsOutsideLog}
-use Rattle.buffer_cache.specs.Lists.{count_of}
-use Rattle.buffer_cache.specs.Getting.{get_of}
-use Rattle.buffer_cache.specs.Limits.{hart_count}
-use Rattle.buffer_cache.specs.Seats.{SeatState, seat_of, holder_of, is_held_by, kept, seen_in, with_seat, with_pin, IsHeld}
-use Rattle.buffer_cache.specs.declared.got.Got.{Got}
+use Rattle.fs_machine.proofs.Vocabulary.{◌≡◌, ◌≢◌, inl, inr, ℕ, ◌<◌, ◌≤◌, ◌==◌, Bool, true, false, List, Option, Some, None, length, refl, sym, subst, ap, ◌∙◌, if◌then◌else◌, IsSome, is_some, IsOutsideLog, count_of, get_of, hart_count, SeatState, seat_of, holder_of, is_held_by, kept, seen_in, with_seat, with_pin, IsHeld, Got, sound_pin, GetLaws, get_laws, fill_laws, back_laws, change_laws, pin_keeps, pin_seen, joined, has, HasRoom, IsMember, IsSoundLog, limit_of, turn_is_out, join_waits, Phase, Open, Halted, room_to_pin, pinned_by_pin, open_of, under_way, Stands, write_stands, fault_stands, after_stands, guard_in, seat_in, kept_in, Did, Waits, Ran, Stops, OpenFile, Refused, TablesState, file_named, refusal_of, lock_inode, lock_file, settle_inode, up_inode, first_free, take_place, open_file, double_descriptor, shut_descriptor, give_next, LogPart, Outside, Passes, Fails, join_if, got_by, read_block, put_block, commit_if, written, LeavesIt, LeavesOne, State, Join, JoinToWrite, Leave, Get, Read, Put, Commit, Lock, LockFile, LockOpen, Unlock, Settle, Up, Claim, Down, CheckFile, TakePlace, TakeDescriptor, Double, Close, Give, Reply, exec, in_log, in_tables, joins, join_unless, lock_open, claims, claim_first, up_whom, drop_which, May, Honest, MayPut, seen_of, seen_with, ShowsItsPuts, IsWholeLog, After}
 use Rattle.buffer_cache.specs.declared.got.Got.TheVariants as got
-use Rattle.buffer_cache.proofs.Sound.{sound_pin}
-use Rattle.buffer_cache.proofs.Laws.{GetLaws, get_laws, fill_laws, back_laws, change_laws, pin_keeps, pin_seen}
-use Rattle.group_log.specs.Group.{joined, has, HasRoom, IsMember}
-use Rattle.group_log.specs.Soundness.{IsSoundLog, limit_of}
-use Rattle.group_log.specs.Turns.{turn_is_out}
-use Rattle.group_log.specs.Waiting.{join_waits}
-use Rattle.group_log.specs.declared.phase.Phase.{Phase}
-use Rattle.group_log.specs.declared.phase.Phase.TheVariants.{Open, Halted}
-use Rattle.group_log.proofs.Recorded.{room_to_pin, pinned_by_pin}
-use Rattle.group_log.proofs.Steps.{open_of, under_way}
-use Rattle.group_log.proofs.Whole.{Stands, write_stands, fault_stands, after_stands, guard_in, seat_in, kept_in}
-use Rattle.atomic_programs.specs.Prog.{Did, Waits, Ran, Stops}
-use Rattle.fs_machine.specs.declared.files.OpenFile.{OpenFile}
-use Rattle.fs_machine.specs.declared.files.Refused.{Refused}
 use Rattle.fs_machine.specs.declared.files.Want.TheVariants as want
-use Rattle.fs_machine.specs.Tables.{TablesState, file_named}
-use Rattle.fs_machine.specs.Inodes.{refusal_of, lock_inode, lock_file, settle_inode, up_inode, first_free}
-use Rattle.fs_machine.specs.Files.{take_place, open_file, double_descriptor, shut_descriptor, give_next}
-use Rattle.fs_machine.specs.LogPart.{LogPart, Outside, Passes, Fails, join_if, got_by, read_block, put_block, commit_if, written, LeavesIt, LeavesOne}
-use Rattle.fs_machine.specs.Steps.{State, Join, JoinToWrite, Leave, Get, Read, Put, Commit, Lock, LockFile, LockOpen, Unlock, Settle, Up, Claim, Down, CheckFile, TakePlace, TakeDescriptor, Double, Close, Give, Reply, exec, in_log, in_tables, joins, join_unless, lock_open, claims, claim_first, up_whom, drop_which}
-use Rattle.fs_machine.specs.Premises.{May, Honest, MayPut}
-use Rattle.fs_machine.specs.Shown.{seen_of, seen_with, ShowsItsPuts}
-use Rattle.fs_machine.specs.Whole.{IsWholeLog, After}
 
 module _ (h : ℕ) (s : State) (whole : IsWholeLog s.log) where
   abbrev l : LogPart

@@ -1,29 +1,8 @@
 -- A step of a control: its program's next operation.
-use Rattle.std.proofs.Common.{◌≡◌, ℕ, Option, Some, None, refl, sym, ap, ◌∙◌, subst}
-use Rattle.std.specs.Option.{option_map}
-use Rattle.atomic_programs.specs.Prog.{Ret, Do, asks, advance, OfNext, WentOn, StillWaits, Broke, Waits, Ran, Stops}
-use Rattle.sleep_lock.specs.SleepLock.{GuardState}
-use Rattle.fs_machine.specs.declared.entries.Inode.{Inode}
-use Rattle.fs_machine.specs.declared.kind.Kind.{Kind}
-use Rattle.fs_machine.specs.LogPart.{Outside}
+use Rattle.fs_machine.proofs.Vocabulary.{◌≡◌, ℕ, Option, Some, None, refl, sym, ap, ◌∙◌, subst, option_map, Ret, Do, asks, advance, OfNext, WentOn, StillWaits, Broke, Waits, Ran, Stops, GuardState, Inode, Kind, Outside, State, exec, kind_of, P, IsOwn, IsLocked, IsOut, IfSome, slice_get, First, Second, Hand, Place, Seat, One, Two, Op, Record, UnlockMoving, UpAside, UpDirectory, DownWalked, LockListed, DownFreed, GiveTo, Answer, HandFits, buffer_at, with_buffer, inode_at, op_in, Prepared, IsAfter, Goes, bare, without_record}
 use Rattle.fs_machine.specs.Steps as steps
-use Rattle.fs_machine.specs.Steps.{State, exec, kind_of}
-use Rattle.fs_machine.specs.Machines.{P}
-use Rattle.fs_machine.specs.Tied.{IsOwn}
-use Rattle.fs_machine.specs.Locks.{IsLocked}
-use Rattle.sleep_lock.specs.Row.{IsOut}
-use Rattle.std.specs.Prelude.{IfSome, slice_get}
-use Rattle.fs_machine.specs.declared.hand.Place.TheVariants.{First, Second}
-use Rattle.fs_machine.specs.declared.hand.Hand.{Hand}
-use Rattle.fs_machine.specs.declared.hand.Place.{Place}
-use Rattle.fs_machine.specs.declared.hand.Seat.{Seat}
-use Rattle.fs_machine.specs.declared.hand.Seat.TheVariants.{One, Two}
-use Rattle.fs_machine.specs.declared.op.Op.{Op}
-use Rattle.fs_machine.specs.declared.op.Op.TheVariants.{Join, JoinToWrite, Leave, Commit, Get, Read, Give, Record, Lock, LockFile, LockOpen, Unlock, UnlockMoving, Settle, Up, UpAside, UpDirectory, Down, DownWalked, LockListed, DownFreed, CheckFile, TakePlace, TakeDescriptor, Double, Close, GiveTo, Claim, Reply}
-use Rattle.fs_machine.specs.declared.op.Answer.{Answer}
-use Rattle.fs_machine.specs.Hands.{HandFits, buffer_at, with_buffer, inode_at, with_content}
-use Rattle.fs_machine.specs.Ops.{op_in, Prepared, IsAfter}
-use Rattle.fs_machine.specs.Controls.{Goes, bare, without_record}
+use Rattle.fs_machine.specs.declared.op.Op.TheVariants.{Join, JoinToWrite, Leave, Commit, Get, Read, Give, Lock, LockFile, LockOpen, Unlock, Settle, Up, Down, CheckFile, TakePlace, TakeDescriptor, Double, Close, Claim, Reply}
+use Rattle.fs_machine.specs.Hands.{with_content}
 use Rattle.fs_machine.proofs.Fits.{buffer-again, stay}
 
 -- ---- the program's step

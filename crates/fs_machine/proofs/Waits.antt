@@ -1,44 +1,13 @@
 -- Where an operation waits, it may.
-use Rattle.std.proofs.Common.{◌≡◌, ◌≢◌, ◌+◌, ◌<◌, ◌≤◌, ◌==◌, ℕ, zero, suc, Bool, true, false, List, [], ◌∷◌, Option, Some, None, length, refl, sym, subst, ap, ◌∙◌, arith}
-use Rattle.std.specs.Option.{MatchOption}
-use Rattle.std.specs.Prelude.{IsSome, cond, count_by, slice_get, position}
-use Rattle.std.proofs.lemmas.Bool.Decides.{nat_tests}
-use Rattle.std.proofs.lemmas.List.Recursion.{is_count_by}
-use Rattle.sleep_lock.specs.SleepLock.{SlotState, GuardState, guard_of}
-use Rattle.sleep_lock.specs.Row.{lock_of}
-use Rattle.buffer_cache.specs.Getting.{get_of}
-use Rattle.buffer_cache.specs.Seats.{SeatState, holder_of}
-use Rattle.buffer_cache.specs.declared.got.Got.{Got}
+use Rattle.fs_machine.proofs.Vocabulary.{◌≡◌, ◌≢◌, ◌+◌, ◌<◌, ◌≤◌, ◌==◌, ℕ, zero, suc, Bool, true, false, List, [], ◌∷◌, Option, Some, None, length, refl, sym, subst, ap, ◌∙◌, arith, MatchOption, IsSome, cond, count_by, slice_get, nat_tests, is_count_by, SlotState, GuardState, guard_of, lock_of, get_of, SeatState, holder_of, Got, get_laws, joined, pick, limit_of, turn_is_out, join_waits, Did, Waits, Ran, Stops, did_in, Dinode, Entry, Inode, FilePlace, Free, Taken, NewFile, OpenFile, Refused, Want, IsSoundInodes, InsideFits, TablesState, is_unused, place_of, place_named, references_of, references_in, file_named, file_in, open_at, is_file_of, lock_holder, refusal_of, lock_inode, lock_at, lock_file, lock_unless, with_file, settle_inode, up_inode, up_by, up_new, up_directory, drop_inode, drop_at, drop_dying, dying, drop_walked, walked_at, walked_dying, drop_freed, freed_at as uncounted_freed, first_free, take_place, take_at, open_file, open_in, open_by, double_descriptor, double_at, double_to, shut_descriptor, shut_at, freed_if, give_next, give_by, give_at, given_directory, is_free, hand_of, descriptors_of, first_empty, next_full, LogPart, Outside, Passes, Fails, join_if, got_by as block_got, read_block, commit_if, write_log, State, Join, JoinToWrite, Leave, Get, Read, Put, Commit, Lock, LockFile, LockOpen, Unlock, Settle, Up, Claim, Down, CheckFile, TakePlace, TakeDescriptor, Double, Close, Give, Reply, Whom, Number, Directory, Drop, Held, Walked, Freed, exec, in_log, in_tables, joins, join_unless, with_open, lock_open, claims, claim_first, up_whom, drop_which, May, MayLockFile, MayLockOpen, MayWait, IsElsewhere, JoinWaits, IsCounted, WaitsWhereItMay}
+use Rattle.std.specs.Prelude.{position}
 use Rattle.buffer_cache.specs.declared.got.Got.TheVariants as got
-use Rattle.buffer_cache.proofs.Laws.{get_laws}
-use Rattle.group_log.specs.Group.{joined}
-use Rattle.group_log.proofs.Seats.{pick}
-use Rattle.group_log.specs.Soundness.{limit_of}
-use Rattle.group_log.specs.Turns.{turn_is_out}
-use Rattle.group_log.specs.Waiting.{join_waits}
-use Rattle.atomic_programs.specs.Prog.{Did, Waits, Ran, Stops, did_in}
-use Rattle.fs_layout.specs.declared.inode.Dinode.{Dinode}
-use Rattle.fs_machine.specs.declared.entries.Entry.{Entry}
-use Rattle.fs_machine.specs.declared.entries.Inode.{Inode}
-use Rattle.fs_machine.specs.declared.files.FilePlace.{FilePlace}
-use Rattle.fs_machine.specs.declared.files.FilePlace.TheVariants.{Free, Taken, Open}
-use Rattle.fs_machine.specs.declared.files.NewFile.{NewFile}
-use Rattle.fs_machine.specs.declared.files.OpenFile.{OpenFile}
-use Rattle.fs_machine.specs.declared.files.Refused.{Refused}
-use Rattle.fs_machine.specs.declared.files.Want.{Want}
+use Rattle.fs_machine.specs.declared.files.FilePlace.TheVariants.{Open}
 use Rattle.fs_machine.specs.declared.files.Want.TheVariants as want
-use Rattle.fs_machine.specs.Soundness.{IsSoundInodes, InsideFits}
-use Rattle.fs_machine.specs.Tables.{TablesState, is_unused, place_of, place_named, references_of, references_in, file_named, file_in, open_at, is_file_of, holder_of as lock_holder}
-use Rattle.fs_machine.specs.Inodes.{refusal_of, lock_inode, lock_at, got_by, lock_file, lock_unless, with_file, settle_inode, up_inode, up_by, up_new, up_directory, drop_inode, drop_at, drop_dying, dying, drop_walked, walked_at, walked_dying, drop_freed, freed_at as uncounted_freed, first_free}
-use Rattle.fs_machine.specs.Files.{take_place, take_at, open_file, open_in, open_by, double_descriptor, double_at, double_to, shut_descriptor, shut_at, freed_if, give_next, give_by, give_at, given_directory, is_free, hand_of, descriptors_of}
-use Rattle.fs_machine.specs.Lists.{first_empty, next_full}
+use Rattle.fs_machine.specs.Inodes.{got_by}
 use Rattle.fs_machine.proofs.Places.{found}
 use Rattle.fs_machine.proofs.Locking.{slot_at, lock_is}
 use Rattle.fs_machine.proofs.Counting.{holder_there}
-use Rattle.fs_machine.specs.LogPart.{LogPart, Outside, Passes, Fails, join_if, got_by as block_got, read_block, commit_if, write_log}
-use Rattle.fs_machine.specs.Steps.{State, Join, JoinToWrite, Leave, Get, Read, Put, Commit, Lock, LockFile, LockOpen, Unlock, Settle, Up, Claim, Down, CheckFile, TakePlace, TakeDescriptor, Double, Close, Give, Reply, Whom, Number, Directory, Drop, Held, Walked, Freed, exec, in_log, in_tables, joins, join_unless, with_open, lock_open, claims, claim_first, up_whom, drop_which}
-use Rattle.fs_machine.specs.Premises.{May, MayLockFile, MayLockOpen, MayWait, IsElsewhere, JoinWaits}
-use Rattle.fs_machine.specs.Waiting.{IsCounted, WaitsWhereItMay}
 
 elsewhere : (h : ℕ) (o : Option ℕ) → IsSome o → o ≢ Some h → IsElsewhere h o
 elsewhere h None some ne = absurd (cc some)

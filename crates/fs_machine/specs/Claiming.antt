@@ -1,7 +1,5 @@
 -- What a claim stands for.
-use Rattle.sleep_lock.specs.SleepLock.{GuardState}
-use Rattle.buffer_cache.specs.Buffers.{BufferState}
-use Rattle.atomic_programs.specs.Prog.{Did, Ran}
+use Rattle.fs_machine.specs.Vocabulary.{GuardState, BufferState, Did, Ran}
 use Rattle.fs_machine.specs.Steps.{ClaimResult as ClaimedState, Claims, NoPlace as HasNoPlace, NoInode as HasNoInode}
 use Rattle.fs_machine.specs.declared.inodes.Claim.{Claim}
 use Rattle.fs_machine.specs.declared.inodes.Claim.TheVariants.{Claimed, NoPlace, NoInode}

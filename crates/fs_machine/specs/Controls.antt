@@ -1,8 +1,6 @@
 -- Controls: what is left of a program, and how it goes on.
 use Rattle.std.specs.Prelude.{◌≡◌, [], Option, Some, None}
-use Rattle.std.specs.Option.{option_map}
-use Rattle.atomic_programs.specs.Prog.{Ret, Do}
-use Rattle.sleep_lock.specs.SleepLock.{GuardState}
+use Rattle.fs_machine.specs.Vocabulary.{option_map, Ret, Do, GuardState}
 use Rattle.fs_machine.specs.declared.entries.Inode.{Inode}
 use Rattle.fs_machine.specs.Steps as steps
 use Rattle.fs_machine.specs.Machines.{P}

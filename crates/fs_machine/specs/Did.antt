@@ -1,12 +1,8 @@
 -- What the answers of the log and the tables stand for.
 use Rattle.std.specs.Prelude.{ℕ, List, Bool, true, false, Option, Some, None, Result, Ok, Err}
-use Rattle.sleep_lock.specs.SleepLock.{GuardState}
-use Rattle.buffer_cache.specs.Buffers.{BufferState}
-use Rattle.buffer_cache.specs.declared.got.Got.{Got}
+use Rattle.fs_machine.specs.Vocabulary.{GuardState, BufferState, Got, Progress, Did, Waits, Ran, Stops}
 use Rattle.buffer_cache.specs.declared.got.Got.TheVariants as got
-use Rattle.group_log.specs.declared.commit.Progress.{Progress}
 use Rattle.group_log.specs.declared.commit.Progress.TheVariants as progress
-use Rattle.atomic_programs.specs.Prog.{Did, Waits, Ran, Stops}
 use Rattle.fs_machine.specs.LogPart.{Outside, Passes, Fails}
 use Rattle.fs_machine.specs.Tied.{bytes_of}
 

@@ -1,7 +1,6 @@
 -- A block's buffer, taken and valid.
 use Rattle.std.specs.Prelude.{◌≡◌, ℕ, List, [], Option, None, IsSome}
-use Rattle.std.specs.Option.{MatchOption, option_map_or}
-use Rattle.atomic_programs.specs.Prog.{once, unmarked}
+use Rattle.fs_machine.specs.Vocabulary.{MatchOption, option_map_or, once, unmarked, BufferState, GuardState}
 use Rattle.fs_machine.specs.Steps as steps
 use Rattle.fs_machine.specs.Machines.{P}
 use Rattle.fs_machine.specs.Programs.{fetch}
@@ -13,9 +12,7 @@ use Rattle.fs_machine.specs.Hands.{buffer_at, bytes_at}
 use Rattle.fs_machine.specs.declared.fetch.Fetch.{Fetch}
 use Rattle.fs_machine.specs.declared.fetch.Fetch.TheVariants.{Get, Read}
 use Rattle.fs_machine.specs.declared.fetch.Fetched.{Fetched}
-use Rattle.buffer_cache.specs.Buffers.{BufferState}
 use Rattle.fs_machine.specs.Tied.{bytes_of}
-use Rattle.sleep_lock.specs.SleepLock.{GuardState}
 
 abbrev pub fetch_left : Fetch → Hand → P (List ℕ)
 fetch_left (Get p b) h = fetch b

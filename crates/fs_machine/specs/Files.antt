@@ -1,7 +1,6 @@
 -- What a step makes of descriptors and open files.
 use Rattle.std.specs.Prelude.{ℕ, ◌+◌, ◌==◌, List, [], Bool, true, false, Option, Some, None, position, is_some, slice_get, slice_set}
-use Rattle.std.specs.List.{list_any}
-use Rattle.atomic_programs.specs.Prog.{Did, Ran}
+use Rattle.fs_machine.specs.Vocabulary.{list_any, Did, Ran}
 use Rattle.fs_machine.specs.declared.files.OpenFile.{OpenFile}
 use Rattle.fs_machine.specs.declared.files.NewFile.{NewFile}
 use Rattle.fs_machine.specs.declared.files.FilePlace.{FilePlace}

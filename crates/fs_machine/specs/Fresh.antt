@@ -1,6 +1,6 @@
 -- The tables at first.
 use Rattle.std.specs.Prelude.{None, replicate, slice_set}
-use Rattle.sleep_lock.specs.Row.{row_of}
+use Rattle.fs_machine.specs.Vocabulary.{row_of}
 use Rattle.fs_machine.specs.declared.desk.Desk.{Desk}
 use Rattle.fs_machine.specs.declared.files.FilePlace.TheVariants.{Free}
 use Rattle.fs_machine.specs.Limits.{inode_places, file_places, desk_count, descriptor_count, root}

@@ -1,9 +1,6 @@
 -- What is in a hart's hand, by its places, and how it goes with the state.
 use Rattle.std.specs.Prelude.{◌≡◌, ℕ, List, [], ◌∷◌, drop, replicate, Option, Some, None, IfSome}
-use Rattle.std.specs.Option.{option_map, option_map_or, unwrap_or}
-use Rattle.fs_layout.specs.declared.inode.Dinode.{Dinode}
-use Rattle.sleep_lock.specs.SleepLock.{GuardState}
-use Rattle.buffer_cache.specs.Buffers.{BufferState}
+use Rattle.fs_machine.specs.Vocabulary.{option_map, option_map_or, unwrap_or, Dinode, GuardState, BufferState}
 use Rattle.fs_machine.specs.declared.entries.Inode.{Inode}
 use Rattle.fs_machine.specs.Steps.{State}
 use Rattle.fs_machine.specs.Tied.{IsOwn, IsOwnInode, bytes_of}

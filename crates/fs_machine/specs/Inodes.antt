@@ -1,9 +1,6 @@
 -- What a step makes of the inodes in memory.
 use Rattle.std.specs.Prelude.{ℕ, ◌==◌, if◌then◌else◌, nat_lt, ℤ, pos, negsuc, List, Bool, true, false, Option, Some, None, is_none, find, position, slice_get, slice_set}
-use Rattle.fs_layout.specs.declared.inode.Dinode.{Dinode}
-use Rattle.sleep_lock.specs.SleepLock.{SlotState, GuardState, filled, taken}
-use Rattle.sleep_lock.specs.Row.{lock_of}
-use Rattle.atomic_programs.specs.Prog.{Did, Waits, Ran, Stops}
+use Rattle.fs_machine.specs.Vocabulary.{Dinode, SlotState, GuardState, filled, taken, lock_of, Did, Waits, Ran, Stops}
 use Rattle.fs_machine.specs.declared.entries.Inode.{Inode}
 use Rattle.fs_machine.specs.declared.entries.Entry.{Entry}
 use Rattle.fs_machine.specs.declared.files.OpenFile.{OpenFile}

@@ -1,6 +1,6 @@
 -- What a join for a descriptor stands for.
 use Rattle.std.specs.Prelude.{ℕ}
-use Rattle.atomic_programs.specs.Prog.{Did, Waits as ItWaits, Ran}
+use Rattle.fs_machine.specs.Vocabulary.{Did, Waits as ItWaits, Ran}
 use Rattle.fs_machine.specs.Steps.{JoinResult as JoinedState, RefusesJoin, Joins}
 use Rattle.fs_machine.specs.declared.shared.JoinedToWrite.{JoinedToWrite}
 use Rattle.fs_machine.specs.declared.shared.JoinedToWrite.TheVariants.{Waits, Refused, Joined}

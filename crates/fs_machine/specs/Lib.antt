@@ -1,3 +1,4 @@
+pub mod Vocabulary
 pub mod LogPart
 pub mod Steps
 pub mod Premises

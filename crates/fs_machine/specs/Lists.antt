@@ -1,6 +1,6 @@
 -- Lists of places.
 use Rattle.std.specs.Prelude.{ℕ, zero, suc, ◌+◌, List, [], ◌∷◌, drop, Option, position, is_some, is_none}
-use Rattle.std.specs.Option.{option_map}
+use Rattle.fs_machine.specs.Vocabulary.{option_map}
 
 -- the list with what stands at a place changed
 abbrev pub change_at : {X : Type 0} → ℕ → (X → X) → List X → List X

@@ -1,8 +1,6 @@
 -- What the lock of a descriptor's inode stands for.
 use Rattle.std.specs.Prelude.{Option, Some, None}
-use Rattle.fs_layout.specs.declared.inode.Dinode.{Dinode}
-use Rattle.sleep_lock.specs.SleepLock.{GuardState}
-use Rattle.atomic_programs.specs.Prog.{Did, Waits as ItWaits, Ran}
+use Rattle.fs_machine.specs.Vocabulary.{Dinode, GuardState, Did, Waits as ItWaits, Ran}
 use Rattle.fs_machine.specs.declared.entries.Inode.{Inode}
 use Rattle.fs_machine.specs.declared.files.OpenFile.{OpenFile}
 use Rattle.fs_machine.specs.Inodes.{LockedState, Refuses, Locks}

@@ -1,7 +1,6 @@
 -- How a guard of an inode goes with the tables.
 use Rattle.std.specs.Prelude.{◌≡◌, ◌<◌, Some, slice_get}
-use Rattle.sleep_lock.specs.SleepLock.{GuardState}
-use Rattle.sleep_lock.specs.Row.{IsOut}
+use Rattle.fs_machine.specs.Vocabulary.{GuardState, IsOut}
 use Rattle.fs_machine.specs.declared.entries.Inode.{Inode}
 use Rattle.fs_machine.specs.declared.entries.Entry.{Entry}
 use Rattle.fs_machine.specs.Tables.{TablesState}

@@ -1,20 +1,7 @@
 -- What an operation on blocks makes of the log.
 use Rattle.std.specs.Prelude.{◌≡◌, ◌⊎◌, ℕ, ◌+◌, List, length, Bool, true, false, min, Option, Some, None, slice_set}
-use Rattle.fs_layout.specs.declared.superblock.Super.{Super}
-use Rattle.block_device.specs.Blocks.{block_at, most_faults}
-use Rattle.buffer_cache.specs.Getting.{get_of}
-use Rattle.buffer_cache.specs.Seats.{SeatState, seen_in, with_seat, with_content, with_pin, given_back}
-use Rattle.buffer_cache.specs.declared.got.Got.{Got}
+use Rattle.fs_machine.specs.Vocabulary.{Super, block_at, most_faults, get_of, SeatState, seen_in, with_seat, with_content, with_pin, given_back, Got, Phase, Open, Staging, Installing, Halted, Left, joined, with_block, members_with, write_to, write_of, next_phase, group_in, phase_at_leave, LogState, limit_of, turn_is_out, seats_after, seats_at_fault, join_waits, left_at, Did, Waits, Ran, Stops}
 use Rattle.buffer_cache.specs.declared.got.Got.TheVariants as got
-use Rattle.group_log.specs.declared.phase.Phase.{Phase}
-use Rattle.group_log.specs.declared.phase.Phase.TheVariants.{Open, Staging, Installing, Halted}
-use Rattle.group_log.specs.declared.log.Left.{Left}
-use Rattle.group_log.specs.Group.{joined, with_block, members_with}
-use Rattle.group_log.specs.Phases.{write_to, write_of, next_phase, group_in, phase_at_leave}
-use Rattle.group_log.specs.Soundness.{LogState, limit_of}
-use Rattle.group_log.specs.Turns.{turn_is_out, seats_after, seats_at_fault}
-use Rattle.group_log.specs.Waiting.{join_waits, left_at}
-use Rattle.atomic_programs.specs.Prog.{Did, Waits, Ran, Stops}
 
 -- a log and its cache, with the blocks of the disk and the count of its failures in the device's place
 pub record LogPart : Type 0 where

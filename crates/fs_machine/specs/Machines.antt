@@ -1,9 +1,7 @@
 -- Machines over the operations: what a step of one says.
 use Rattle.std.specs.Prelude.{◌≡◌, ◌⊎◌, ℕ}
-use Rattle.atomic_programs.specs.Prog.{Prog, advance, asks, OfNext}
-use Rattle.atomic_programs.specs.Machines.{moved_to, answered}
-use Rattle.atomic_programs.specs.declared.machines.Stepped.{Stepped}
-use Rattle.atomic_programs.specs.declared.machines.Stepped.TheVariants.{Waits, Ran, Done, Stopped}
+use Rattle.fs_machine.specs.Vocabulary.{Prog, advance, asks, OfNext, moved_to, answered, Stepped, Done, Stopped}
+use Rattle.atomic_programs.specs.declared.machines.Stepped.TheVariants.{Waits, Ran}
 use Rattle.fs_machine.specs.declared.kind.Kind.{Kind}
 use Rattle.fs_machine.specs.LogPart.{Outside, Passes, Fails}
 use Rattle.fs_machine.specs.Steps.{State, Op, Answer, exec, kind_of}

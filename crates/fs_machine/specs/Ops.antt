@@ -1,10 +1,6 @@
 -- What the operations of code stand for, what each asks of the hand and leaves of it, and its answer.
 use Rattle.std.specs.Prelude.{◌≡◌, ◌≢◌, ◌<◌, ◌≤◌, ◌∷◌, ◌++◌, [], length, take, ◌^◌, ℕ, pos, List, Bool, true, false, Option, Some, None, IsSome, IfSome}
-use Rattle.std.specs.Option.{MatchOption, option_map_or}
-use Rattle.sleep_lock.specs.SleepLock.{GuardState}
-use Rattle.buffer_cache.specs.Buffers.{BufferState}
-use Rattle.group_log.specs.declared.log.Left.{Left}
-use Rattle.group_log.specs.declared.log.Left.TheVariants.{Free, Commits}
+use Rattle.fs_machine.specs.Vocabulary.{MatchOption, option_map_or, GuardState, BufferState, Left, Free, Commits}
 use Rattle.fs_machine.specs.Limits.{descriptor_count, listed_places}
 use Rattle.fs_machine.specs.declared.entries.Inode.{Inode}
 use Rattle.fs_machine.specs.declared.files.Refused.TheVariants as refused

@@ -1,8 +1,6 @@
 -- What is a hart's of the log, and that no operation of another changes it.
 use Rattle.std.specs.Prelude.{◌≡◌, ◌≢◌, ℕ, List, length, Option, Some, None, if◌then◌else◌, slice_get}
-use Rattle.fs_layout.specs.declared.superblock.Super.{Super}
-use Rattle.buffer_cache.specs.Lists.{count_of}
-use Rattle.buffer_cache.specs.Seats.{SeatState, seat_of, is_held_by}
+use Rattle.fs_machine.specs.Vocabulary.{Super, count_of, SeatState, seat_of, is_held_by}
 use Rattle.fs_machine.specs.LogPart.{LogPart, Outside}
 use Rattle.fs_machine.specs.Steps.{State, Op, exec}
 use Rattle.fs_machine.specs.Premises.{May, Honest}

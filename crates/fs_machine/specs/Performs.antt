@@ -1,6 +1,6 @@
 -- What an operation that was made of the hand says.
 use Rattle.std.specs.Prelude.{◌≡◌, ℕ, List}
-use Rattle.atomic_programs.specs.Prog.{Did as DidState, Waits as ItWaits, Ran as ItRan, Stops}
+use Rattle.fs_machine.specs.Vocabulary.{Did as DidState, Waits as ItWaits, Ran as ItRan, Stops}
 use Rattle.fs_machine.specs.declared.kind.Kind.{Kind}
 use Rattle.fs_machine.specs.declared.shared.Core.{Core}
 use Rattle.fs_machine.specs.LogPart.{Outside, Passes, Fails}

@@ -1,7 +1,7 @@
 -- What a step of a machine in its place says.
 use Rattle.std.specs.Prelude.{◌≡◌, ℕ, List}
-use Rattle.atomic_programs.specs.Machines.{Still, Left, OnDone, stepped_at}
-use Rattle.atomic_programs.specs.declared.machines.Came.{Came}
+use Rattle.fs_machine.specs.Vocabulary.{Still, OnDone, stepped_at, Came}
+use Rattle.atomic_programs.specs.Machines.{Left}
 use Rattle.fs_machine.specs.Steps.{State, state_of}
 use Rattle.fs_machine.specs.Machines.{P, Moves, Answers, CallsOnce}
 use Rattle.fs_machine.specs.Tied.{LeavesTied}

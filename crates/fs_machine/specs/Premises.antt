@@ -1,15 +1,6 @@
 -- Where an operation may be made, what the device may answer to it, and where it may wait.
 use Rattle.std.specs.Prelude.{◌≡◌, ◌≢◌, ℕ, ◌+◌, ◌^◌, ◌<◌, ◌≤◌, List, length, false, Option, Some, None, IsSome, IsTrue, IfSome, slice_get}
-use Rattle.std.specs.Option.{MatchOption}
-use Rattle.fs_layout.specs.Recovered.{IsOutsideLog}
-use Rattle.buffer_cache.specs.Lists.{count_of}
-use Rattle.buffer_cache.specs.Seats.{is_held_by, holder_of, kept}
-use Rattle.buffer_cache.specs.Limits.{hart_count}
-use Rattle.group_log.specs.declared.phase.Phase.TheVariants.{Open, Halted}
-use Rattle.group_log.specs.Group.{joined, has, HasRoom, IsMember}
-use Rattle.group_log.specs.Soundness.{IsHome, limit_of}
-use Rattle.group_log.specs.Turns.{turn_is_out}
-use Rattle.group_log.specs.Waiting.{join_waits}
+use Rattle.fs_machine.specs.Vocabulary.{MatchOption, IsOutsideLog, count_of, is_held_by, holder_of, kept, hart_count, Open, Halted, joined, has, HasRoom, IsMember, IsHome, limit_of, turn_is_out, join_waits}
 use Rattle.fs_machine.specs.declared.files.OpenFile.{OpenFile}
 use Rattle.fs_machine.specs.Lists.{next_full}
 use Rattle.fs_machine.specs.Tables.{TablesState, references_of, owed, holder_of as lock_holder, file_named}

@@ -1,8 +1,6 @@
 -- Programs that every layer uses. They are silent: nothing is marked in them.
 use Rattle.std.specs.Prelude.{ℕ, zero, suc, List, Bool, true, false, Option, Some, None}
-use Rattle.group_log.specs.declared.log.Left.{Left}
-use Rattle.group_log.specs.declared.log.Left.TheVariants.{Free, Commits}
-use Rattle.atomic_programs.specs.Prog.{Prog, Ret, Do, once, unmarked}
+use Rattle.fs_machine.specs.Vocabulary.{Left, Free, Commits, Prog, Ret, Do, once, unmarked}
 use Rattle.fs_machine.specs.Steps.{Op, Answer, Leave, Get, Read, Commit}
 
 -- a block's buffer is in hand, with these bytes where it is valid; else they are read

@@ -1,8 +1,6 @@
 -- What the answers of the tables stand for.
 use Rattle.std.specs.Prelude.{ℕ, Option, Some, None, Result, Ok, Err}
-use Rattle.fs_layout.specs.declared.inode.Dinode.{Dinode}
-use Rattle.sleep_lock.specs.SleepLock.{GuardState}
-use Rattle.atomic_programs.specs.Prog.{Did, Waits, Ran}
+use Rattle.fs_machine.specs.Vocabulary.{Dinode, GuardState, Did, Waits, Ran}
 use Rattle.fs_machine.specs.declared.entries.Inode.{Inode}
 use Rattle.fs_machine.specs.declared.entries.Dropped.{Dropped}
 use Rattle.fs_machine.specs.declared.entries.Dropped.TheVariants as dropped

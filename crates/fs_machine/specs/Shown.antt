@@ -1,7 +1,6 @@
 -- What each operation makes of the blocks as they are seen.
 use Rattle.std.specs.Prelude.{◌≡◌, ◌==◌, ℕ, List, Option, Some, None, if◌then◌else◌}
-use Rattle.fs_layout.specs.Recovered.{IsOutsideLog}
-use Rattle.buffer_cache.specs.Seats.{seen_in}
+use Rattle.fs_machine.specs.Vocabulary.{IsOutsideLog, seen_in}
 use Rattle.fs_machine.specs.LogPart.{LogPart, Outside}
 use Rattle.fs_machine.specs.Steps.{State, Op, Put, exec}
 use Rattle.fs_machine.specs.Premises.{May, Honest}

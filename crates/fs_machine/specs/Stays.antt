@@ -1,9 +1,8 @@
 -- What else is in a hart's hand stays so while the hart makes a step. Each of these is for the hart's buffers, by IsOwn, and for
 -- its inodes' locks, by IsOwnInode.
 use Rattle.std.specs.Prelude.{◌≢◌, ℕ}
-use Rattle.sleep_lock.specs.SleepLock.{GuardState}
+use Rattle.fs_machine.specs.Vocabulary.{GuardState, Stepped}
 use Rattle.atomic_programs.specs.Machines.{Left}
-use Rattle.atomic_programs.specs.declared.machines.Stepped.{Stepped}
 use Rattle.fs_machine.specs.declared.kind.Kind.{Kind}
 use Rattle.fs_machine.specs.Steps.{State}
 

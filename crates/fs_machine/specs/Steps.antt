@@ -1,8 +1,6 @@
 -- The operations that calls are made of, and what each makes of the state that all harts share.
 use Rattle.std.specs.Prelude.{ℕ, List, Bool, Option, Some, None}
-use Rattle.fs_layout.specs.declared.inode.Dinode.{Dinode}
-use Rattle.group_log.specs.declared.log.Left.{Left}
-use Rattle.atomic_programs.specs.Prog.{Did, Waits, Ran, Stops, did_in}
+use Rattle.fs_machine.specs.Vocabulary.{Dinode, Left, Did, Waits, Ran, Stops, did_in}
 use Rattle.fs_machine.specs.declared.entries.Inode.{Inode}
 use Rattle.fs_machine.specs.declared.files.NewFile.{NewFile}
 use Rattle.fs_machine.specs.declared.files.OpenFile.{OpenFile}

@@ -1,6 +1,6 @@
 -- The tables that all harts share.
 use Rattle.std.specs.Prelude.{ℕ, ◌+◌, ◌-◌, ◌==◌, ◌&&◌, nat_lt, List, Bool, false, Option, Some, None, position, count_by, slice_get}
-use Rattle.sleep_lock.specs.SleepLock.{SlotState}
+use Rattle.fs_machine.specs.Vocabulary.{SlotState}
 use Rattle.fs_machine.specs.declared.entries.Inode.{Inode}
 use Rattle.fs_machine.specs.declared.entries.Entry.{Entry}
 use Rattle.fs_machine.specs.declared.files.OpenFile.{OpenFile}

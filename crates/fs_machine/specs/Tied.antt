@@ -1,10 +1,6 @@
 -- How the guards in a hart's hand go with the state.
 use Rattle.std.specs.Prelude.{◌≡◌, ◌≢◌, ℕ, List, [], IfSome}
-use Rattle.std.specs.Option.{unwrap_or}
-use Rattle.fs_layout.specs.Recovered.{IsOutsideLog}
-use Rattle.sleep_lock.specs.SleepLock.{GuardState}
-use Rattle.buffer_cache.specs.Buffers.{BufferState}
-use Rattle.buffer_cache.specs.Seats.{seen_in, IsHeld}
+use Rattle.fs_machine.specs.Vocabulary.{unwrap_or, IsOutsideLog, GuardState, BufferState, seen_in, IsHeld}
 use Rattle.fs_machine.specs.declared.entries.Inode.{Inode}
 use Rattle.fs_machine.specs.Locks.{IsLocked}
 use Rattle.fs_machine.specs.LogPart.{LogPart}

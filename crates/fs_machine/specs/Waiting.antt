@@ -1,6 +1,6 @@
 -- Where an operation waits, it may.
 use Rattle.std.specs.Prelude.{◌≡◌, ◌≤◌, ℕ}
-use Rattle.atomic_programs.specs.Prog.{Waits}
+use Rattle.fs_machine.specs.Vocabulary.{Waits}
 use Rattle.fs_machine.specs.Soundness.{IsSoundTables}
 use Rattle.fs_machine.specs.Tables.{TablesState, owed, references_of}
 use Rattle.fs_machine.specs.LogPart.{Outside}

@@ -1,6 +1,5 @@
 -- What always holds of the log, and that each operation keeps it.
-use Rattle.group_log.specs.Whole.{IsWhole}
-use Rattle.atomic_programs.specs.Prog.{Did, Waits, Ran, Stops}
+use Rattle.fs_machine.specs.Vocabulary.{IsWhole, Did, Waits, Ran, Stops}
 use Rattle.std.specs.Prelude.{ℕ}
 use Rattle.fs_machine.specs.LogPart.{LogPart, Outside}
 use Rattle.fs_machine.specs.Steps.{State, Op, exec}

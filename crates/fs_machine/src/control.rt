@@ -13,10 +13,10 @@ ghost use Rattle.fs_machine.specs.declared.op.Op.{Op as OpState};
 
 use crate::hand::Hand;
 use crate::op::{Answer, Did, Op};
+use crate::{Core, Kind, RetiredCore};
 use atomic_programs::machines::Came;
 use block_device::Device;
 use buffer_cache::HARTS;
-use crate::{Core, Kind, RetiredCore};
 
 /// Says which operation is next, and how it goes on after the answer. It has nothing in hand itself.
 pub trait Control: Drop {

@@ -1,6 +1,6 @@
 // One function for each operation on descriptors and open files.
 ghost use Rattle.std.specs.Prelude.{◌≡◌, ◌≤◌, IfErr};
-ghost use Rattle.atomic_programs.specs.Prog.{Ran as ItRan};
+ghost use Rattle.fs_machine.specs.Vocabulary.{Ran as ItRan};
 ghost use Rattle.fs_machine.specs.Files.{IsDirectory};
 ghost use Rattle.fs_machine.specs.Results.{opened_as};
 ghost use Rattle.fs_machine.specs.LogPart.{Outside};
@@ -10,8 +10,8 @@ ghost use Rattle.fs_machine.specs.Tied.{IsOwnInode, LeavesTied};
 ghost use Rattle.fs_machine.specs.Stays.{LeavesAll};
 
 use crate::shared::Core;
-use block_device::Device;
 use crate::{DESCRIPTORS, Doubled, Given, NewFile, Reference, Refused, Shut, Want};
+use block_device::Device;
 
 impl<D: Device> Core<D> {
     /// Why a descriptor may not be had for this.

@@ -1,6 +1,6 @@
 // What each hart has of the tables.
 ghost use Rattle.std.specs.Prelude.{◌≡◌, ◌<◌, ◌≤◌, None, IfSome, is_some, length, position, replicate, slice_get};
-ghost use Rattle.std.specs.List.{list_any};
+ghost use Rattle.fs_machine.specs.Vocabulary.{list_any};
 ghost use Rattle.fs_machine.specs.Lists.{first_empty, next_full};
 ghost use Rattle.fs_machine.specs.Tables.{if_there};
 ghost use Rattle.fs_machine.specs.Files.{is_at};

@@ -6,10 +6,10 @@ ghost use Rattle.fs_machine.specs.Controls.{Goes, left_after, bare};
 ghost use Rattle.fs_machine.specs.declared.hand.Hand.{Hand as HandState};
 ghost use Rattle.fs_machine.specs.Fetching.{fetch_left, fetch_asked, FetchReady, FetchEnds, fetched_bytes, fetch_block, fetch_place};
 
+use crate::Kind;
 use crate::control::Part;
 use crate::hand::{Hand, Place};
 use crate::op::{Answer, Op};
-use crate::Kind;
 
 /// Takes a block's buffer, and reads the block where it isn't valid.
 #[derive(Clone, Copy, Drop)]

@@ -1,14 +1,14 @@
 // What a child is given of its parent's desk.
 ghost use Rattle.std.specs.Prelude.{◌≡◌, ◌+◌, ◌<◌, ◌≤◌, ◌^◌, IfSome, slice_get};
-ghost use Rattle.atomic_programs.specs.Prog.{Ran};
+ghost use Rattle.fs_machine.specs.Vocabulary.{Ran};
 ghost use Rattle.fs_machine.specs.Inodes.{directory_of};
 ghost use Rattle.fs_machine.specs.Lists.{next_full};
 ghost use Rattle.fs_machine.specs.Files.{descriptors_of};
 
-use crate::places::{directory_at, place_at, set_descriptor, set_directory};
 use crate::desk::Desk;
 use crate::entries::{Reference, count_up, place_of};
 use crate::limits::{DESCRIPTORS, DESKS};
+use crate::places::{directory_at, place_at, set_descriptor, set_directory};
 use crate::slots::Given;
 use crate::tables::Tables;
 

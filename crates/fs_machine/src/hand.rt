@@ -1,15 +1,14 @@
 // What a hart has in hand between two operations.
 ghost use Rattle.std.specs.Prelude.{◌≡◌, ◌≢◌, [], Some, None, IfOk, IsSome, is_some};
-ghost use Rattle.std.specs.Option.{MatchOption, option_map, option_map_or};
+ghost use Rattle.fs_machine.specs.Vocabulary.{MatchOption, option_map, option_map_or};
 ghost use Rattle.fs_machine.specs.Ops.{content_at};
 ghost use Rattle.fs_machine.specs.Hands.{empty_hand, HasNothing, buffer_at, with_buffer, inode_at, with_inode, reference_at, with_aside, with_first, with_reference, with_seated, with_txn, inode_in, no_inode, recorded, with_record};
 
 use crate::queue::Queue;
+use crate::{Inode, Reference, RetiredCore};
 use atomic_programs::machines::put;
 use buffer_cache::Buffer;
 use fs_layout::Dinode;
-use crate::RetiredCore;
-use crate::{Inode, Reference};
 use group_log::Txn;
 use sleep_lock::Guard;
 use std::alloc::{AllocError, Global};

@@ -1,6 +1,6 @@
 // One function for each operation on inodes in memory.
 ghost use Rattle.std.specs.Prelude.{◌≡◌, ◌<◌, ◌^◌, Some, None, IfSome, IfNone};
-ghost use Rattle.atomic_programs.specs.Prog.{Ran as ItRan};
+ghost use Rattle.fs_machine.specs.Vocabulary.{Ran as ItRan};
 ghost use Rattle.fs_machine.specs.Inodes.{Counts};
 ghost use Rattle.fs_machine.specs.Results.{locked_as, dropped_as, kept_as, IfDying};
 ghost use Rattle.fs_machine.specs.LogPart.{Outside};
@@ -12,9 +12,9 @@ ghost use Rattle.fs_machine.specs.Claiming.{claimed_as, IfKept};
 ghost use Rattle.fs_machine.specs.Locked.{file_locked_as, open_locked_as, IfFileWaits, IfFileLocked};
 
 use crate::shared::Core;
+use crate::{Dropped, Inode, OpenFile, Reference, Refused, Want};
 use block_device::Device;
 use buffer_cache::{Buffer, HARTS};
-use crate::{Dropped, Inode, OpenFile, Reference, Refused, Want};
 use sleep_lock::Guard;
 
 impl<D: Device> Core<D> {

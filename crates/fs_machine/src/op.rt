@@ -3,8 +3,7 @@ ghost use Rattle.std.specs.Prelude.{◌≡◌};
 ghost use Rattle.fs_machine.specs.Ops.{yes_in};
 
 use crate::hand::{Place, Seat};
-use crate::Kind;
-use crate::{Doubled, NewFile, OpenFile, Refused, Want};
+use crate::{Doubled, Kind, NewFile, OpenFile, Refused, Want};
 
 /// The next operation. What it is about lies at a place of the hand.
 #[derive(Clone, Copy)]

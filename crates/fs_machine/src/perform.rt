@@ -10,10 +10,12 @@ ghost use Rattle.fs_machine.specs.Performs.{Performs};
 
 use crate::hand::{Hand, Place, Seat};
 use crate::op::{Answer, Did, Op};
+use crate::{
+    Claim, Core, Doubled, Dropped, Given, JoinedToWrite, Kind, LockedFile, NewFile, Refused, Shut,
+    Want,
+};
 use block_device::{Device, Fault};
 use buffer_cache::{Got, HARTS};
-use crate::{Claim, Core, JoinedToWrite, Kind, LockedFile};
-use crate::{Doubled, Dropped, Given, NewFile, Refused, Shut, Want};
 use group_log::{Left, Progress};
 use std::mem;
 

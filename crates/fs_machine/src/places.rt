@@ -1,15 +1,14 @@
 // The steps on descriptors and open files.
 ghost use Rattle.std.specs.Prelude.{◌≡◌, ◌<◌, if◌then◌else◌, Some, None, IfSome, IfErr, length, position, slice_get, slice_set};
-ghost use Rattle.std.specs.List.{list_any};
-ghost use Rattle.atomic_programs.specs.Prog.{Ran};
+ghost use Rattle.fs_machine.specs.Vocabulary.{list_any, Ran};
 ghost use Rattle.fs_machine.specs.Lists.{change_at, first_empty};
 ghost use Rattle.fs_machine.specs.Tables.{open_at, at_descriptor};
 ghost use Rattle.fs_machine.specs.Inodes.{refusal_of, is_number, directory_of, with_directory, settled, with_offset};
 ghost use Rattle.fs_machine.specs.Files.{is_free, names, opened, hand_of, descriptors_of, with_descriptor, with_hand};
 
 use crate::desk::Desk;
-use crate::files::{FilePlace, NewFile, OpenFile, Refused, Want};
 use crate::entries::Reference;
+use crate::files::{FilePlace, NewFile, OpenFile, Refused, Want};
 use crate::limits::{DESCRIPTORS, DESKS, DEVICE, OPEN_FILES};
 use crate::slots::{Doubled, Shut};
 use crate::tables::Tables;

@@ -1,9 +1,8 @@
 //! References that wait for the end of a call.
 ghost use Rattle.std.specs.Prelude.{◌≡◌, ◌<◌, ℕ, List, [], ◌∷◌, ◌++◌, length, IfOk, MatchOption};
 
+use crate::{Listed, MOST_LISTED, Reference, RetiredCore};
 use atomic_programs::machines::put;
-use crate::RetiredCore;
-use crate::{Listed, MOST_LISTED, Reference};
 use std::alloc::{AllocError, Global};
 use std::marker::Model;
 use std::mem;

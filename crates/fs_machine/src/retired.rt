@@ -1,8 +1,6 @@
 // The end of all that harts share.
 ghost use Rattle.std.specs.Prelude.{◌≡◌, ◌<◌};
-ghost use Rattle.sleep_lock.specs.SleepLock.{GuardState};
-ghost use Rattle.buffer_cache.specs.Buffers.{BufferState};
-ghost use Rattle.buffer_cache.specs.Seats.{IsHeld};
+ghost use Rattle.fs_machine.specs.Vocabulary.{GuardState, BufferState, IsHeld};
 ghost use Rattle.fs_machine.specs.declared.entries.Inode.{Inode as InodeState};
 ghost use Rattle.fs_machine.specs.Locks.{IsLocked};
 

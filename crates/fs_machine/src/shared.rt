@@ -1,9 +1,6 @@
 // What all harts share, and one function for each operation on blocks.
 ghost use Rattle.std.specs.Prelude.{◌≡◌, ◌≢◌, ◌<◌, ℕ, List, Some, None, IsSome, IfSome, IfNone};
-ghost use Rattle.buffer_cache.specs.Getting.{IfHeld};
-ghost use Rattle.buffer_cache.specs.Seats.{IsHeld};
-ghost use Rattle.group_log.specs.Waiting.{IfWaits};
-ghost use Rattle.atomic_programs.specs.Prog.{Ran as ItRan};
+ghost use Rattle.fs_machine.specs.Vocabulary.{IfHeld, IsHeld, IfWaits, Ran as ItRan};
 ghost use Rattle.fs_machine.specs.LogPart.{Outside};
 ghost use Rattle.fs_machine.specs.Steps.{state_of, exec, Join, JoinToWrite, Leave as LeaveOp, Get, Read, Put, Commit};
 ghost use Rattle.fs_machine.specs.Premises.{May, Honest};
@@ -12,9 +9,9 @@ ghost use Rattle.fs_machine.specs.Stays.{LeavesAll, LeavesAllBut, HasNone};
 ghost use Rattle.fs_machine.specs.Joining.{joined_to_write_as, IfJoinWaits, IfJoined};
 ghost use Rattle.fs_machine.specs.Did.{joined_as, got_as, read_as, committed_as, said_read, said_written, IfGotNone, IfReadOk};
 
+use crate::{Refused, Tables, Want};
 use block_device::{Device, Fault};
 use buffer_cache::{Buffer, Got};
-use crate::{Refused, Tables, Want};
 use group_log::{Left, Log, Progress, Txn};
 use sleep_lock::Guard;
 

@@ -1,6 +1,6 @@
 // What the steps on descriptors and open files answer.
-use crate::files::Refused;
 use crate::entries::Reference;
+use crate::files::Refused;
 
 /// A descriptor doubled.
 #[derive(Clone, Copy)]

@@ -7,8 +7,10 @@ ghost use Rattle.fs_machine.specs.Inodes.{dying, first_free};
 ghost use Rattle.fs_machine.specs.Soundness.{IsSoundInodes};
 
 use crate::desk::Desk;
+use crate::entries::{
+    Dropped, Entry, Inode, Reference, count_down, count_up, free_place, place_of,
+};
 use crate::files::FilePlace;
-use crate::entries::{Dropped, Entry, Inode, Reference, count_down, count_up, free_place, place_of};
 use crate::limits::{DESKS, LAST_REFERENCE, MEMORY_INODES, OPEN_FILES, ROOT};
 use sleep_lock::{Guard, RetiredSlots, Slots};
 use std::alloc::{AllocError, Global};

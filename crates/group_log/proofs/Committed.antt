@@ -1,15 +1,5 @@
 -- A commit's step, with its parts as the calls give them.
-use Rattle.std.proofs.Common.{◌≡◌, ◌≢◌, ◌⊎◌, ◌∙◌, ◌≤◌, inl, inr, ap, sym, subst, ℕ, List, length, Option, set, if◌then◌else◌}
-use Rattle.fs_layout.specs.declared.superblock.Super.{Super}
-use Rattle.fs_layout.specs.Recovered.{recovered, IsOutsideLog}
-use Rattle.buffer_cache.specs.Lists.{count_of}
-use Rattle.buffer_cache.specs.Seats.{SeatState, has_block, seen_in}
-use Rattle.group_log.specs.declared.phase.Phase.{Phase}
-use Rattle.group_log.specs.declared.phase.Phase.TheVariants.{Open, Halted}
-use Rattle.group_log.specs.Phases.{IsUnderWay, write_to, write_of, next_phase, group_in, is_point}
-use Rattle.group_log.specs.Soundness.{IsSoundLog}
-use Rattle.group_log.specs.Turns.{seats_after}
-use Rattle.group_log.specs.Waiting.{StaysOrBecomes}
+use Rattle.group_log.proofs.Vocabulary.{◌≡◌, ◌≢◌, ◌⊎◌, ◌∙◌, ◌≤◌, inl, inr, ap, sym, subst, ℕ, List, length, Option, set, if◌then◌else◌, Super, recovered, IsOutsideLog, count_of, SeatState, has_block, seen_in, Phase, Open, Halted, IsUnderWay, write_to, write_of, next_phase, group_in, is_point, IsSoundLog, seats_after, StaysOrBecomes}
 use Rattle.group_log.proofs.Steps.{under_way, write_step, write_recovered, halted}
 
 module _ (d e : List (List ℕ)) (ss zs : List SeatState) (sizes : Super) (ks gs : List ℕ) (ms : List (Option ℕ)) (p : Phase) (sound : IsSoundLog d ss sizes ks ms p) (begun : (p ≢ Open) × (p ≢ Halted)) (same_group : gs ≡ ks) where

@@ -1,7 +1,5 @@
 -- A stop after any events.
-use Rattle.std.proofs.Common.{◌≡◌, ℕ, zero, suc, ◌+◌, ◌<◌, ◌≤◌, Bool, true, refl, sym, ◌∙◌, ap, subst, arith, add-one, if◌then◌else◌}
-use Rattle.fs_layout.specs.declared.superblock.Super.{Super}
-use Rattle.group_log.specs.CrashLaw.{Blocks, AgreeOutside, begun, commit_cut, IsLoggedRun, StopsAtACut}
+use Rattle.group_log.proofs.Vocabulary.{◌≡◌, ℕ, zero, suc, ◌+◌, ◌<◌, ◌≤◌, Bool, true, refl, sym, ◌∙◌, ap, subst, arith, add-one, if◌then◌else◌, Super, Blocks, AgreeOutside, begun, commit_cut, IsLoggedRun, StopsAtACut}
 use Rattle.group_log.proofs.Seats.{pick}
 
 module _ (sizes : Super) (n : ℕ) (seen recovered : ℕ → Blocks) (runs begins stands : ℕ → Bool) (run : IsLoggedRun sizes n seen recovered runs begins stands) where

@@ -1,14 +1,5 @@
 -- A log with nothing recorded.
-use Rattle.std.proofs.Common.{◌≡◌, ℕ, zero, suc, ◌+◌, List, [], replicate, refl, sym, ◌∙◌, ap, arith, Option, None}
-use Rattle.std.specs.Option.{unwrap_or, option_and_then}
-use Rattle.fs_layout.specs.declared.superblock.Super.{Super}
-use Rattle.fs_layout.specs.Recovered.{logged, recovered}
-use Rattle.fs_layout.proofs.RecoveredDisk.{recovered-empty}
-use Rattle.block_device.specs.Blocks.{block_at}
-use Rattle.buffer_cache.specs.Lists.{count_of}
-use Rattle.buffer_cache.specs.Seats.{SeatState, is_pinned, seat_of, seen_in, unused_from}
-use Rattle.group_log.specs.declared.phase.Phase.TheVariants.{Open}
-use Rattle.group_log.specs.Soundness.{IsPlaced, IsSoundLog}
+use Rattle.group_log.proofs.Vocabulary.{◌≡◌, ℕ, zero, suc, ◌+◌, List, [], replicate, refl, sym, ◌∙◌, ap, arith, Option, None, unwrap_or, option_and_then, Super, logged, recovered, recovered-empty, block_at, count_of, SeatState, is_pinned, seat_of, seen_in, unused_from, Open, IsPlaced, IsSoundLog}
 
 none_cached : (b n count : ℕ) → seat_of b (unused_from n count) ≡ None
 unfolding unused_from

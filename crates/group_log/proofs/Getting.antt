@@ -1,15 +1,5 @@
 -- What a get gives, where the block was recorded, and what it leaves.
-use Rattle.std.proofs.Common.{◌≡◌, ◌≢◌, inl, inr, ℕ, List, [], true, false, refl, sym, ◌∙◌, ap, subst, Option, Some, None, IsSome, is_some, if◌then◌else◌}
-use Rattle.std.proofs.lemmas.Bool.{cases_eq}
-use Rattle.std.specs.Option.{MatchOption, IfSome, option_map, option_and_then, unwrap_or}
-use Rattle.std.specs.List.{find}
-use Rattle.sleep_lock.specs.SleepLock.{GuardState}
-use Rattle.buffer_cache.specs.Buffers.{BufferState}
-use Rattle.buffer_cache.specs.declared.got.Got.{Got}
-use Rattle.buffer_cache.specs.declared.got.Got.TheVariants.{Held, Waits}
-use Rattle.buffer_cache.specs.Getting.{get_of, get_by, get_new, guard_of}
-use Rattle.buffer_cache.specs.Seats.{SeatState, CacheState, has_block, is_free, is_pinned, seat_of, holder_of, with_seat, with_holder, without_holder, with_pin, given_back, IsPinned, IsHeld, IsGuardOf, KeepsHeld, KeepsOthers}
-use Rattle.group_log.specs.Pins.{KeepsRecorded, HasRecorded}
+use Rattle.group_log.proofs.Vocabulary.{◌≡◌, ◌≢◌, inl, inr, ℕ, List, [], true, false, refl, sym, ◌∙◌, ap, subst, Option, Some, None, IsSome, is_some, if◌then◌else◌, cases_eq, MatchOption, IfSome, option_map, option_and_then, unwrap_or, find, GuardState, BufferState, Got, Held, Waits, get_of, get_by, get_new, guard_of, SeatState, CacheState, has_block, is_free, is_pinned, seat_of, holder_of, with_seat, with_holder, without_holder, with_pin, given_back, IsPinned, IsHeld, IsGuardOf, KeepsHeld, KeepsOthers, KeepsRecorded, HasRecorded}
 use Rattle.group_log.proofs.Seats.{pick, changed_twice, changed_and_ended}
 
 pub same_cache : {D : Type 0} (c d : CacheState D) → c.device ≡ d.device → c.seats ≡ d.seats → c ≡ d

@@ -1,19 +1,5 @@
 -- Calls of the cache that leave the recorded blocks as they are.
-use Rattle.std.proofs.Common.{◌≡◌, ◌≢◌, inl, inr, ℕ, ◌≤◌, List, [], ◌∷◌, get_or, Bool, true, false, not, ◌&&◌, refl, sym, ◌∙◌, ap, subst, arith, Option, Some, None, IsSome, is_some, is_none, if◌then◌else◌}
-use Rattle.std.proofs.lemmas.Bool.{cases_eq}
-use Rattle.std.specs.Option.{MatchOption, option_map}
-use Rattle.std.specs.List.{find}
-use Rattle.fs_layout.specs.declared.superblock.Super.{Super}
-use Rattle.fs_layout.specs.Recovered.{IsOutsideLog}
-use Rattle.buffer_cache.specs.Lists.{change_first, count_of}
-use Rattle.buffer_cache.specs.declared.got.Got.{Got}
-use Rattle.buffer_cache.specs.declared.got.Got.TheVariants.{Held, Waits}
-use Rattle.buffer_cache.specs.Getting.{get_of, get_by, get_new, guard_of}
-use Rattle.buffer_cache.specs.Seats.{SeatState, has_block, is_free, is_pinned, seat_of, seen_in, with_seat, with_holder, without_holder, as_new, given_back}
-use Rattle.group_log.specs.Pins.{KeepsRecorded, HasRecorded}
-use Rattle.group_log.specs.declared.phase.Phase.{Phase}
-use Rattle.group_log.specs.declared.phase.Phase.TheVariants.{Open, Staging, Installing, Halted}
-use Rattle.group_log.specs.Soundness.{DiskFits, PinsFrom, PinsFit, IsSoundLog}
+use Rattle.group_log.proofs.Vocabulary.{◌≡◌, ◌≢◌, inl, inr, ℕ, ◌≤◌, List, [], ◌∷◌, get_or, Bool, true, false, not, ◌&&◌, refl, sym, ◌∙◌, ap, subst, arith, Option, Some, None, IsSome, is_some, is_none, if◌then◌else◌, cases_eq, MatchOption, option_map, find, Super, IsOutsideLog, change_first, count_of, Got, Held, Waits, get_of, get_by, get_new, guard_of, SeatState, has_block, is_free, is_pinned, seat_of, seen_in, with_seat, with_holder, without_holder, as_new, given_back, KeepsRecorded, HasRecorded, Phase, Open, Staging, Installing, Halted, DiskFits, PinsFrom, PinsFit, IsSoundLog}
 use Rattle.group_log.proofs.Seats.{pick, first_of_others, count_same, count_to_end, of_another, seat_changed, seat_of_others, seat_given_back, others_given_back}
 
 -- what a call does that is about block b

@@ -1,14 +1,5 @@
 -- What a leave keeps of a log.
-use Rattle.std.proofs.Common.{◌≡◌, ℕ, ◌==◌, List, [], ◌∷◌, refl, ◌∙◌, arith, Option, None, slice_set, if◌then◌else◌}
-use Rattle.std.proofs.lemmas.Bool.{eqb-true}
-use Rattle.fs_layout.specs.declared.superblock.Super.{Super}
-use Rattle.buffer_cache.specs.Seats.{SeatState}
-use Rattle.group_log.specs.declared.phase.Phase.TheVariants.{Open, Staging}
-use Rattle.group_log.specs.declared.log.Left.TheVariants.{Free, Commits}
-use Rattle.group_log.specs.Group.{joined}
-use Rattle.group_log.specs.Phases.{phase_at_leave}
-use Rattle.group_log.specs.Waiting.{left_at}
-use Rattle.group_log.specs.Soundness.{IsSoundLog}
+use Rattle.group_log.proofs.Vocabulary.{◌≡◌, ℕ, ◌==◌, List, [], ◌∷◌, refl, ◌∙◌, arith, Option, None, slice_set, if◌then◌else◌, eqb-true, Super, SeatState, Open, Staging, Free, Commits, joined, phase_at_leave, left_at, IsSoundLog}
 use Rattle.group_log.proofs.Seats.{pick}
 use Rattle.group_log.proofs.Rooms.{rooms_leave, length-set_member}
 

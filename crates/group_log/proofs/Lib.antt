@@ -1,3 +1,5 @@
+pub mod Lemmas
+pub mod Vocabulary
 pub mod Rooms
 pub mod Seats
 pub mod Getting

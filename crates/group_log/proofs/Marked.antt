@@ -1,13 +1,5 @@
 -- What the marks of a machine over a log tell of a stop: the history kept beside it is that of the events' numbers.
-use Rattle.std.proofs.Common.{◌≡◌, inl, inr, ℕ, zero, suc, ◌+◌, ◌≤◌, ◌<◌, true, List, [], ◌∷◌, ◌++◌, length, Option, Some, refl, sym, ◌∙◌, ap, subst, arith, add-one, length-append}
-use Rattle.std.specs.List.{AllByRecursion}
-use Rattle.std.proofs.lemmas.Bool.{cases_eq}
-use Rattle.fs_layout.specs.declared.superblock.Super.{Super}
-use Rattle.group_log.specs.declared.marks.Marks.{Marks}
-use Rattle.group_log.specs.CrashLaw.{Blocks, AgreeOutside}
-use Rattle.group_log.specs.Soundness.{LogState}
-use Rattle.group_log.specs.Moves.{recovered_of, seen_of, is_settled}
-use Rattle.group_log.specs.Stories.{before, IsMarked, IsStory, Span, IsApart, IsSpanned, IsMarkedRun, IsMarkedStop, MarksTellStops, CutsHaveReplies, NoneIsMarkedInPart}
+use Rattle.group_log.proofs.Vocabulary.{◌≡◌, inl, inr, ℕ, zero, suc, ◌+◌, ◌≤◌, ◌<◌, true, List, [], ◌∷◌, ◌++◌, length, Option, Some, refl, sym, ◌∙◌, ap, subst, arith, add-one, length-append, AllByRecursion, cases_eq, Super, Marks, Blocks, AgreeOutside, LogState, recovered_of, seen_of, is_settled, before, IsMarked, IsStory, Span, IsApart, IsSpanned, IsMarkedRun, IsMarkedStop, MarksTellStops, CutsHaveReplies, NoneIsMarkedInPart}
 use Rattle.group_log.proofs.Stories.{all_map, all_join, all_before, before_stays, all, stored_at_reply, none_in_part}
 
 -- the numbers below n, in order

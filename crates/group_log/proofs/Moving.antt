@@ -1,21 +1,5 @@
 -- What each call's clauses say of a stop.
-use Rattle.std.proofs.Common.{◌≡◌, ◌≢◌, ◌⊎◌, inl, inr, ℕ, zero, suc, ◌+◌, ◌<◌, ◌≤◌, ◌==◌, List, [], ◌∷◌, length, Bool, true, false, if◌then◌else◌, refl, sym, ◌∙◌, ap, subst, arith, add-one}
-use Rattle.std.proofs.lemmas.Bool.{eqb-true}
-use Rattle.fs_layout.specs.declared.superblock.Super.{Super}
-use Rattle.fs_layout.specs.Recovered.{recovered, IsOutsideLog}
-use Rattle.buffer_cache.specs.Seats.{seen}
-use Rattle.group_log.specs.declared.phase.Phase.{Phase}
-use Rattle.group_log.specs.declared.phase.Phase.TheVariants.{Open, Staging, Installing, Halted}
-use Rattle.group_log.specs.declared.log.Left.{Left}
-use Rattle.group_log.specs.declared.log.Left.TheVariants.{Free, Commits}
-use Rattle.group_log.specs.declared.commit.Progress.{Progress}
-use Rattle.group_log.specs.declared.commit.Progress.TheVariants.{Waits, Wrote, Ended, Failed}
-use Rattle.group_log.specs.Group.{joined}
-use Rattle.group_log.specs.Phases.{is_point, next_phase, phase_at_leave}
-use Rattle.group_log.specs.Soundness.{LogState}
-use Rattle.group_log.specs.Waiting.{left_at, progress_at, IfWaits, IfMade, IfFailed, StaysOrBecomes}
-use Rattle.group_log.specs.CrashLaw.{Blocks, AgreeOutside, commit_cut, IsLoggedRun}
-use Rattle.group_log.specs.Moves.{recovered_of, seen_of, is_under_way, is_settled, is_running, IsMove, begins_at, Stands, IsCommitMove, IsRunOfLog, LogsAreLoggedRuns, LogsStopAtACut, MovesCompose}
+use Rattle.group_log.proofs.Vocabulary.{◌≡◌, ◌≢◌, ◌⊎◌, inl, inr, ℕ, zero, suc, ◌+◌, ◌<◌, ◌≤◌, ◌==◌, List, [], ◌∷◌, length, Bool, true, false, if◌then◌else◌, refl, sym, ◌∙◌, ap, subst, arith, add-one, eqb-true, Super, recovered, IsOutsideLog, seen, Phase, Open, Staging, Installing, Halted, Left, Free, Commits, Progress, WaitsFor as Waits, Wrote, Ended, Failed, joined, is_point, next_phase, phase_at_leave, LogState, left_at, progress_at, IfWaits, IfMade, IfFailed, StaysOrBecomes, Blocks, AgreeOutside, commit_cut, IsLoggedRun, recovered_of, seen_of, is_under_way, is_settled, is_running, IsMove, begins_at, Stands, IsCommitMove, IsRunOfLog, LogsAreLoggedRuns, LogsStopAtACut, MovesCompose}
 use Rattle.group_log.proofs.Seats.{pick}
 use Rattle.group_log.proofs.Cuts.{stops_at_a_cut}
 

@@ -1,16 +1,5 @@
 -- A record, with its parts as the calls give them.
-use Rattle.std.proofs.Common.{◌≡◌, ◌≢◌, ◌⊎◌, inl, inr, ℕ, ◌<◌, ◌≤◌, ◌==◌, List, [], length, Bool, true, false, refl, sym, ◌∙◌, ap, subst, arith, Option, Some, None, IsSome, if◌then◌else◌}
-use Rattle.std.proofs.lemmas.Bool.{ne_eqb}
-use Rattle.std.specs.Option.{IfSome, option_map, unwrap_or}
-use Rattle.sleep_lock.specs.SleepLock.{GuardState}
-use Rattle.fs_layout.specs.declared.superblock.Super.{Super}
-use Rattle.buffer_cache.specs.Buffers.{BufferState}
-use Rattle.buffer_cache.specs.Lists.{count_of}
-use Rattle.buffer_cache.specs.Seats.{SeatState, has_block, is_pinned, seat_of, seen_in, with_seat, with_content, with_pin, given_back, IsHeld}
-use Rattle.group_log.specs.Pins.{HasRecorded}
-use Rattle.group_log.specs.declared.phase.Phase.TheVariants.{Open}
-use Rattle.group_log.specs.Group.{has, with_block, HasRoom, members_with}
-use Rattle.group_log.specs.Soundness.{IsHome, IsSoundLog}
+use Rattle.group_log.proofs.Vocabulary.{◌≡◌, ◌≢◌, ◌⊎◌, inl, inr, ℕ, ◌<◌, ◌≤◌, ◌==◌, List, [], length, Bool, true, false, refl, sym, ◌∙◌, ap, subst, arith, Option, Some, None, IsSome, if◌then◌else◌, ne_eqb, IfSome, option_map, unwrap_or, GuardState, Super, BufferState, count_of, SeatState, has_block, is_pinned, seat_of, seen_in, with_seat, with_content, with_pin, given_back, IsHeld, HasRecorded, Open, has, with_block, HasRoom, members_with, IsHome, IsSoundLog}
 use Rattle.group_log.proofs.Rooms.{rooms_one_more}
 use Rattle.group_log.proofs.Seats.{pick, seat_changed}
 use Rattle.group_log.proofs.Getting.{held_cached}

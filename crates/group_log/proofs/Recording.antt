@@ -1,14 +1,5 @@
 -- What a record keeps of a log.
-use Rattle.std.proofs.Common.{◌≡◌, ◌≢◌, inl, inr, ℕ, zero, suc, ◌+◌, ◌-◌, ◌<◌, ◌≤◌, ◌==◌, ◌||◌, min, List, [], ◌∷◌, ◌++◌, length, get_or, true, false, refl, sym, ◌∙◌, ap, subst, arith, Option, Some, None, IsSome, if◌then◌else◌}
-use Rattle.std.proofs.lemmas.Bool.{cases_eq, eqb-true, eqb-false}
-use Rattle.std.specs.Option.{MatchOption, option_map}
-use Rattle.fs_layout.specs.declared.superblock.Super.{Super}
-use Rattle.buffer_cache.specs.Lists.{count_of}
-use Rattle.buffer_cache.specs.Seats.{SeatState, has_block, is_pinned, seat_of, seen_in, with_seat, with_content, with_pin, without_holder, given_back}
-use Rattle.group_log.specs.Pins.{KeepsRecorded, HasRecorded}
-use Rattle.group_log.specs.declared.phase.Phase.TheVariants.{Open}
-use Rattle.group_log.specs.Group.{has, with_block, rooms, HasRoom, one_more, members_with}
-use Rattle.group_log.specs.Soundness.{IsHome, IsSoundLog}
+use Rattle.group_log.proofs.Vocabulary.{◌≡◌, ◌≢◌, inl, inr, ℕ, zero, suc, ◌+◌, ◌-◌, ◌<◌, ◌≤◌, ◌==◌, ◌||◌, min, List, [], ◌∷◌, ◌++◌, length, get_or, true, false, refl, sym, ◌∙◌, ap, subst, arith, Option, Some, None, IsSome, if◌then◌else◌, cases_eq, eqb-true, eqb-false, MatchOption, option_map, Super, count_of, SeatState, has_block, is_pinned, seat_of, seen_in, with_seat, with_content, with_pin, without_holder, given_back, KeepsRecorded, HasRecorded, Open, has, with_block, rooms, HasRoom, one_more, members_with, IsHome, IsSoundLog}
 use Rattle.group_log.proofs.Rooms.{rooms_one_more, length-one_more}
 use Rattle.group_log.proofs.Seats.{pick, count_more, count_same, seat_changed, seat_of_others, seat_given_back, others_given_back}
 use Rattle.group_log.proofs.Kept.{kept_back, kept_change, some_recorded, recorded_of}

@@ -1,7 +1,5 @@
 -- How the rooms of the transactions change.
-use Rattle.std.proofs.Common.{◌≡◌, ℕ, zero, suc, ◌+◌, ◌*◌, ◌<◌, ◌≤◌, List, [], ◌∷◌, length, cond, Option, Some, None, is_some, slice_get, slice_set, get_or, refl, sym, ap, arith}
-use Rattle.std.proofs.lemmas.List.Sums.{sum_by-cons}
-use Rattle.group_log.specs.Group.{joined, rooms, HasRoom, IsMember, one_more}
+use Rattle.group_log.proofs.Vocabulary.{◌≡◌, ℕ, zero, suc, ◌+◌, ◌*◌, ◌<◌, ◌≤◌, List, [], ◌∷◌, length, cond, Option, Some, None, is_some, slice_get, slice_set, get_or, refl, sym, ap, arith, sum_by-cons, joined, rooms, HasRoom, IsMember, one_more}
 
 joined-cons : (m : Option ℕ) (ms : List (Option ℕ)) → joined (m ∷ ms) ≡ cond (is_some m) 1 0 + joined ms
 joined-cons m ms = sum_by-cons (λ (x : Option ℕ). cond (is_some x) 1 0) m ms

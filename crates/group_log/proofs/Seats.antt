@@ -1,10 +1,5 @@
 -- What the calls of the cache do to its buffers, as the log needs it.
-use Rattle.std.proofs.Common.{◌≡◌, ◌≢◌, ℕ, ◌+◌, ◌≤◌, List, [], ◌∷◌, ◌++◌, Bool, true, false, cond, refl, sym, ◌∙◌, ap, arith, Option, Some, None, if◌then◌else◌}
-use Rattle.std.proofs.lemmas.Bool.{eqb-true, ne_eqb}
-use Rattle.std.specs.Option.{option_map}
-use Rattle.std.specs.List.{find}
-use Rattle.buffer_cache.specs.Lists.{change_first, change_to_end, count_of}
-use Rattle.buffer_cache.specs.Seats.{SeatState, has_block, is_number, seat_of, with_seat, without_holder, given_back}
+use Rattle.group_log.proofs.Vocabulary.{◌≡◌, ◌≢◌, ℕ, ◌+◌, ◌≤◌, List, [], ◌∷◌, ◌++◌, Bool, true, false, cond, refl, sym, ◌∙◌, ap, arith, Option, Some, None, if◌then◌else◌, eqb-true, ne_eqb, option_map, find, change_first, change_to_end, count_of, SeatState, has_block, is_number, seat_of, with_seat, without_holder, given_back}
 
 pub pick : (t : Bool) (P : Bool → Type 0) → (t ≡ true → P true) → (t ≡ false → P false) → P t
 pick true P yes_ no_ = yes_ refl

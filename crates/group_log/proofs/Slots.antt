@@ -1,26 +1,6 @@
 -- The slots of the group's buffers stay known.
-use Rattle.std.proofs.Common.{◌≡◌, ◌≢◌, inl, inr, ℕ, ◌+◌, ◌<◌, ◌≤◌, List, [], ◌∷◌, ◌++◌, length, get_or, true, false, refl, sym, ◌∙◌, ap, subst, arith, Option, Some, None, IsSome, is_some, if◌then◌else◌, ◌==◌}
-use Rattle.std.proofs.lemmas.Bool.{cases_eq, cases_lt}
-use Rattle.std.specs.Option.{MatchOption, IfSome, option_map}
-use Rattle.std.specs.List.{find}
-use Rattle.std.proofs.lemmas.List.{get_or_append_left, length-append}
-use Rattle.std.proofs.Math.Seq.{get_or-append_seam}
-use Rattle.sleep_lock.specs.SleepLock.{GuardState}
-use Rattle.fs_layout.specs.declared.superblock.Super.{Super}
-use Rattle.buffer_cache.specs.Buffers.{BufferState}
-use Rattle.buffer_cache.specs.Lists.{change_first, count_of}
-use Rattle.buffer_cache.specs.declared.got.Got.{Got}
-use Rattle.buffer_cache.specs.declared.got.Got.TheVariants.{Held, Waits}
-use Rattle.buffer_cache.specs.Getting.{get_of, get_by, get_new, guard_of}
-use Rattle.buffer_cache.specs.Seats.{SeatState, has_block, is_free, seat_of, slot_of, with_seat, with_holder, with_content, with_pin, as_new, given_back, without_holder, IsHeld, IsGuardOf}
-use Rattle.group_log.specs.declared.phase.Phase.{Phase}
-use Rattle.group_log.specs.declared.phase.Phase.TheVariants.{Open, Staging, Installing, Halted}
-use Rattle.group_log.specs.Pins.{HasRecorded}
-use Rattle.group_log.specs.Group.{has, with_block}
-use Rattle.group_log.specs.Phases.{next_phase, group_in}
-use Rattle.group_log.specs.Turns.{seats_after}
-use Rattle.group_log.specs.Soundness.{PinsFrom, PinsFit}
-use Rattle.group_log.specs.Slots.{AreInSlots, SlotsFit, HasSlots, slots_with}
+use Rattle.group_log.proofs.Vocabulary.{◌≡◌, ◌≢◌, inl, inr, ℕ, ◌+◌, ◌<◌, ◌≤◌, List, [], ◌∷◌, ◌++◌, length, get_or, true, false, refl, sym, ◌∙◌, ap, subst, arith, Option, Some, None, IsSome, is_some, if◌then◌else◌, ◌==◌, cases_eq, cases_lt, MatchOption, IfSome, option_map, find, get_or_append_left, get_or-append_seam, GuardState, Super, BufferState, change_first, count_of, Got, Held, Waits, get_of, get_by, get_new, guard_of, SeatState, has_block, is_free, seat_of, slot_of, with_seat, with_holder, with_content, with_pin, as_new, given_back, without_holder, IsHeld, IsGuardOf, Phase, Open, Staging, Installing, Halted, HasRecorded, has, with_block, next_phase, group_in, seats_after, PinsFrom, PinsFit, AreInSlots, SlotsFit, HasSlots, slots_with}
+use Rattle.std.proofs.lemmas.List.{length-append}
 use Rattle.group_log.proofs.Seats.{pick, count_same, of_another, seat_changed, seat_of_others, seat_given_back, others_given_back}
 use Rattle.group_log.proofs.Kept.{some_recorded, first_stays, not_free}
 

@@ -1,16 +1,5 @@
 -- What each call keeps of a log.
-use Rattle.std.proofs.Common.{◌≡◌, ◌≢◌, ◌⊎◌, inl, inr, ℕ, ◌+◌, ◌<◌, ◌≤◌, ◌==◌, List, [], length, get_or, set, false, refl, sym, ◌∙◌, subst, arith, Option, if◌then◌else◌}
-use Rattle.std.proofs.lemmas.Bool.{eqb-true, eqb-false}
-use Rattle.fs_layout.specs.declared.superblock.Super.{Super}
-use Rattle.fs_layout.specs.Recovered.{recovered, logged, IsOutsideLog}
-use Rattle.buffer_cache.specs.Lists.{count_of}
-use Rattle.buffer_cache.specs.Seats.{SeatState, has_block, is_pinned, seat_of, seen_in, with_seat, with_pin, given_back}
-use Rattle.group_log.specs.declared.phase.Phase.{Phase}
-use Rattle.group_log.specs.declared.phase.Phase.TheVariants.{Open, Staging, Installing, Halted}
-use Rattle.group_log.specs.Group.{IsMember}
-use Rattle.group_log.specs.Phases.{IsUnderWay, next_phase, group_in, write_to, write_of, head_block, is_point}
-use Rattle.group_log.specs.Soundness.{IsPlaced, IsHome, DiskFits, PinsFrom, PinsFit, IsQuiet, IsSoundLog, CanWrite}
-use Rattle.group_log.specs.Turns.{seats_after}
+use Rattle.group_log.proofs.Vocabulary.{◌≡◌, ◌≢◌, ◌⊎◌, inl, inr, ℕ, ◌+◌, ◌<◌, ◌≤◌, ◌==◌, List, [], length, get_or, set, false, refl, sym, ◌∙◌, subst, arith, Option, if◌then◌else◌, eqb-true, eqb-false, Super, recovered, logged, IsOutsideLog, count_of, SeatState, has_block, is_pinned, seat_of, seen_in, with_seat, with_pin, given_back, Phase, Open, Staging, Installing, Halted, IsMember, IsUnderWay, next_phase, group_in, write_to, write_of, head_block, is_point, IsPlaced, IsHome, DiskFits, PinsFrom, PinsFit, IsQuiet, IsSoundLog, CanWrite, seats_after}
 use Rattle.group_log.proofs.Rooms.{member_joined}
 use Rattle.group_log.proofs.Seats.{pick, count_same, count_less, seat_of_others, others_given_back}
 use Rattle.group_log.proofs.Kept.{kept_back, pins_kept, some_recorded, recorded_of}

@@ -1,22 +1,5 @@
 -- What each call keeps of a history.
-use Rattle.std.proofs.Common.{◌≡◌, ◌⊎◌, inl, inr, ℕ, ◌+◌, ◌≤◌, ◌<◌, nat_lt, Bool, true, false, cond, if◌then◌else◌, List, [], ◌∷◌, ◌++◌, Option, Some, None, refl, sym, ◌∙◌, ap, subst, arith, add-one, add-zero, zero, suc, length}
-use Rattle.std.specs.List.{AllByRecursion}
-use Rattle.std.proofs.lemmas.Bool.{lt-ltb, le-ltb, ltb-false}
-use Rattle.std.proofs.lemmas.List.{append-nil}
-use Rattle.std.proofs.lemmas.List.Elements.{filter-append}
-use Rattle.fs_layout.specs.declared.superblock.Super.{Super}
-use Rattle.group_log.specs.declared.marks.Marks.{Marks}
-use Rattle.group_log.specs.declared.log.Left.{Left}
-use Rattle.group_log.specs.declared.log.Left.TheVariants.{Free, Commits}
-use Rattle.group_log.specs.declared.phase.Phase.{Phase}
-use Rattle.group_log.specs.declared.phase.Phase.TheVariants.{Open, Staging, Installing, Halted}
-use Rattle.group_log.specs.declared.commit.Progress.{Progress}
-use Rattle.group_log.specs.declared.commit.Progress.TheVariants.{Waits, Wrote, Ended, Failed}
-use Rattle.group_log.specs.Phases.{is_point}
-use Rattle.group_log.specs.Soundness.{LogState}
-use Rattle.group_log.specs.CrashLaw.{Blocks, AgreeOutside}
-use Rattle.group_log.specs.Moves.{recovered_of, seen_of, is_under_way, is_settled, is_running, IsMove, begins_at, IsCommitMove}
-use Rattle.group_log.specs.Stories.{no_marks, after_leave, after_write, before, RisesBy, IsMarked, IsKept, Span, IsApart, AreWhole, IsStory, Turns, IsSpanned}
+use Rattle.group_log.proofs.Vocabulary.{◌≡◌, ◌⊎◌, inl, inr, ℕ, ◌+◌, ◌≤◌, ◌<◌, nat_lt, Bool, true, false, cond, if◌then◌else◌, List, [], ◌∷◌, ◌++◌, Option, Some, None, refl, sym, ◌∙◌, ap, subst, arith, add-one, add-zero, zero, suc, length, AllByRecursion, lt-ltb, le-ltb, ltb-false, append-nil, filter-append, Super, Marks, Left, Free, Commits, Phase, Open, Staging, Installing, Halted, Progress, WaitsFor as Waits, Wrote, Ended, Failed, is_point, LogState, Blocks, AgreeOutside, recovered_of, seen_of, is_under_way, is_settled, is_running, IsMove, begins_at, IsCommitMove, no_marks, after_leave, after_write, before, RisesBy, IsMarked, IsKept, Span, IsApart, AreWhole, IsStory, Turns, IsSpanned}
 use Rattle.group_log.proofs.Seats.{pick}
 use Rattle.group_log.proofs.Moving.{never}
 

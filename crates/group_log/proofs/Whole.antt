@@ -1,29 +1,5 @@
 -- Every call of the log keeps the log and its cache sound.
-use Rattle.std.proofs.Common.{◌≡◌, ◌≢◌, ◌⊎◌, inl, inr, ℕ, ◌+◌, ◌*◌, ◌<◌, ◌≤◌, ◌==◌, Bool, true, false, List, [], ◌∷◌, Option, Some, None, length, refl, sym, subst, ap, ◌∙◌, arith, if◌then◌else◌}
-use Rattle.std.specs.Prelude.{slice_get, slice_set, slice_index, IsSome, is_some}
-use Rattle.std.specs.Option.{unwrap_or, MatchOption, option_and_then}
-use Rattle.std.proofs.lemmas.Bool.{eqb-true}
-use Rattle.std.proofs.lemmas.Bool.Decides.{nat_tests}
-use Rattle.fs_layout.specs.declared.superblock.Super.{Super}
-use Rattle.fs_layout.specs.Recovered.{IsOutsideLog}
-use Rattle.block_device.specs.Blocks.{block_at}
-use Rattle.sleep_lock.specs.SleepLock.{GuardState}
-use Rattle.buffer_cache.specs.Buffers.{BufferState}
-use Rattle.buffer_cache.specs.Lists.{count_of}
-use Rattle.buffer_cache.specs.Getting.{get_of}
-use Rattle.buffer_cache.specs.Seats.{SeatState, seat_of, holder_of, is_held_by, kept, IsGuardOf, seen_in, with_seat, with_content, with_pin, given_back, IsHeld, IsSound}
-use Rattle.buffer_cache.specs.declared.got.Got.{Got}
-use Rattle.block_device.specs.BlockLaws.{block_at-set_same}
-use Rattle.buffer_cache.proofs.Sound.{sound_pin, sound_unpin, sound_uncached, sound_home, seen_past, seen_home}
-use Rattle.buffer_cache.proofs.Laws.{GetLaws, get_laws, fill_laws, back_laws, change_laws, pin_keeps, pin_seen}
-use Rattle.group_log.specs.declared.phase.Phase.{Phase}
-use Rattle.group_log.specs.declared.phase.Phase.TheVariants.{Open, Staging, Installing, Halted}
-use Rattle.group_log.specs.Group.{joined, has, with_block, members_with, HasRoom, IsMember}
-use Rattle.group_log.specs.Phases.{IsUnderWay, write_to, write_of, next_phase, group_in, phase_at_leave, head_block}
-use Rattle.group_log.specs.Soundness.{IsSoundLog, IsHome, PinsFrom, limit_of}
-use Rattle.group_log.specs.Turns.{seats_after, seats_at_fault}
-use Rattle.group_log.specs.Waiting.{join_waits}
-use Rattle.group_log.specs.Pins.{HasRecorded}
+use Rattle.group_log.proofs.Vocabulary.{◌≡◌, ◌≢◌, ◌⊎◌, inl, inr, ℕ, ◌+◌, ◌*◌, ◌<◌, ◌≤◌, ◌==◌, Bool, true, false, List, [], ◌∷◌, Option, Some, None, length, refl, sym, subst, ap, ◌∙◌, arith, if◌then◌else◌, slice_get, slice_set, slice_index, IsSome, is_some, unwrap_or, MatchOption, option_and_then, eqb-true, nat_tests, Super, IsOutsideLog, block_at, GuardState, BufferState, count_of, get_of, SeatState, seat_of, holder_of, is_held_by, kept, IsGuardOf, seen_in, with_seat, with_content, with_pin, given_back, IsHeld, IsSound, Got, block_at-set_same, sound_pin, sound_unpin, sound_uncached, sound_home, seen_past, seen_home, GetLaws, get_laws, fill_laws, back_laws, change_laws, pin_keeps, pin_seen, Phase, Open, Staging, Installing, Halted, joined, has, with_block, members_with, HasRoom, IsMember, IsUnderWay, write_to, write_of, next_phase, group_in, phase_at_leave, head_block, IsSoundLog, IsHome, PinsFrom, limit_of, seats_after, seats_at_fault, join_waits, HasRecorded, IsWhole, LeadsToWhole, CallsKeepWhole, written}
 use Rattle.group_log.proofs.Rooms.{rooms_le, rooms_join, length-set_member}
 use Rattle.group_log.proofs.Seats.{pick}
 use Rattle.group_log.proofs.Steps.{below, open_of, can_write, under_way}
@@ -33,7 +9,6 @@ use Rattle.group_log.proofs.Recorded.{room_to_pin, pinned_by_pin}
 use Rattle.group_log.proofs.Getting.{held_cached}
 use Rattle.group_log.proofs.Leaving.{left_good, begun_good}
 use Rattle.group_log.proofs.Committed.{failed_good, done_good}
-use Rattle.group_log.specs.Whole.{IsWhole, LeadsToWhole, CallsKeepWhole, written}
 
 -- a disk and seats, after which all blocks outside the log are seen as before
 pub record Stands (d : List (List ℕ)) (ss : List SeatState) (sizes : Super) (e : List (List ℕ)) (zs : List SeatState) : Type 0 where

@@ -1,17 +1,5 @@
 -- What each write of a commit keeps on the disk, and what it does to the recovered disk.
-use Rattle.std.proofs.Common.{◌≡◌, ◌≢◌, inl, inr, ℕ, suc, ◌+◌, ◌<◌, ◌≤◌, ◌^◌, List, [], ◌∷◌, length, get_or, set, refl, sym, ◌∙◌, ap, subst, arith, add-zero, replicate}
-use Rattle.std.specs.List.{AllByRecursion}
-use Rattle.std.proofs.lemmas.Bool.{cases_eq}
-use Rattle.std.proofs.Math.ListN.{length-set}
-use Rattle.fs_layout.specs.declared.superblock.Super.{Super}
-use Rattle.fs_layout.specs.Bytes.{u32_at}
-use Rattle.fs_layout.specs.Recovered.{sizes_of, logged, recovered, IsOutsideLog}
-use Rattle.block_device.specs.BlockLaws.{block_at-set_same, block_at-set_other}
-use Rattle.fs_layout.proofs.RecoveredDisk.{sizes_of-set, logged-set, logged-written, recovered-empty, recovered-copy, recovered-own, first_copy}
-use Rattle.block_device.specs.Blocks.{block_at}
-use Rattle.group_log.specs.declared.phase.Phase.TheVariants.{Open, Staging, Installing}
-use Rattle.group_log.specs.Phases.{head_block}
-use Rattle.group_log.specs.Soundness.{IsPlaced, IsHome, DiskFits}
+use Rattle.group_log.proofs.Vocabulary.{◌≡◌, ◌≢◌, inl, inr, ℕ, suc, ◌+◌, ◌<◌, ◌≤◌, ◌^◌, List, [], ◌∷◌, length, get_or, set, refl, sym, ◌∙◌, ap, subst, arith, add-zero, replicate, AllByRecursion, cases_eq, length-set, Super, u32_at, sizes_of, logged, recovered, IsOutsideLog, block_at-set_same, block_at-set_other, sizes_of-set, logged-set, logged-written, recovered-empty, recovered-copy, recovered-own, first_copy, block_at, Open, Staging, Installing, head_block, IsPlaced, IsHome, DiskFits}
 
 -- a block outside the log is none of the log's
 pub not_inside : (sizes : Super) (b c : ℕ) → IsOutsideLog sizes b → sizes.logstart ≤ c → c < sizes.logstart + sizes.nlog → b ≢ c

@@ -1,7 +1,6 @@
 -- A stop at any event, for any machine: what it has seen and what recovery would make of its disk, after the first i events of a run.
 use Rattle.std.specs.Prelude.{◌≡◌, ℕ, zero, suc, ◌+◌, ◌<◌, List, Bool, true, false, if◌then◌else◌}
-use Rattle.fs_layout.specs.declared.superblock.Super.{Super}
-use Rattle.fs_layout.specs.Recovered.{IsOutsideLog}
+use Rattle.group_log.specs.Vocabulary.{Super, IsOutsideLog}
 
 -- the blocks of a disk by their numbers
 abbrev pub Blocks : Type 0

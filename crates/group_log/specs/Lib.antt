@@ -1,3 +1,4 @@
+pub mod Vocabulary
 pub mod Group
 pub mod Phases
 pub mod Pins

@@ -1,7 +1,6 @@
 -- What a call makes of a log, as far as a stop is concerned.
 use Rattle.std.specs.Prelude.{◌≡◌, ◌⊎◌, ℕ, ◌+◌, ◌<◌, List, length, Bool, true, false, if◌then◌else◌}
-use Rattle.fs_layout.specs.Recovered.{recovered}
-use Rattle.buffer_cache.specs.Seats.{seen}
+use Rattle.group_log.specs.Vocabulary.{recovered, seen}
 use Rattle.group_log.specs.declared.phase.Phase.{Phase}
 use Rattle.group_log.specs.declared.phase.Phase.TheVariants.{Open, Staging, Installing, Halted}
 use Rattle.group_log.specs.declared.log.Left.{Left}

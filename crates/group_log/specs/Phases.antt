@@ -1,9 +1,6 @@
 -- A commit's writes.
 use Rattle.std.specs.Prelude.{ℕ, ◌+◌, ◌≤◌, List, [], ◌∷◌, length, Bool, false, if◌then◌else◌, ◌==◌, slice_index, replicate}
-use Rattle.fs_layout.specs.declared.superblock.Super.{Super}
-use Rattle.fs_layout.specs.Bytes.{overwrite}
-use Rattle.fs_layout.specs.LogHead.{spell_log_head}
-use Rattle.fs_layout.specs.Widths.{block_len, log_head_count_at}
+use Rattle.group_log.specs.Vocabulary.{Super, overwrite, spell_log_head, block_len, log_head_count_at}
 use Rattle.group_log.specs.declared.phase.Phase.{Phase}
 use Rattle.group_log.specs.declared.phase.Phase.TheVariants.{Open, Staging, Installing, Halted}
 

@@ -1,7 +1,6 @@
 -- The buffers of the group.
 use Rattle.std.specs.Prelude.{◌≡◌, ℕ, List, true, IsSome}
-use Rattle.std.specs.Option.{MatchOption}
-use Rattle.buffer_cache.specs.Seats.{SeatState, seat_of}
+use Rattle.group_log.specs.Vocabulary.{MatchOption, SeatState, seat_of}
 
 -- it keeps what was recorded until it was copied home
 pub record KeepsRecorded (s : SeatState) : Type 0 where

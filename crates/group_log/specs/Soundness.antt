@@ -1,12 +1,6 @@
 -- What holds of every log.
 use Rattle.std.specs.Prelude.{◌≡◌, ◌≢◌, ◌⊎◌, ℕ, ◌+◌, ◌-◌, ◌<◌, ◌≤◌, ◌^◌, min, List, [], length, slice_index, Option, None}
-use Rattle.fs_layout.specs.declared.superblock.Super.{Super}
-use Rattle.fs_layout.specs.Recovered.{sizes_of, logged, IsOutsideLog}
-use Rattle.fs_layout.specs.Bytes.{u32_at}
-use Rattle.fs_layout.specs.Widths.{super_block, super_magic_at, magic}
-use Rattle.block_device.specs.Blocks.{block_at}
-use Rattle.buffer_cache.specs.Lists.{count_of}
-use Rattle.buffer_cache.specs.Seats.{SeatState, CacheState, is_pinned, seat_of, seen_in}
+use Rattle.group_log.specs.Vocabulary.{Super, sizes_of, logged, IsOutsideLog, u32_at, super_block, super_magic_at, magic, block_at, count_of, SeatState, CacheState, is_pinned, seat_of, seen_in}
 use Rattle.group_log.specs.declared.limits.TheConstants.{MOST_LOGGED, PLACES}
 use Rattle.group_log.specs.declared.phase.Phase.{Phase}
 use Rattle.group_log.specs.declared.phase.Phase.TheVariants.{Open, Staging, Installing, Halted}

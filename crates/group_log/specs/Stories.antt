@@ -1,7 +1,6 @@
 -- A history that is kept beside a log, and how much of it a stop leaves.
 use Rattle.std.specs.Prelude.{◌≡◌, ◌⊎◌, ℕ, ◌+◌, ◌≤◌, ◌<◌, nat_lt, Bool, true, false, if◌then◌else◌, List, [], ◌∷◌, ◌++◌, length, filter, Option, Some, None}
-use Rattle.std.specs.List.{AllByRecursion}
-use Rattle.fs_layout.specs.declared.superblock.Super.{Super}
+use Rattle.group_log.specs.Vocabulary.{AllByRecursion, Super}
 use Rattle.group_log.specs.declared.marks.Marks.{Marks}
 use Rattle.group_log.specs.declared.log.Left.{Left}
 use Rattle.group_log.specs.declared.log.Left.TheVariants.{Free, Commits}

@@ -1,6 +1,6 @@
 -- The buffers in a commit.
 use Rattle.std.specs.Prelude.{ℕ, List, length, Bool, false, if◌then◌else◌, ◌==◌, is_some, slice_index}
-use Rattle.buffer_cache.specs.Seats.{SeatState, holder_of, with_seat, with_pin, given_back}
+use Rattle.group_log.specs.Vocabulary.{SeatState, holder_of, with_seat, with_pin, given_back}
 use Rattle.group_log.specs.declared.phase.Phase.{Phase}
 use Rattle.group_log.specs.declared.phase.Phase.TheVariants.{Open, Staging, Installing, Halted}
 

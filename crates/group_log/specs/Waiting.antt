@@ -1,8 +1,6 @@
 -- When a hart waits, and what its calls answer.
 use Rattle.std.specs.Prelude.{◌≡◌, ◌⊎◌, ℕ, ◌+◌, ◌*◌, List, [], ◌∷◌, Bool, true, if◌then◌else◌, ◌==◌, nat_lt, min}
-use Rattle.fs_layout.specs.declared.superblock.Super.{Super}
-use Rattle.fs_layout.specs.Recovered.{IsOutsideLog}
-use Rattle.block_device.specs.Blocks.{most_faults}
+use Rattle.group_log.specs.Vocabulary.{Super, IsOutsideLog, most_faults}
 use Rattle.group_log.specs.declared.limits.TheConstants.{BLOCKS_OF_A_TRANSACTION}
 use Rattle.group_log.specs.declared.phase.Phase.{Phase}
 use Rattle.group_log.specs.declared.phase.Phase.TheVariants.{Open, Staging, Installing, Halted}

@@ -1,12 +1,6 @@
 -- What every call of the log keeps, where it may be made.
 use Rattle.std.specs.Prelude.{◌≡◌, ◌≢◌, ◌⊎◌, ℕ, ◌<◌, ◌≤◌, List, length, true, false, Option, Some, None, IsSome, slice_get, slice_set}
-use Rattle.fs_layout.specs.declared.superblock.Super.{Super}
-use Rattle.fs_layout.specs.Recovered.{IsOutsideLog}
-use Rattle.block_device.specs.Blocks.{block_at}
-use Rattle.buffer_cache.specs.Lists.{count_of}
-use Rattle.buffer_cache.specs.Getting.{get_of}
-use Rattle.buffer_cache.specs.Seats.{SeatState, is_held_by, holder_of, kept, seen_in, with_seat, with_content, with_pin, given_back, IsSound}
-use Rattle.buffer_cache.specs.declared.limits.TheConstants.{HARTS}
+use Rattle.group_log.specs.Vocabulary.{Super, IsOutsideLog, block_at, count_of, get_of, SeatState, is_held_by, holder_of, kept, seen_in, with_seat, with_content, with_pin, given_back, IsSound, HARTS}
 use Rattle.group_log.specs.declared.phase.Phase.{Phase}
 use Rattle.group_log.specs.declared.phase.Phase.TheVariants.{Open, Halted}
 use Rattle.group_log.specs.Group.{joined, has, with_block, members_with, HasRoom, IsMember}

@@ -1,6 +1,6 @@
 -- What comes of one write.
 use Rattle.std.specs.Prelude.{◌≡◌, ◌⊎◌, ◌+◌, ℕ, List, min, slice_set, Result, Ok, Err}
-use Rattle.block_device.specs.Blocks.{most_faults}
+use Rattle.group_log.specs.Vocabulary.{most_faults}
 use Rattle.group_log.specs.declared.copies.Written.{Written}
 use Rattle.group_log.specs.declared.copies.Written.TheVariants.{Waits, Done, Failed}
 

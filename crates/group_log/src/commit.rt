@@ -1,8 +1,6 @@
 // The steps of a commit.
 ghost use Rattle.std.specs.Prelude.{◌≡◌, ◌≢◌, ◌↔◌, ◌<◌, ◌≤◌, ℕ, List, length, slice_index, IsTrue};
-ghost use Rattle.buffer_cache.specs.Lists.{count_of};
-ghost use Rattle.buffer_cache.specs.Seats.{is_held_by, has_block, seen, KeepsHeld};
-ghost use Rattle.fs_layout.specs.Recovered.{IsOutsideLog};
+ghost use Rattle.group_log.specs.Vocabulary.{count_of, is_held_by, has_block, seen, KeepsHeld, IsOutsideLog};
 ghost use Rattle.group_log.specs.Phases.{write_to, write_of, IsUnderWay};
 ghost use Rattle.group_log.specs.Slots.{HasSlots};
 ghost use Rattle.group_log.specs.Soundness.{CanWrite};

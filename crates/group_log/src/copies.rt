@@ -1,9 +1,6 @@
 // One write of a commit, over the cache.
 ghost use Rattle.std.specs.Prelude.{◌≡◌, ◌≢◌, ◌↔◌, ◌⊎◌, ◌<◌, ◌≤◌, ℕ, List, [], false, length, slice_set, replicate, None, Some, IsSome, OnOk, OnErr};
-ghost use Rattle.std.specs.Option.{unwrap_or};
-ghost use Rattle.block_device.specs.Blocks.{faults_after};
-ghost use Rattle.buffer_cache.specs.Lists.{count_of};
-ghost use Rattle.buffer_cache.specs.Seats.{is_held_by, seat_of, holder_of, with_seat, with_pin, given_back, slot_of, seen, KeepsHeld};
+ghost use Rattle.group_log.specs.Vocabulary.{unwrap_or, faults_after, count_of, is_held_by, seat_of, holder_of, with_seat, with_pin, given_back, slot_of, seen, KeepsHeld};
 ghost use Rattle.group_log.specs.Pins.{HasRecorded};
 ghost use Rattle.group_log.specs.Phases.{head_block};
 ghost use Rattle.group_log.specs.Written.{Writes, by_outcome, faults_of, outcome_of};

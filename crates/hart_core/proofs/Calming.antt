@@ -1,17 +1,7 @@
 -- Starts that were refused, as events that ask for no call: a run goes on as before without them.
-use Rattle.std.proofs.Common.{◌≡◌, ◌≢◌, ℕ, Bool, true, false, Option, Some, None, List, [], ◌∷◌, if◌then◌else◌, refl, sym, ◌∙◌, ap, subst}
-use Rattle.std.specs.Prelude.{nat_eq}
-use Rattle.std.proofs.lemmas.Bool.{eqb-true}
-use Rattle.plain_tree.specs.declared.call.Call.{Call}
-use Rattle.plain_tree.specs.Calls.{call_climbs}
-use Rattle.plain_tree.specs.Explains.{Shown}
-use Rattle.plain_tree.specs.Explains.Shown.{Started as Begun, Replied, Other}
-use Rattle.group_log.specs.declared.marks.Marks.{Marks}
-use Rattle.atomic_programs.specs.Prog.{Ret, Do, Did, Waits, Ran, Stops}
-use Rattle.atomic_programs.specs.Logic.{P, OpWithAnswer, own}
-use Rattle.atomic_programs.specs.Calls.{Theory, Began, Refuses, Begins, Run, State, Event, Start, Step, Made, Refused, WasIdle, HonestStep, IsHonest, AllHonest, changed, told, all_told, unchanged, moved, tried, step_prog, step_unless, step_run, begun, start_run, busy_in, makes, next, run}
-use Rattle.calls_on_blocks.specs.Marks.{noted}
-use Rattle.inode_machine.specs.MoveCalls.{MoveMachine, theory_of, shown_by, climbs_at, NoneClimbs, StartsBy, Alone, shows}
+use Rattle.hart_core.proofs.Vocabulary.{◌≡◌, ◌≢◌, ℕ, Bool, true, false, Option, Some, None, List, [], ◌∷◌, if◌then◌else◌, refl, sym, ◌∙◌, ap, subst, nat_eq, eqb-true, Call, call_climbs, Shown, Begun, Replied, Other, Marks, Ret, Do, Did, Waits, Ran, Stops, PartOf as P, OpWithAnswer, own, Theory, Began, Refuses, Begins, Run, State, EventOf as Event, Start, Step, Made, Refused, WasIdle, HonestStep, IsHonest, AllHonest, changed, told, all_told, unchanged, moved, tried, step_prog, step_unless, step_run, begun, start_run, makes, next, run, noted, MoveMachine, theory_of, shown_by, climbs_at, StartsBy, Alone, shows}
+use Rattle.atomic_programs.specs.Calls.{busy_in}
+use Rattle.inode_machine.specs.MoveCalls.{NoneClimbs}
 
 -- what holds of a call that was started
 abbrev pub IfStarted : (ℕ → Call → Type 0) → Shown → Type 0

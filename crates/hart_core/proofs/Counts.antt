@@ -1,8 +1,5 @@
 -- Counts of events, and the last of them.
-use Rattle.std.proofs.Common.{◌≡◌, ◌⊎◌, inl, inr, ℕ, zero, suc, ◌+◌, ◌≤◌, Option, Some, None, refl, sym, ◌∙◌, ap, arith}
-use Rattle.group_log.specs.declared.marks.Marks.{Marks}
-use Rattle.group_log.specs.Stories.{IsMarked}
-use Rattle.hart_core.specs.Stops.{IsMarkedBy, doubt_of, last_of, up_to}
+use Rattle.hart_core.proofs.Vocabulary.{◌≡◌, ◌⊎◌, inl, inr, ℕ, zero, suc, ◌+◌, ◌≤◌, Option, Some, None, refl, sym, ◌∙◌, ap, arith, Marks, IsMarked, IsMarkedBy, doubt_of, last_of, up_to}
 
 pub up_to_last : (n : ℕ) → n ≡ up_to (last_of n)
 up_to_last zero = refl

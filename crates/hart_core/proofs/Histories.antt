@@ -1,52 +1,14 @@
 -- Runs: one event more; and of a mounted world, the list of tree steps that explains them.
-use Rattle.std.proofs.Common.{◌≡◌, ◌⊎◌, inl, inr, ◌<◌, ◌≤◌, ◌+◌, min, ℕ, zero, Bool, true, false, nat_lt, Some, None, List, [], ◌∷◌, ◌++◌, length, suc, get_or, take, map, ◌==◌, ◌&&◌, refl, sym, ◌∙◌, ap, subst, if◌then◌else◌, arith}
-use Rattle.std.specs.List.{All}
-use Rattle.std.proofs.lemmas.List.{take_more, length-take}
-use Rattle.std.proofs.lemmas.List.Elements.{All-head, All-tail, All-cons, All-nil}
-use Rattle.fs_layout.specs.declared.superblock.Super.{Super}
-use Rattle.fs_layout.specs.Recovered.{sizes_of}
-use Rattle.image_tree.specs.Trees.{tree_in}
-use Rattle.plain_tree.specs.declared.answer.Reply.{Reply}
-use Rattle.plain_tree.specs.declared.call.Call.{Call}
-use Rattle.plain_tree.specs.Tree.{put}
-use Rattle.plain_tree.specs.declared.trace.Trace.{Trace}
-use Rattle.plain_tree.specs.declared.trace.TracedCall.{TracedCall}
-use Rattle.plain_tree.specs.Calls.{call_climbs}
-use Rattle.plain_tree.specs.Explains.{Shown, Explains, ends_at, noted, no_calls, trace_from, trace_of}
-use Rattle.plain_tree.specs.Explains.Shown.{Started as Begun, Replied, Other}
-use Rattle.plain_tree.specs.Steps.{is_nothing}
-use Rattle.plain_tree.specs.TreeData.{TreeData}
+use Rattle.hart_core.proofs.Vocabulary.{◌≡◌, ◌⊎◌, inl, inr, ◌<◌, ◌≤◌, ◌+◌, min, ℕ, zero, Bool, true, false, nat_lt, Some, None, List, [], ◌∷◌, ◌++◌, length, suc, get_or, take, map, ◌==◌, ◌&&◌, refl, sym, ◌∙◌, ap, subst, if◌then◌else◌, arith, All, take_more, length-take, All-head, All-tail, All-cons, All-nil, Super, sizes_of, tree_in, Reply, Call, put, Trace, TracedCall, call_climbs, Shown, Explains, ends_at, no_calls, trace_from, trace_of, Begun, Replied, Other, is_nothing, TreeData, Theory, Begins, State, EventOf, Start, Step, OutcomeOf, Started, Refused, WasIdle, DidWait, DidRun, DidEnd, DidStop, WasStopped, CameOf, AllHonest, asked, all_asked, with_answer, fresh, makes, next, outcomes, run, Code, Plain, PlainMade, PlainHonest, plain_makes, plain_run, plain_outcomes, by_kind, all_by_kind, erase, erase-makes, erase-outcomes, plain_run-more, begun_both, honest_event, Kind, Outside, Passes, Both, began_to, shown_by, shows, HasOneHistory, Refusal, block_moves, first, RunsOn, World, begins, block_calls, block_code, child_of, served_calls, one_history, one_hart, is_code, begun_here, Event, Came, Outcome, event_of, came_of, HartsOf, outcome_of, Rests, events_of, outcomes_of, shown, shown_outcome, all_shown, trace_in, AllAnswer, IsHistory, HasHistory, NoneClimbs, OneHart, OneHistory, WorldOf, calls_of, Makes, Answers}
+use Rattle.plain_tree.specs.Explains.{noted}
 use Rattle.plain_tree.specs.Widths.{hart_count}
-use Rattle.atomic_programs.specs.Calls.{Theory, Begins, State, Event as EventOf, Start, Step, Outcome as OutcomeOf, Started, Refused, WasIdle, DidWait, DidRun, DidEnd, DidStop, WasStopped, Came as CameOf, AllHonest, asked, all_asked, with_answer, fresh, makes, next, outcomes, run}
-use Rattle.atomic_programs.specs.Plain.{Code, Plain, PlainMade, PlainHonest, plain_makes, plain_run, plain_outcomes, by_kind, all_by_kind, erase}
-use Rattle.atomic_programs.proofs.Erased.{erase-makes, erase-outcomes, plain_run-more}
-use Rattle.atomic_programs.proofs.Lowered.{begun_both}
-use Rattle.atomic_programs.proofs.Reached.{honest_event}
-use Rattle.fs_machine.specs.declared.kind.Kind.{Kind}
-use Rattle.fs_machine.specs.LogPart.{Outside, Passes}
-use Rattle.atomic_programs.specs.Joined.{Both}
-use Rattle.atomic_programs.specs.Lowered.{began_to}
-use Rattle.inode_machine.specs.MoveCalls.{shown_by, shows, HasOneHistory}
-use Rattle.inode_machine.specs.Theory.{Refusal}
 use Rattle.inode_machine.specs.World as above
-use Rattle.calls_on_blocks.specs.History.{block_moves, first, RunsOn}
-use Rattle.calls_on_blocks.specs.Layer.{World, shared_of}
-use Rattle.calls_on_blocks.specs.Theory.{begins, block_calls, block_code, child_of, served_calls}
-use Rattle.calls_on_blocks.proofs.History.{one_history, one_hart}
-use Rattle.calls_on_blocks.proofs.Lawful.{is_code}
-use Rattle.calls_on_blocks.proofs.Starting.{begun_here}
-use Rattle.hart_core.specs.declared.events.Event.{Event}
+use Rattle.calls_on_blocks.specs.Layer.{shared_of}
 use Rattle.hart_core.specs.declared.events.Event.TheVariants as event
-use Rattle.hart_core.specs.declared.events.Came.{Came}
 use Rattle.hart_core.specs.declared.events.Came.TheVariants as came
-use Rattle.hart_core.specs.declared.outcome.Outcome.{Outcome}
 use Rattle.hart_core.specs.declared.outcome.Outcome.TheVariants as outcome
 use Rattle.hart_core.specs.declared.outcome.Stop.TheVariants as stop
-use Rattle.hart_core.specs.Events.{event_of, came_of}
-use Rattle.hart_core.specs.Harts.{HartsOf, outcome_of}
-use Rattle.hart_core.specs.Mounting.{Rests}
-use Rattle.hart_core.specs.Runs.{events_of, outcomes_of, shown, shown_outcome, all_shown, trace_in, AllAnswer, IsHistory, HasHistory, NoneClimbs, OneHart, IsExplained, OneHistory}
-use Rattle.hart_core.specs.Worlds.{WorldOf, calls_of, Makes, Answers}
+use Rattle.hart_core.specs.Runs.{IsExplained}
 use Rattle.hart_core.proofs.Calming.{IfStarted, AllStarted, Calmed, calmed}
 use Rattle.hart_core.proofs.Resting.{mountable, rests_erased}
 

@@ -1,20 +1,6 @@
 -- What always holds of a world, by the invariant of its calls.
-use Rattle.std.proofs.Common.{◌≡◌, ℕ, Bool, false, Option, Some, None, List, refl, sym, ◌∙◌, ap, subst, get_or}
-use Rattle.fs_layout.specs.declared.superblock.Super.{Super}
-use Rattle.atomic_programs.specs.Calls.{Theory, Run, State}
-use Rattle.atomic_programs.specs.Explained.{IsExplained, Holds}
-use Rattle.atomic_programs.specs.Machines.{program_at}
-use Rattle.atomic_programs.specs.Plain.{Code, Plain, SoundPlain, prog_of}
-use Rattle.atomic_programs.proofs.Reached.{sound_explained}
+use Rattle.hart_core.proofs.Vocabulary.{◌≡◌, ℕ, Bool, false, Option, Some, None, List, refl, sym, ◌∙◌, ap, subst, get_or, Super, Theory, Run, State, IsExplained, Holds, program_at, Code, Plain, SoundPlain, prog_of, sound_explained, running_of, is_joined, quiet_worlds_are_images, block_calls, block_code, lawful, HartsOf, shared_of, HasNothing, NoneJoined, ShowsImage, IdleHartsHaveNothing, QuietBlocksAreAnImage, IsWorld, calls_of}
 use Rattle.fs_machine.specs.Steps as steps
-use Rattle.syscalls.specs.Machines.{running_of}
-use Rattle.inodes_on_blocks.specs.OnBlocks.{is_joined}
-use Rattle.inodes_on_blocks.proofs.QuietWorlds.{quiet_worlds_are_images}
-use Rattle.calls_on_blocks.specs.Theory.{block_calls, block_code}
-use Rattle.calls_on_blocks.proofs.Lawful.{lawful}
-use Rattle.hart_core.specs.Harts.{HartsOf, shared_of}
-use Rattle.hart_core.specs.Promised.{HasNothing, NoneJoined, ShowsImage, IdleHartsHaveNothing, QuietBlocksAreAnImage}
-use Rattle.hart_core.specs.Worlds.{IsWorld, calls_of}
 use Rattle.hart_core.proofs.Lasting.{world_sound}
 
 none_of : (L : Theory) (C : Code L) (r : Option (Run L)) → prog_of L C r ≡ None → r ≡ None

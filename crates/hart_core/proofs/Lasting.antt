@@ -1,23 +1,5 @@
 -- What a world keeps at each event, and what a stop leaves of it.
-use Rattle.std.proofs.Common.{ℕ, List, [], ◌∷◌, ◌++◌, sym, ap, subst}
-use Rattle.fs_layout.specs.declared.superblock.Super.{Super}
-use Rattle.fs_layout.specs.Recovered.{sizes_of}
-use Rattle.image_tree.specs.Damage.{IsWellFormed}
-use Rattle.plain_tree.specs.declared.answer.Reply.{Reply}
-use Rattle.plain_tree.specs.declared.call.Call.{Call}
-use Rattle.atomic_programs.specs.Calls.{Event, Outcome, Sound, fresh, run, with_answer}
-use Rattle.atomic_programs.specs.Plain.{Plain, SoundPlain}
-use Rattle.atomic_programs.specs.Shown.{CameTo}
-use Rattle.atomic_programs.proofs.Reached.{came_more, sound_run}
-use Rattle.fs_machine.specs.declared.kind.Kind.{Kind}
-use Rattle.fs_machine.specs.LogPart.{Outside}
-use Rattle.inode_machine.specs.Theory.{Refusal}
-use Rattle.calls_on_blocks.specs.History.{first}
-use Rattle.calls_on_blocks.specs.Theory.{block_calls, block_code}
-use Rattle.calls_on_blocks.proofs.Lawful.{is_code}
-use Rattle.calls_on_blocks.proofs.Stops.{first_sound, stops_leave_images}
-use Rattle.hart_core.specs.Harts.{HartsOf}
-use Rattle.hart_core.specs.Worlds.{Answers, IsWorld, Makes, calls_of}
+use Rattle.hart_core.proofs.Vocabulary.{ℕ, List, [], ◌∷◌, ◌++◌, sym, ap, subst, Super, sizes_of, IsWellFormed, Reply, Call, EventOf as Event, OutcomeOf as Outcome, Sound, fresh, run, with_answer, Plain, SoundPlain, CameTo, came_more, sound_run, Kind, Outside, Refusal, first, block_calls, block_code, is_code, first_sound, stops_leave_images, HartsOf, Answers, IsWorld, Makes, calls_of}
 
 module _ {D : Type 0} (contents : D → List (List ℕ)) (failures : D → ℕ) (sizes : Super) (w : HartsOf D) (is : IsWorld contents failures sizes w) where
   -- what it has of a sound state of the calls

@@ -1,3 +1,5 @@
+pub mod Lemmas
+pub mod Vocabulary
 pub mod Stepping
 pub mod Mounted
 pub mod Refusals

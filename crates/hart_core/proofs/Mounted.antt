@@ -1,17 +1,5 @@
 -- What a mount leaves.
-use Rattle.std.proofs.Common.{◌≡◌, ◌≢◌, ℕ, true, false, List, [], refl, sym, ◌∙◌, ap, subst}
-use Rattle.std.specs.List.{All}
-use Rattle.block_device.specs.Blocks.{block_at}
-use Rattle.fs_layout.specs.Recovered.{logged, recovered, sizes_of, IsOutsideLog}
-use Rattle.image_tree.specs.declared.fault.MountFault.{MountFault}
-use Rattle.image_tree.specs.declared.fault.MountFault.TheVariants.{DeviceFault}
-use Rattle.image_tree.specs.Checks.{is_marked}
-use Rattle.image_tree.specs.Damage.{IsWellFormed, fault_count_of}
-use Rattle.image_tree.specs.Inodes.{numbers_by}
-use Rattle.image_tree.specs.Shape.{is_orphan}
-use Rattle.image_tree.specs.Trees.{tree_in}
-use Rattle.image_tree.specs.Freeing.{AreNamed}
-use Rattle.hart_core.specs.Mounting.{IsSettled, HandsBack}
+use Rattle.hart_core.proofs.Vocabulary.{◌≡◌, ◌≢◌, ℕ, true, false, List, [], refl, sym, ◌∙◌, ap, subst, All, block_at, logged, recovered, sizes_of, IsOutsideLog, MountFault, DeviceFault, is_marked, IsWellFormed, fault_count_of, numbers_by, is_orphan, tree_in, AreNamed, IsSettled, HandsBack}
 
 -- the examination leaves the disk as it was
 pub settled_so : (first middle last : List (List ℕ)) → middle ≡ first → (AreNamed middle → (b : ℕ) → IsOutsideLog (sizes_of middle) b → block_at last b ≡ recovered middle b) → logged last ≡ []

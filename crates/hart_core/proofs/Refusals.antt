@@ -1,22 +1,9 @@
 -- What is wrong with a call, as its start finds it and as the calls have it.
-use Rattle.std.proofs.Common.{◌≡◌, ◌≢◌, ◌≤◌, ◌<◌, ℕ, zero, suc, Bool, true, false, ◌&&◌, ◌||◌, ◌==◌, nat_lt, List, [], ◌∷◌, length, Option, Some, None, refl, sym, ◌∙◌, ap, get_or, arith}
-use Rattle.std.specs.Prelude.{if◌then◌else◌, All}
-use Rattle.std.proofs.lemmas.Bool.Decides.{nat_tests}
-use Rattle.std.specs.List.{list_any}
-use Rattle.buffer_cache.specs.Limits.{hart_count}
-use Rattle.plain_tree.specs.declared.call.Call.{Call}
-use Rattle.plain_tree.specs.declared.call.Call.TheVariants.{Open, Read, Write, Link, Unlink, Mkdir, Chdir, Dup, Fstat, Close, Inherit}
-use Rattle.atomic_programs.specs.Prog.{or_else}
+use Rattle.hart_core.proofs.Vocabulary.{◌≡◌, ◌≢◌, ◌≤◌, ◌<◌, ℕ, zero, suc, Bool, true, false, ◌&&◌, ◌||◌, ◌==◌, nat_lt, List, [], ◌∷◌, length, Option, Some, None, refl, sym, ◌∙◌, ap, get_or, arith, if◌then◌else◌, nat_tests, list_any, hart_count, Call, Open, Read, Write, Link, Unlink, Mkdir, Chdir, Dup, Fstat, Close, Inherit, or_else, path_limit, has_zero, are_bytes, first_wrong, path_wrong, asks_wrong, SharedState, serves, has_file, StartRefused, Busy, NoSuchHart, NotEmptyHart, PathTooLong, ZeroInPath, TooLong, HartsOf, busy_in, children_in, shared_of, longest_part, longest_path, path_fault, part_fault, fault_of, is_child, child_refusal, others_refusal, refusal_of, reason_of, IsOfBytes}
+use Rattle.std.specs.Prelude.{All}
 use Rattle.inode_machine.specs.Exec.{is_nothing}
 use Rattle.inode_machine.specs.Theory as calls
-use Rattle.inode_machine.specs.Theory.{path_limit, has_zero, are_bytes, first_wrong, path_wrong, asks_wrong}
 use Rattle.calls_on_blocks.specs.Theory as served
-use Rattle.calls_on_blocks.specs.Layer.{SharedState}
-use Rattle.calls_on_blocks.specs.Theory.{serves, has_file}
-use Rattle.hart_core.specs.declared.starts.StartRefused.{StartRefused}
-use Rattle.hart_core.specs.declared.starts.StartRefused.TheVariants.{Busy, NoSuchHart, NotEmptyHart, PathTooLong, ZeroInPath, TooLong}
-use Rattle.hart_core.specs.Harts.{HartsOf, busy_in, children_in, shared_of}
-use Rattle.hart_core.specs.Starts.{longest_part, longest_path, path_fault, part_fault, fault_of, is_child, child_refusal, others_refusal, refusal_of, reason_of, IsOfBytes}
 
 -- in the words of the calls
 abbrev pub reason_for : Option StartRefused → Option calls.Refusal

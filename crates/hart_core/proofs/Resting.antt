@@ -1,32 +1,7 @@
 -- A mounted world is one.
-use Rattle.std.proofs.Common.{◌≡◌, ℕ, List, [], Option, None, sym, ◌∙◌, ap, subst, get_or, replicate, arith}
-use Rattle.fs_layout.specs.declared.superblock.Super.{Super}
-use Rattle.fs_layout.specs.Recovered.{sizes_of}
-use Rattle.buffer_cache.specs.Limits.{buffer_count, hart_count}
-use Rattle.buffer_cache.specs.Seats.{unused_from}
+use Rattle.hart_core.proofs.Vocabulary.{◌≡◌, ℕ, List, [], Option, None, sym, ◌∙◌, ap, subst, get_or, replicate, arith, Super, sizes_of, buffer_count, hart_count, unused_from, IsPlaced, IsGoodSuper, IsWellFormed, fresh as fresh_state, Both, program_at, erase, CameTo, came_none, part_of, P, Running, running_of, IsSized, Reply, IsMountable, first_world, mounted, resting_log, World, block_calls, block_code, is_code, HartsOf, children_in, Rests, IsWorld, calls_of}
 use Rattle.group_log.specs.declared.phase.Phase.TheVariants.{Open}
-use Rattle.group_log.specs.Soundness.{IsPlaced}
-use Rattle.image_tree.specs.Checks.{IsGoodSuper}
-use Rattle.image_tree.specs.Damage.{IsWellFormed}
-use Rattle.atomic_programs.specs.Calls.{fresh as fresh_state}
-use Rattle.atomic_programs.specs.Joined.{Both}
-use Rattle.atomic_programs.specs.Machines.{program_at}
-use Rattle.atomic_programs.specs.Plain.{erase}
-use Rattle.atomic_programs.specs.Shown.{CameTo}
-use Rattle.atomic_programs.proofs.Reached.{came_none}
-use Rattle.fs_machine.specs.LogPart.{part_of}
-use Rattle.fs_machine.specs.Machines.{P}
-use Rattle.syscalls.specs.Machines.{Running, running_of}
-use Rattle.inode_parts.specs.Sizes.{IsSized}
-use Rattle.plain_tree.specs.declared.answer.Reply.{Reply}
 use Rattle.inode_machine.specs.World as above
-use Rattle.inodes_on_blocks.specs.Mounted.{IsMountable, first_world, mounted, resting_log}
-use Rattle.calls_on_blocks.specs.Layer.{World}
-use Rattle.calls_on_blocks.specs.Theory.{block_calls, block_code}
-use Rattle.calls_on_blocks.proofs.Lawful.{is_code}
-use Rattle.hart_core.specs.Harts.{HartsOf, children_in}
-use Rattle.hart_core.specs.Mounting.{Rests}
-use Rattle.hart_core.specs.Worlds.{IsWorld, calls_of}
 use Rattle.hart_core.proofs.Stepping.{nones, none_of}
 
 -- calls run on a well-formed image

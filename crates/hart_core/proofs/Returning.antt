@@ -1,16 +1,5 @@
 -- A call that replied in the first events has all its steps in their entries.
-use Rattle.std.proofs.Common.{◌≡◌, ℕ, ◌≤◌, ◌<◌, nat_lt, ◌==◌, Bool, true, false, List, [], ◌∷◌, Option, Some, refl, sym, ◌∙◌, ap, subst, if◌then◌else◌, arith}
-use Rattle.std.specs.Prelude.{slice_get}
-use Rattle.std.proofs.lemmas.Bool.{eqb-true}
-use Rattle.std.proofs.lemmas.Bool.Decides.{nat_tests}
-use Rattle.plain_tree.specs.declared.answer.Reply.{Reply}
-use Rattle.plain_tree.specs.declared.trace.Placed.{Placed}
-use Rattle.plain_tree.specs.declared.trace.Trace.{Trace}
-use Rattle.plain_tree.specs.declared.trace.TracedCall.{TracedCall}
-use Rattle.plain_tree.specs.Calls.{Act}
-use Rattle.plain_tree.specs.Explains.{AllBelong, Belongs, IsInTime, act_of, acts_of}
-use Rattle.tree_laws.specs.MoveLaws.{before}
-use Rattle.atomic_programs.proofs.Explains.{Some-inj}
+use Rattle.hart_core.proofs.Vocabulary.{◌≡◌, ℕ, ◌≤◌, ◌<◌, nat_lt, ◌==◌, Bool, true, false, List, [], ◌∷◌, Option, Some, refl, sym, ◌∙◌, ap, subst, if◌then◌else◌, arith, slice_get, eqb-true, nat_tests, Reply, Placed, Trace, TracedCall, Act, AllBelong, Belongs, IsInTime, act_of, acts_of, before, Some-inj}
 
 module _ (t : Trace) (k id : ℕ) (c : TracedCall) (r : ℕ × Reply) (is : slice_get t.calls id ≡ Some c) (finished : c.finished ≡ Some r) (early : r.0 < k) where
   -- each of its entries is of an event before

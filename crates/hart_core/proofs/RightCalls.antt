@@ -1,13 +1,6 @@
 -- What a start asks of a call: a path has at most one element for each two of its bytes, so its references have room on the list.
-use Rattle.std.proofs.Common.{◌≡◌, ℕ, suc, ◌+◌, ◌*◌, ◌^◌, ◌<◌, ◌≤◌, Bool, true, false, not, List, [], ◌∷◌, ◌++◌, length, map, filter, take, None, if◌then◌else◌, ◌==◌, arith}
+use Rattle.hart_core.proofs.Vocabulary.{◌≡◌, ℕ, suc, ◌+◌, ◌*◌, ◌^◌, ◌<◌, ◌≤◌, Bool, true, false, not, List, [], ◌∷◌, ◌++◌, length, map, filter, take, None, if◌then◌else◌, ◌==◌, arith, elements, is_empty, pieces, name_len, Call, Open, Read, Write, Link, Unlink, Mkdir, Chdir, Dup, Fstat, Close, Inherit, most_listed, IsCall, IsPath, longest_path, path_fault, part_fault, fault_of}
 use Rattle.std.proofs.lemmas.List.{length-append}
-use Rattle.plain_tree.specs.Tree.{elements, is_empty, pieces}
-use Rattle.plain_tree.specs.Widths.{name_len}
-use Rattle.plain_tree.specs.declared.call.Call.{Call}
-use Rattle.plain_tree.specs.declared.call.Call.TheVariants.{Open, Read, Write, Link, Unlink, Mkdir, Chdir, Dup, Fstat, Close, Inherit}
-use Rattle.whole_calls.specs.Calls.{most_listed}
-use Rattle.whole_calls.specs.Wholes.{IsCall, IsPath}
-use Rattle.hart_core.specs.Starts.{longest_path, path_fault, part_fault, fault_of}
 use Rattle.hart_core.proofs.Refusals.{right_path, right_paths, right_part}
 
 -- how many of them aren't empty

@@ -1,33 +1,7 @@
 -- A call's step in its hart's place.
-use Rattle.std.proofs.Common.{◌≡◌, ◌≢◌, ◌<◌, ◌≤◌, ℕ, zero, suc, Bool, true, false, List, [], ◌∷◌, Option, Some, None, refl, sym, ◌∙◌, ap, subst, length, get_or, set, replicate, length-set, get_or-set_same, get_or-set_other, arith}
-use Rattle.std.specs.Prelude.{nat_eq, slice_get}
-use Rattle.std.proofs.lemmas.Bool.{eqb-true, eqb-false}
-use Rattle.std.proofs.lemmas.List.{get_or_past, set-set}
-use Rattle.plain_tree.specs.declared.answer.Reply.{Reply}
-use Rattle.atomic_programs.specs.Prog.{Ret, Do, plain}
-use Rattle.atomic_programs.specs.Calls.{Start, Step, Started, WasIdle, DidRun}
-use Rattle.atomic_programs.specs.Plain.{PlainHonestStep, plain_makes, plain_step, hart_step, hart_moved, PlainHonest}
-use Rattle.atomic_programs.specs.Machines.{program_at}
-use Rattle.atomic_programs.specs.Tables.{plain_at}
+use Rattle.hart_core.proofs.Vocabulary.{◌≡◌, ◌≢◌, ◌<◌, ◌≤◌, ℕ, zero, suc, Bool, true, false, List, [], ◌∷◌, Option, Some, None, refl, sym, ◌∙◌, ap, subst, length, get_or, set, replicate, length-set, get_or-set_same, get_or-set_other, arith, nat_eq, slice_get, eqb-true, eqb-false, get_or_past, set-set, Reply, Ret, Do, plain, Start, Step, Started, WasIdle, DidRun, PlainHonestStep, plain_makes, plain_step, hart_step, hart_moved, PlainHonest, program_at, plain_at, hart_advances, start_gives, Kind, Core, Outside, Passes, state_of, P, LeavesTied, Running, running_of, HasBegun, StepsAt, has_running, stays, HasOne, blocks, code, HartFits, AreHarts, block_calls, Call, Super}
 use Rattle.atomic_programs.specs.declared.machines.Came.TheVariants.{Ran}
-use Rattle.atomic_programs.proofs.Advances.{hart_advances}
-use Rattle.atomic_programs.proofs.Tables.{start_gives}
-use Rattle.fs_machine.specs.declared.kind.Kind.{Kind}
-use Rattle.fs_machine.specs.declared.shared.Core.{Core}
-use Rattle.fs_machine.specs.LogPart.{Outside, Passes}
-use Rattle.fs_machine.specs.Steps.{State, state_of}
-use Rattle.fs_machine.specs.Machines.{P}
-use Rattle.fs_machine.specs.Tied.{LeavesTied}
-use Rattle.syscalls.specs.Machines.{Running, running_of}
-use Rattle.syscalls.specs.Places.{HasBegun, StepsAt}
-use Rattle.syscalls.proofs.HasOnes.{has_running}
-use Rattle.syscalls.proofs.Staying.{stays}
-use Rattle.fs_machine.proofs.HasOnes.{HasOne}
-use Rattle.hart_core.specs.Blocks.{blocks, code}
-use Rattle.hart_core.specs.Harts.{HartFits, AreHarts}
-use Rattle.calls_on_blocks.specs.Theory.{block_calls}
-use Rattle.plain_tree.specs.declared.call.Call.{Call}
-use Rattle.fs_layout.specs.declared.superblock.Super.{Super}
+use Rattle.fs_machine.specs.Steps.{State}
 
 -- ---- marks
 

@@ -1,38 +1,5 @@
 -- What a stop leaves of a run.
-use Rattle.std.proofs.Common.{◌≡◌, ◌⊎◌, inl, inr, ℕ, ◌+◌, ◌≤◌, false, List, [], ◌∷◌, ◌++◌, length, Some, take, refl, sym, ◌∙◌, ap, subst, arith}
-use Rattle.fs_layout.specs.declared.superblock.Super.{Super}
-use Rattle.fs_layout.specs.Recovered.{sizes_of}
-use Rattle.image_tree.specs.Trees.{tree_in}
-use Rattle.plain_tree.specs.declared.call.Call.{Call}
-use Rattle.plain_tree.specs.Calls.{call_climbs}
-use Rattle.plain_tree.specs.Explains.{Chain, Explains, IsNamedPart, Shown, trace_of}
-use Rattle.plain_tree.specs.Tree.{tree_of}
-use Rattle.plain_tree.specs.TreeData.{TreeData}
-use Rattle.group_log.specs.declared.marks.Marks.{Marks}
-use Rattle.group_log.specs.Group.{joined}
-use Rattle.group_log.specs.Phases.{is_point}
-use Rattle.group_log.specs.Stories.{no_marks, IsMarked}
-use Rattle.tree_laws.specs.MoveLaws.{before}
-use Rattle.atomic_programs.specs.Calls.{Theory, State, Event as EventOf, AllHonest, fresh, next, run, with_answer}
-use Rattle.atomic_programs.specs.Plain.{Code, Plain, PlainMade, plain_run, erase}
-use Rattle.atomic_programs.proofs.Erased.{erase-makes, erase-run}
-use Rattle.fs_machine.specs.LogPart.{Outside, Passes}
-use Rattle.calls_on_blocks.specs.History.{block_moves, first}
-use Rattle.calls_on_blocks.specs.Theory.{block_calls, block_code}
-use Rattle.calls_on_blocks.proofs.Lawful.{is_code}
-use Rattle.calls_on_blocks.specs.Marks.{marks_told, at_point, noted, log_at, told_between}
-use Rattle.calls_on_blocks.specs.Stops.{LeavesABeginning, disk_after, marks_at}
-use Rattle.calls_on_blocks.proofs.Beginnings.{stops_leave_a_beginning, one_hart_leaves_a_beginning}
-use Rattle.calls_on_blocks.proofs.Events.{next_now}
-use Rattle.calls_on_blocks.proofs.Told.{marks_of_mounts}
-use Rattle.hart_core.specs.declared.events.Event.{Event}
-use Rattle.hart_core.specs.declared.events.Came.{Came}
-use Rattle.hart_core.specs.Events.{event_of, came_of}
-use Rattle.hart_core.specs.Harts.{HartsOf}
-use Rattle.hart_core.specs.Mounting.{Rests}
-use Rattle.hart_core.specs.Runs.{trace_in, IsHistory, IsMounted, NoneClimbs, OneHart}
-use Rattle.hart_core.specs.Stops.{last_of, doubt_of, HoldsABeginning, log_of, next_of, marks_in, HasMarks, marks_of, RunLeavesABeginning}
-use Rattle.hart_core.specs.Worlds.{WorldOf, calls_of, Makes, Answers}
+use Rattle.hart_core.proofs.Vocabulary.{◌≡◌, ◌⊎◌, inl, inr, ℕ, ◌+◌, ◌≤◌, false, List, [], ◌∷◌, ◌++◌, length, Some, take, refl, sym, ◌∙◌, ap, subst, arith, Super, sizes_of, tree_in, Call, call_climbs, Chain, Explains, IsNamedPart, Shown, trace_of, tree_of, TreeData, Marks, joined, is_point, no_marks, IsMarked, before, Theory, State, EventOf, AllHonest, fresh, next, run, with_answer, Code, Plain, PlainMade, plain_run, erase, erase-makes, erase-run, Outside, Passes, block_moves, first, block_calls, block_code, is_code, marks_told, at_point, noted, log_at, told_between, LeavesABeginning, disk_after, marks_at, stops_leave_a_beginning, one_hart_leaves_a_beginning, next_now, marks_of_mounts, Event, Came, event_of, came_of, HartsOf, Rests, trace_in, IsHistory, IsMounted, NoneClimbs, OneHart, last_of, doubt_of, HoldsABeginning, log_of, next_of, marks_in, HasMarks, marks_of, RunLeavesABeginning, WorldOf, calls_of, Makes, Answers}
 use Rattle.hart_core.proofs.Calming.{Calmed}
 use Rattle.hart_core.proofs.Counts.{marked_by}
 use Rattle.hart_core.proofs.Histories.{no_history, history_more, long_history, none_past, calm, runs, shown_is, started}

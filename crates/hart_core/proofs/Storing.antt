@@ -1,36 +1,8 @@
 -- What a stop leaves whole of a run of a mounted world: transactions, and calls that have replied.
-use Rattle.std.proofs.Common.{◌≡◌, ℕ, zero, suc, ◌+◌, ◌<◌, List, [], ◌∷◌, Option, Some, take, sym, ◌∙◌, ap, subst}
-use Rattle.std.specs.Prelude.{slice_get}
-use Rattle.fs_layout.specs.declared.superblock.Super.{Super}
-use Rattle.fs_layout.specs.Recovered.{sizes_of}
-use Rattle.plain_tree.specs.declared.answer.Reply.{Reply}
-use Rattle.plain_tree.specs.declared.call.Call.{Call}
-use Rattle.group_log.specs.declared.marks.Marks.{Marks}
-use Rattle.group_log.specs.Group.{joined}
-use Rattle.group_log.specs.Stories.{IsMarked}
-use Rattle.atomic_programs.specs.Calls.{Theory, State, Event as EventOf, Start as StartOf, Step as StepOf, Outcome as OutcomeOf, Started, Refused, WasIdle, DidWait, DidRun, DidEnd, DidStop, WasStopped, Came as CameOf, AllHonest, all_asked, fresh, makes, next, outcomes, run}
-use Rattle.atomic_programs.specs.Plain.{Code, Plain, all_by_kind, by_kind, erase, plain_outcomes, plain_run}
-use Rattle.atomic_programs.proofs.Erased.{erase-outcomes, erase-run}
-use Rattle.fs_machine.specs.declared.kind.Kind.{Kind}
-use Rattle.fs_machine.specs.LogPart.{Outside}
-use Rattle.inode_machine.specs.Theory.{Refusal}
-use Rattle.calls_on_blocks.specs.History.{first}
-use Rattle.calls_on_blocks.specs.Theory.{block_calls, block_code}
-use Rattle.calls_on_blocks.proofs.Lawful.{is_code}
-use Rattle.calls_on_blocks.specs.Stops.{AreEventsOn, marks_at}
-use Rattle.calls_on_blocks.specs.Whole.{BeganCommit, HasReplied}
-use Rattle.calls_on_blocks.proofs.Whole.{marks_part_none, the_cuts_have_replies}
-use Rattle.hart_core.specs.declared.events.Event.{Event}
+use Rattle.hart_core.proofs.Vocabulary.{◌≡◌, ℕ, zero, suc, ◌+◌, ◌<◌, List, [], ◌∷◌, Option, Some, take, sym, ◌∙◌, ap, subst, slice_get, Super, sizes_of, Reply, Call, Marks, joined, IsMarked, Theory, State, EventOf, Start as StartOf, Step as StepOf, OutcomeOf, Started, Refused, WasIdle, DidWait, DidRun, DidEnd, DidStop, WasStopped, CameOf, AllHonest, all_asked, fresh, makes, next, outcomes, run, Code, Plain, all_by_kind, by_kind, erase, plain_outcomes, plain_run, erase-outcomes, erase-run, Kind, Outside, Refusal, first, block_calls, block_code, is_code, AreEventsOn, marks_at, BeganCommit, HasReplied, marks_part_none, the_cuts_have_replies, Event, Came, came_of, event_of, HartsOf, Rests, AllAnswer, IsHistory, events_of, outcomes_of, IsMarkedBy, doubt_of, last_of, up_to, calls_of}
 use Rattle.hart_core.specs.declared.events.Event.TheVariants as event
-use Rattle.hart_core.specs.declared.events.Came.{Came}
 use Rattle.hart_core.specs.declared.events.Came.TheVariants as came
 use Rattle.hart_core.specs.declared.outcome.Outcome.TheVariants as outcome
-use Rattle.hart_core.specs.Events.{came_of, event_of}
-use Rattle.hart_core.specs.Harts.{HartsOf}
-use Rattle.hart_core.specs.Mounting.{Rests}
-use Rattle.hart_core.specs.Runs.{AllAnswer, IsHistory, events_of, outcomes_of}
-use Rattle.hart_core.specs.Stops.{IsMarkedBy, doubt_of, last_of, up_to}
-use Rattle.hart_core.specs.Worlds.{calls_of}
 use Rattle.hart_core.proofs.Counts.{marked_so, up_to_last}
 use Rattle.hart_core.proofs.Histories.{all_honest}
 use Rattle.hart_core.proofs.Resting.{mountable, rests_erased}

@@ -1,16 +1,6 @@
 -- The calls that aren't finished: one more, and those that end with a reply.
-use Rattle.std.proofs.Common.{◌≡◌, ℕ, ◌+◌, ◌-◌, ◌<◌, ◌≤◌, true, false, List, [], ◌∷◌, ◌++◌, map, length, ◌==◌, get_or, set, refl, sym, ◌∙◌, ap, subst, append_assoc, inl, inr, arith, length-append, Option, Some, None}
+use Rattle.hart_core.proofs.Vocabulary.{◌≡◌, ℕ, ◌+◌, ◌-◌, ◌<◌, ◌≤◌, true, false, List, [], ◌∷◌, ◌++◌, map, length, ◌==◌, get_or, set, refl, sym, ◌∙◌, ap, subst, append_assoc, inl, inr, arith, length-append, Option, Some, None, remove, append-nil, length-map, map-append, nil_from_length, remove-append_right, get_or-append_seam, set-append_seam, cases_Bool, Reply, TracedCall, ends_at, is_nothing, AreUnfinished, unfinished_from}
 use Rattle.std.specs.Option.{is_some}
-use Rattle.std.specs.List.{remove}
-use Rattle.std.proofs.lemmas.List.{append-nil, length-map, map-append, nil_from_length}
-use Rattle.std.proofs.lemmas.List.Edits.{remove-append_right}
-use Rattle.std.proofs.Math.Seq.{get_or-append_seam, set-append_seam}
-use Rattle.std.proofs.lemmas.Bool.{cases_Bool}
-use Rattle.plain_tree.specs.declared.answer.Reply.{Reply}
-use Rattle.plain_tree.specs.declared.trace.TracedCall.{TracedCall}
-use Rattle.plain_tree.specs.Explains.{ends_at}
-use Rattle.plain_tree.specs.Steps.{is_nothing}
-use Rattle.hart_core.specs.Unfinished.{AreUnfinished, unfinished_from}
 
 open_first : (n : ℕ) (c : TracedCall) (cs : List TracedCall) → is_nothing c.finished ≡ true → unfinished_from n (c ∷ cs) ≡ n ∷ unfinished_from (n + 1) cs
 unfolding unfinished_from

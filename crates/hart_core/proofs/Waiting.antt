@@ -1,20 +1,6 @@
 -- A step waits only where it must.
-use Rattle.std.proofs.Common.{◌≡◌, ℕ, List, Option, Some, None, refl, sym, ◌∙◌, ap, subst, inl, inr}
-use Rattle.std.specs.Option.{MatchOption}
-use Rattle.fs_layout.specs.declared.superblock.Super.{Super}
-use Rattle.atomic_programs.specs.Calls.{Theory, Step, Came, Started, Refused, WasIdle, DidWait, DidRun, DidEnd, DidStop, WasStopped, makes}
-use Rattle.atomic_programs.specs.Plain.{Code, PlainMade, PlainHonest, by_kind, plain_makes}
-use Rattle.atomic_programs.proofs.Erased.{erase-makes}
-use Rattle.atomic_programs.proofs.Reached.{honest_event}
-use Rattle.fs_machine.specs.declared.files.OpenFile.{OpenFile}
-use Rattle.fs_machine.specs.Tables.{file_named, holder_of}
-use Rattle.fs_machine.specs.Premises.{IsElsewhere, MayWait}
+use Rattle.hart_core.proofs.Vocabulary.{◌≡◌, ℕ, List, Option, Some, None, refl, sym, ◌∙◌, ap, subst, inl, inr, MatchOption, Super, Theory, Step, CameOf as Came, Started, Refused, WasIdle, DidWait, DidRun, DidEnd, DidStop, WasStopped, makes, Code, PlainMade, PlainHonest, by_kind, plain_makes, erase-makes, honest_event, OpenFile, file_named, holder_of, IsElsewhere, MayWait, block_calls, block_code, is_code, HartsOf, MustWait, WaitsByTheRule, IsWorld}
 use Rattle.fs_machine.specs.Steps as steps
-use Rattle.calls_on_blocks.specs.Theory.{block_calls, block_code}
-use Rattle.calls_on_blocks.proofs.Lawful.{is_code}
-use Rattle.hart_core.specs.Harts.{HartsOf}
-use Rattle.hart_core.specs.Promised.{MustWait, WaitsByTheRule}
-use Rattle.hart_core.specs.Worlds.{IsWorld}
 use Rattle.hart_core.proofs.Keeping.{same, sound, state, told}
 
 -- who waited in the words of the code did so

@@ -1,37 +1,11 @@
 -- The harts of a world, as programs of any calls and as those of the calls that are served.
-use Rattle.std.proofs.Common.{◌≡◌, ◌<◌, ◌≤◌, ℕ, zero, suc, Bool, true, false, nat_lt, List, [], ◌∷◌, length, Option, Some, None, refl, sym, ◌∙◌, ap, subst, get_or, get_or-set_same, get_or-set_other, arith, ◌||◌}
-use Rattle.std.specs.Prelude.{is_some, slice_get, slice_set, if◌then◌else◌}
-use Rattle.std.proofs.lemmas.Bool.Decides.{nat_tests}
-use Rattle.std.proofs.lemmas.List.{get_or_past}
-use Rattle.fs_layout.specs.declared.superblock.Super.{Super}
-use Rattle.plain_tree.specs.declared.answer.Reply.{Reply}
-use Rattle.plain_tree.specs.declared.call.Call.{Call}
-use Rattle.plain_tree.specs.Tree.{put}
-use Rattle.atomic_programs.specs.Prog.{Ret, Do, OfNext, plain, asks, Did, Waits, Ran, Stops, did_in, or_else}
-use Rattle.atomic_programs.specs.Calls.{Start, Step, Outcome as OutcomeOf, Started, Refused, WasIdle, DidWait, DidRun, DidEnd, DidStop, WasStopped, Refuses, Begins, changed, is_some as is_called}
-use Rattle.atomic_programs.specs.Plain.{Plain, PlainMade, MayOf, PlainHonestStep, PlainHonest, SoundPlain, plain_step, plain_unless, plain_prog, plain_tried, plain_moved, plain_start, plain_begun, plain_makes}
-use Rattle.atomic_programs.specs.Machines.{program_at}
-use Rattle.atomic_programs.proofs.Reached.{sound_may}
-use Rattle.fs_machine.specs.declared.kind.Kind.{Kind}
-use Rattle.fs_machine.specs.LogPart.{Outside, Passes}
-use Rattle.fs_machine.specs.Machines.{P}
+use Rattle.hart_core.proofs.Vocabulary.{◌≡◌, ◌<◌, ◌≤◌, ℕ, zero, suc, Bool, true, false, nat_lt, List, [], ◌∷◌, length, Option, Some, None, refl, sym, ◌∙◌, ap, subst, get_or, get_or-set_same, get_or-set_other, arith, ◌||◌, is_some, slice_get, slice_set, if◌then◌else◌, nat_tests, get_or_past, Super, Reply, Call, put, Ret, Do, OfNext, plain, asks, Did, Waits, Ran, Stops, did_in, or_else, Start, Step, OutcomeOf, Started, Refused, WasIdle, DidWait, DidRun, DidEnd, DidStop, WasStopped, Refuses, Begins, changed, is_called, Plain, PlainMade, MayOf, PlainHonestStep, PlainHonest, SoundPlain, plain_step, plain_unless, plain_prog, plain_tried, plain_moved, plain_start, plain_begun, plain_makes, program_at, sound_may, Kind, Outside, Passes, P, Op, Running, running_of, put_elim, SharedState, child_of, begun_by, if_hart, begin_in, block_calls, block_code, lawful, is_code, Outcome, StartRefused, blocks, code, MayStep, HartsOf, busy_in, children_in, outcome_of, programs_of, Makes, IsWorld, calls_of, fault_of, is_child, others_refusal, refusal_of, reason_of, IsOfBytes}
 use Rattle.fs_machine.specs.Steps as steps
-use Rattle.fs_machine.specs.Steps.{State, Op}
-use Rattle.syscalls.specs.Machines.{Running, running_of}
+use Rattle.fs_machine.specs.Steps.{State}
 use Rattle.inode_machine.specs.Theory as calls
-use Rattle.inode_machine.proofs.Frame.{put_elim}
-use Rattle.calls_on_blocks.specs.Layer.{SharedState}
-use Rattle.calls_on_blocks.specs.Theory.{child_of, begun_by, if_hart, begin_in, block_calls, block_code}
-use Rattle.calls_on_blocks.proofs.Lawful.{lawful, is_code}
-use Rattle.hart_core.specs.declared.outcome.Outcome.{Outcome}
 use Rattle.hart_core.specs.declared.outcome.Outcome.TheVariants as outcome
 use Rattle.hart_core.specs.declared.outcome.Stop.TheVariants as stop
-use Rattle.hart_core.specs.declared.starts.StartRefused.{StartRefused}
 use Rattle.hart_core.specs.declared.starts.StartRefused.TheVariants as start
-use Rattle.hart_core.specs.Blocks.{blocks, code, MayStep}
-use Rattle.hart_core.specs.Harts.{HartsOf, busy_in, children_in, outcome_of, programs_of}
-use Rattle.hart_core.specs.Worlds.{Makes, IsWorld, calls_of}
-use Rattle.hart_core.specs.Starts.{fault_of, is_child, others_refusal, refusal_of, reason_of, IsOfBytes}
 use Rattle.hart_core.proofs.Stepping.{plain_same}
 use Rattle.hart_core.proofs.Refusals.{reason_for, reasons_same, now}
 use Rattle.hart_core.proofs.Lasting.{world_more, world_sound}

@@ -1,15 +1,7 @@
 -- The block machine: what harts whose calls are programs of operations make of all that they share, an operation a step. Nothing is said
 -- here of what the calls come to; where each operation may be made is asked, and by nothing given.
 use Rattle.std.specs.Prelude.{◌≡◌, ℕ, [], false}
-use Rattle.plain_tree.specs.declared.answer.Reply.{Reply}
-use Rattle.atomic_programs.specs.Logic.{Machine}
-use Rattle.atomic_programs.specs.Calls.{Theory, Begins}
-use Rattle.atomic_programs.specs.Plain.{Code, Plain, MayOf}
-use Rattle.fs_machine.specs.declared.kind.Kind.{Kind}
-use Rattle.fs_machine.specs.LogPart.{Outside}
-use Rattle.fs_machine.specs.Steps.{State, Op, Answer, exec, kind_of}
-use Rattle.fs_machine.specs.Premises.{May, Honest, MayWait}
-use Rattle.fs_machine.specs.Machines.{P}
+use Rattle.hart_core.specs.Vocabulary.{Reply, Machine, Theory, Begins, Code, Plain, MayOf, Kind, Outside, State, Op, Answer, exec, kind_of, May, Honest, MayWait, P}
 
 -- the operations, and no history
 abbrev pub operations : Machine

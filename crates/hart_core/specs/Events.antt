@@ -1,11 +1,5 @@
 -- Events, and what they come to.
-use Rattle.plain_tree.specs.declared.answer.Reply.{Reply}
-use Rattle.plain_tree.specs.declared.call.Call.{Call}
-use Rattle.atomic_programs.specs.Calls.{Event as EventOf, Start as StartOf, Step as StepOf, Outcome as OutcomeOf, Started as WasStarted, Refused as WasRefused}
-use Rattle.fs_machine.specs.declared.kind.Kind.{Kind}
-use Rattle.fs_machine.specs.LogPart.{Outside, Passes}
-use Rattle.fs_machine.specs.Steps.{State}
-use Rattle.inode_machine.specs.Theory.{Refusal}
+use Rattle.hart_core.specs.Vocabulary.{Reply, Call, EventOf, StartOf, StepOf, OutcomeOf, WasStarted, WasRefused, Kind, Outside, Passes, State, Refusal}
 use Rattle.hart_core.specs.declared.events.Event.{Event}
 use Rattle.hart_core.specs.declared.events.Event.TheVariants as event
 use Rattle.hart_core.specs.declared.events.Came.{Came}

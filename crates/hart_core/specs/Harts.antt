@@ -1,14 +1,6 @@
 -- What harts' machines over all that they share stand for.
 use Rattle.std.specs.Prelude.{◌≡◌, ℕ, Bool, List, length, Option, Some, None, IsSome, get_or, is_some, replicate}
-use Rattle.buffer_cache.specs.Limits.{hart_count}
-use Rattle.plain_tree.specs.declared.answer.Reply.{Reply}
-use Rattle.atomic_programs.specs.Calls.{Outcome as OutcomeOf, WasIdle, DidWait, DidRun, DidEnd, DidStop, WasStopped}
-use Rattle.atomic_programs.specs.Tables.{PlaceFits, plain_at}
-use Rattle.fs_machine.specs.declared.kind.Kind.{Kind}
-use Rattle.fs_machine.specs.declared.shared.Core.{Core}
-use Rattle.fs_machine.specs.LogPart.{Outside, Passes, Fails}
-use Rattle.fs_machine.specs.Steps.{State, state_of}
-use Rattle.syscalls.specs.Machines.{Running, running_of, RunningFits}
+use Rattle.hart_core.specs.Vocabulary.{hart_count, Reply, OutcomeOf, WasIdle, DidWait, DidRun, DidEnd, DidStop, WasStopped, PlaceFits, plain_at, Kind, Core, Outside, Passes, Fails, State, state_of, Running, running_of, RunningFits}
 use Rattle.hart_core.specs.declared.outcome.Outcome.{Outcome}
 use Rattle.hart_core.specs.declared.outcome.Outcome.TheVariants as outcome
 use Rattle.hart_core.specs.declared.outcome.Stop.TheVariants as stop

@@ -1,3 +1,4 @@
+pub mod Vocabulary
 pub mod Blocks
 pub mod Harts
 pub mod Mounting

@@ -1,19 +1,6 @@
 -- What a mount comes to.
 use Rattle.std.specs.Prelude.{◌≡◌, ◌≢◌, ℕ, false, true, All, List, [], None, replicate}
-use Rattle.block_device.specs.Blocks.{HasBytes, HasWholeBlocks, block_at}
-use Rattle.fs_layout.specs.Recovered.{logged, recovered, sizes_of, IsOutsideLog}
-use Rattle.buffer_cache.specs.Limits.{buffer_count, hart_count}
-use Rattle.buffer_cache.specs.Seats.{unused_from}
-use Rattle.group_log.specs.declared.phase.Phase.TheVariants.{Open}
-use Rattle.group_log.specs.Soundness.{IsPlaced}
-use Rattle.image_tree.specs.declared.fault.MountFault.{MountFault}
-use Rattle.image_tree.specs.declared.fault.MountFault.TheVariants.{DeviceFault}
-use Rattle.image_tree.specs.Damage.{IsWellFormed, JudgesFault, fault_count_of}
-use Rattle.image_tree.specs.Trees.{tree_in}
-use Rattle.image_tree.specs.Checks.{is_marked}
-use Rattle.image_tree.specs.Inodes.{numbers_by}
-use Rattle.image_tree.specs.Shape.{is_orphan}
-use Rattle.image_tree.specs.Freeing.{AreNamed}
+use Rattle.hart_core.specs.Vocabulary.{HasBytes, HasWholeBlocks, block_at, logged, recovered, sizes_of, IsOutsideLog, buffer_count, hart_count, unused_from, Open, IsPlaced, MountFault, DeviceFault, IsWellFormed, JudgesFault, fault_count_of, tree_in, is_marked, numbers_by, is_orphan, AreNamed}
 use Rattle.fs_machine.specs.Fresh.{fresh}
 use Rattle.hart_core.specs.Harts.{HartsOf}
 

@@ -1,21 +1,6 @@
 -- What always holds of a world, in plain words.
 use Rattle.std.specs.Prelude.{◌≡◌, ◌≢◌, ◌⊎◌, ℕ, ◌<◌, List, length, false, Some, None, get_or, IsTrue}
-use Rattle.fs_layout.specs.declared.superblock.Super.{Super}
-use Rattle.atomic_programs.specs.Calls.{Step, DidWait}
-use Rattle.fs_machine.specs.Tables.{holder_of}
-use Rattle.buffer_cache.specs.Limits.{hart_count}
-use Rattle.buffer_cache.specs.Lists.{count_of}
-use Rattle.buffer_cache.specs.Seats.{is_held_by, holder_of as buffer_holder}
-use Rattle.group_log.specs.Turns.{turn_is_out}
-use Rattle.fs_machine.specs.LogPart.{LogPart, Outside}
-use Rattle.fs_machine.specs.Premises.{IsElsewhere, JoinWaits}
-use Rattle.fs_machine.specs.Shown.{seen_of}
-use Rattle.fs_machine.specs.Steps.{State}
-use Rattle.inodes_on_blocks.specs.Seen.{IsRecoveredSo}
-use Rattle.image_tree.specs.Damage.{IsWellFormed}
-use Rattle.image_tree.specs.Trees.{tree_in}
-use Rattle.inodes_on_blocks.specs.Below.{disk_of}
-use Rattle.inodes_on_blocks.specs.OnBlocks.{is_joined}
+use Rattle.hart_core.specs.Vocabulary.{Super, StepOf as Step, DidWait, holder_of, hart_count, count_of, is_held_by, buffer_holder, turn_is_out, LogPart, Outside, IsElsewhere, JoinWaits, seen_of, State, IsRecoveredSo, IsWellFormed, tree_in, disk_of, is_joined}
 use Rattle.hart_core.specs.Harts.{HartsOf, shared_of}
 use Rattle.hart_core.specs.Worlds.{Answers, Makes}
 

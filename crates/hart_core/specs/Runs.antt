@@ -1,25 +1,7 @@
 -- Lists of events: what they make of a world, what they show of calls, and the list of tree steps that explains it.
 use Rattle.std.specs.Prelude.{◌≡◌, ◌⊎◌, ℕ, false, List, [], ◌∷◌}
 use Rattle.std.specs.List.{All}
-use Rattle.fs_layout.specs.declared.superblock.Super.{Super}
-use Rattle.fs_layout.specs.Recovered.{sizes_of}
-use Rattle.image_tree.specs.Trees.{tree_in}
-use Rattle.plain_tree.specs.declared.answer.Reply.{Reply}
-use Rattle.plain_tree.specs.declared.call.Call.{Call}
-use Rattle.plain_tree.specs.declared.trace.Placed.{Placed}
-use Rattle.plain_tree.specs.declared.trace.Trace.{Trace}
-use Rattle.plain_tree.specs.declared.trace.TracedCall.{TracedCall}
-use Rattle.plain_tree.specs.Calls.{call_climbs}
-use Rattle.plain_tree.specs.Explains.{Shown, Explains, trace_of}
-use Rattle.plain_tree.specs.Explains.Shown.{Started, Replied, Other}
-use Rattle.plain_tree.specs.TreeData.{TreeData}
-use Rattle.atomic_programs.specs.Calls.{Event as EventOf, Outcome as OutcomeOf, all_asked, fresh, run}
-use Rattle.atomic_programs.specs.Plain.{Plain, PlainHonest, plain_makes, plain_run, plain_outcomes}
-use Rattle.fs_machine.specs.declared.kind.Kind.{Kind}
-use Rattle.fs_machine.specs.LogPart.{Outside}
-use Rattle.inode_machine.specs.Theory.{Refusal}
-use Rattle.calls_on_blocks.specs.History.{first}
-use Rattle.calls_on_blocks.specs.Theory.{block_calls, block_code}
+use Rattle.hart_core.specs.Vocabulary.{Super, sizes_of, tree_in, Reply, Call, Placed, Trace, TracedCall, call_climbs, Shown, Explains, trace_of, Started, Replied, Other, TreeData, EventOf, OutcomeOf, all_asked, fresh, run, Plain, PlainHonest, plain_makes, plain_run, plain_outcomes, Kind, Outside, Refusal, first, block_calls, block_code}
 use Rattle.hart_core.specs.declared.events.Event.{Event}
 use Rattle.hart_core.specs.declared.events.Event.TheVariants as event
 use Rattle.hart_core.specs.declared.events.Came.{Came}

@@ -1,19 +1,10 @@
 -- Why a call isn't started.
 use Rattle.std.specs.Prelude.{◌≡◌, ℕ, Bool, true, List, length, Option, Some, None, Result, Ok, Err, if◌then◌else◌, nat_lt, ◌==◌, ◌||◌}
-use Rattle.buffer_cache.specs.Limits.{hart_count}
-use Rattle.std.specs.List.{list_any}
-use Rattle.atomic_programs.specs.Prog.{or_else}
-use Rattle.plain_tree.specs.declared.call.Call.{Call}
-use Rattle.plain_tree.specs.declared.call.Call.TheVariants.{Open, Read, Write, Link, Unlink, Mkdir, Chdir, Dup, Fstat, Close, Inherit}
+use Rattle.hart_core.specs.Vocabulary.{hart_count, list_any, or_else, Call, OpenCall as Open, Read, Write, Link, Unlink, Mkdir, Chdir, Dup, Fstat, Close, Inherit, OutcomeOf, WasStarted as Started, WasRefused as Refused, Kind, Reply, are_bytes, has_file, reserved}
 use Rattle.hart_core.specs.declared.starts.StartRefused.{StartRefused}
 use Rattle.hart_core.specs.declared.starts.StartRefused.TheVariants as start
 use Rattle.hart_core.specs.declared.starts.StartRefused.TheVariants.{PathTooLong, ZeroInPath, TooLong}
-use Rattle.atomic_programs.specs.Calls.{Outcome as OutcomeOf, Started, Refused}
-use Rattle.fs_machine.specs.declared.kind.Kind.{Kind}
-use Rattle.plain_tree.specs.declared.answer.Reply.{Reply}
 use Rattle.inode_machine.specs.Theory as calls
-use Rattle.inode_machine.specs.Theory.{are_bytes}
-use Rattle.calls_on_blocks.specs.Theory.{has_file, reserved}
 use Rattle.hart_core.specs.Harts.{HartsOf, busy_in, children_in}
 
 -- bytes of the longest path

@@ -1,25 +1,6 @@
 -- A stop after a run of a mounted world: how much of it the disk holds.
 use Rattle.std.specs.Prelude.{◌≡◌, ◌⊎◌, ℕ, zero, suc, ◌+◌, ◌<◌, List, [], ◌∷◌, ◌++◌, Option, Some, None, slice_get, take}
-use Rattle.fs_layout.specs.declared.superblock.Super.{Super}
-use Rattle.plain_tree.specs.declared.answer.Reply.{Reply}
-use Rattle.plain_tree.specs.declared.call.Call.{Call}
-use Rattle.plain_tree.specs.declared.trace.Placed.{Placed}
-use Rattle.plain_tree.specs.declared.trace.Trace.{Trace}
-use Rattle.plain_tree.specs.declared.trace.TracedCall.{TracedCall}
-use Rattle.plain_tree.specs.Explains.{Chain, Explains, IsNamedPart, acts_of}
-use Rattle.plain_tree.specs.Tree.{Tree, tree_of}
-use Rattle.plain_tree.specs.TreeData.{TreeData}
-use Rattle.image_tree.specs.Trees.{tree_in}
-use Rattle.group_log.specs.declared.marks.Marks.{Marks}
-use Rattle.group_log.specs.Group.{joined}
-use Rattle.group_log.specs.Stories.{no_marks}
-use Rattle.tree_laws.specs.MoveLaws.{before}
-use Rattle.atomic_programs.specs.Calls.{Event as EventOf}
-use Rattle.atomic_programs.specs.Plain.{Plain, plain_makes, plain_run}
-use Rattle.fs_machine.specs.LogPart.{LogPart, Outside}
-use Rattle.calls_on_blocks.specs.Theory.{block_calls, block_code}
-use Rattle.calls_on_blocks.specs.Marks.{marks_told, at_point}
-use Rattle.calls_on_blocks.specs.Stops.{marks_at}
+use Rattle.hart_core.specs.Vocabulary.{Super, Reply, Call, Placed, Trace, TracedCall, Chain, Explains, IsNamedPart, acts_of, Tree, tree_of, TreeData, tree_in, Marks, joined, no_marks, before, EventOf, Plain, plain_makes, plain_run, LogPart, Outside, block_calls, block_code, marks_told, at_point, marks_at}
 use Rattle.hart_core.specs.declared.events.Event.{Event}
 use Rattle.hart_core.specs.declared.events.Event.TheVariants as event
 use Rattle.hart_core.specs.declared.events.Came.{Came}

@@ -1,7 +1,6 @@
 -- The calls of a trace that aren't finished, by their places.
 use Rattle.std.specs.Prelude.{◌≡◌, ℕ, ◌+◌, List, [], ◌∷◌, if◌then◌else◌}
-use Rattle.plain_tree.specs.declared.trace.TracedCall.{TracedCall}
-use Rattle.plain_tree.specs.Steps.{is_nothing}
+use Rattle.hart_core.specs.Vocabulary.{TracedCall, is_nothing}
 
 -- their places, rising, where the first of these calls has this place
 unfoldable pub unfinished_from : ℕ → List TracedCall → List ℕ

@@ -1,21 +1,6 @@
 -- What a world is to its callers, and what it keeps.
 use Rattle.std.specs.Prelude.{◌≡◌, ℕ, List}
-use Rattle.fs_layout.specs.declared.superblock.Super.{Super}
-use Rattle.fs_layout.specs.Recovered.{sizes_of}
-use Rattle.plain_tree.specs.declared.answer.Reply.{Reply}
-use Rattle.plain_tree.specs.declared.call.Call.{Call}
-use Rattle.atomic_programs.specs.Calls.{Event, Outcome, fresh}
-use Rattle.atomic_programs.specs.Plain.{Plain, PlainHonest, plain_makes}
-use Rattle.atomic_programs.specs.Shown.{CameTo}
-use Rattle.atomic_programs.specs.Tables.{plain_at}
-use Rattle.fs_machine.specs.declared.kind.Kind.{Kind}
-use Rattle.fs_machine.specs.LogPart.{Outside}
-use Rattle.syscalls.specs.Machines.{running_of}
-use Rattle.inode_parts.specs.Sizes.{IsSized}
-use Rattle.inode_machine.specs.Theory.{Refusal}
-use Rattle.inodes_on_blocks.specs.Mounted.{IsMountable}
-use Rattle.calls_on_blocks.specs.History.{first}
-use Rattle.calls_on_blocks.specs.Theory.{block_calls, block_code}
+use Rattle.hart_core.specs.Vocabulary.{Super, sizes_of, Reply, Call, EventOf as Event, OutcomeOf as Outcome, fresh, Plain, PlainHonest, plain_makes, CameTo, plain_at, Kind, Outside, running_of, IsSized, Refusal, IsMountable, first, block_calls, block_code}
 use Rattle.hart_core.specs.Harts.{HartsOf, children_in, shared_of}
 
 -- eight harts, and the sizes of their disk

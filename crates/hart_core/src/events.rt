@@ -1,7 +1,6 @@
 // Events, and what they come to.
 ghost use Rattle.std.specs.Prelude.{◌≡◌};
-ghost use Rattle.atomic_programs.specs.Calls.{with_answer};
-ghost use Rattle.fs_machine.specs.Machines.{CallsOnce};
+ghost use Rattle.hart_core.specs.Vocabulary.{with_answer, CallsOnce};
 ghost use Rattle.hart_core.specs.Events.{event_of, came_of, said_of};
 ghost use Rattle.hart_core.specs.Harts.{shared_of};
 ghost use Rattle.hart_core.specs.Worlds.{Answers, Makes};

@@ -1,11 +1,6 @@
 // A step of a hart's call in its place.
 ghost use Rattle.std.specs.Prelude.{◌≡◌, ◌<◌, false, None};
-ghost use Rattle.atomic_programs.specs.Plain.{PlainHonestStep, MayOf, hart_step};
-ghost use Rattle.atomic_programs.specs.Machines.{program_at};
-ghost use Rattle.fs_machine.specs.Steps.{state_of};
-ghost use Rattle.fs_machine.specs.Machines.{CallsOnce};
-ghost use Rattle.fs_machine.specs.Tied.{LeavesTied};
-ghost use Rattle.syscalls.specs.Machines.{running_of};
+ghost use Rattle.hart_core.specs.Vocabulary.{PlainHonestStep, MayOf, hart_step, program_at, state_of, CallsOnce, LeavesTied, running_of};
 ghost use Rattle.hart_core.specs.Blocks.{blocks, code};
 ghost use Rattle.hart_core.specs.Harts.{outcome_of, outcome_with, said, HartFits, IsTold};
 

@@ -1,8 +1,6 @@
 // How much of a run a stop leaves.
 ghost use Rattle.std.specs.Prelude.{◌≡◌};
-ghost use Rattle.fs_machine.specs.LogPart.{is_open};
-ghost use Rattle.group_log.specs.Stories.{no_marks};
-ghost use Rattle.calls_on_blocks.specs.Marks.{marks_told};
+ghost use Rattle.hart_core.specs.Vocabulary.{is_open, no_marks, marks_told};
 ghost use Rattle.hart_core.specs.Stops.{last_of, doubt_of};
 
 use group_log::{Marks, Phase, Progress};

@@ -1,13 +1,7 @@
 // How the harts come to be over a device.
 ghost use Rattle.std.specs.Prelude.{◌≡◌, IfOk, IfErr};
-ghost use Rattle.block_device.specs.Blocks.{HasBytes, HasWholeBlocks};
-ghost use Rattle.block_device.specs.Calls.{ComesByCalls};
-ghost use Rattle.fs_layout.specs.Recovered.{sizes_of};
-ghost use Rattle.buffer_cache.specs.Limits.{buffer_count};
-ghost use Rattle.buffer_cache.specs.Seats.{unused_from};
+ghost use Rattle.hart_core.specs.Vocabulary.{HasBytes, HasWholeBlocks, ComesByCalls, sizes_of, buffer_count, unused_from, IsPlaced, IsWellFormed, faults_with};
 ghost use Rattle.fs_machine.specs.Fresh.{fresh};
-ghost use Rattle.group_log.specs.Soundness.{IsPlaced};
-ghost use Rattle.image_tree.specs.Damage.{IsWellFormed, faults_with};
 ghost use Rattle.hart_core.specs.Harts.{AreIdle};
 ghost use Rattle.hart_core.specs.Mounting.{IsSettled, HandsBack, Rests};
 
@@ -15,13 +9,11 @@ use crate::calls::Calls;
 use crate::harts::Harts;
 use block_device::Device;
 use buffer_cache::{Buffers, Cache};
-use fs_layout::Super;
-use fs_machine::Core;
-use fs_machine::Tables;
-use group_log::Log;
-use image_tree::{MountFault, examine_layout};
 use calls_on_blocks::logs_may_begin;
-use image_tree::settle;
+use fs_layout::Super;
+use fs_machine::{Core, Tables};
+use group_log::Log;
+use image_tree::{MountFault, examine_layout, settle};
 use std::alloc::Global;
 
 /// All memory that a file system takes, and the sizes of its disk.

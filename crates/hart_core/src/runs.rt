@@ -1,6 +1,6 @@
 // Lists of events.
 ghost use Rattle.std.specs.Prelude.{◌≡◌, ◌≤◌, IfOk, IfErr, length, []};
-ghost use Rattle.std.specs.Vec.{vec_capacity};
+ghost use Rattle.hart_core.specs.Vocabulary.{vec_capacity};
 ghost use Rattle.hart_core.specs.Runs.{HasHistory, OneHistory};
 ghost use Rattle.hart_core.specs.Stops.{HasMarks, RunLeavesABeginning};
 

@@ -1,7 +1,6 @@
 // What is tested before a call is started.
 ghost use Rattle.std.specs.Prelude.{◌≡◌, true, None};
-ghost use Rattle.calls_on_blocks.specs.Theory.{child_of};
-ghost use Rattle.inode_machine.specs.Theory.{are_bytes};
+ghost use Rattle.hart_core.specs.Vocabulary.{child_of, are_bytes};
 ghost use Rattle.hart_core.specs.Starts.{fault_of, path_fault, part_fault, IsOfBytes};
 
 use plain_tree::{Bytes, Call};

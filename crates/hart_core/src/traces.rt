@@ -1,7 +1,6 @@
 // What a list of events shows of calls.
 ghost use Rattle.std.specs.Prelude.{◌≡◌, ◌∷◌, ◌++◌, [], None, IfOk, OnOk, map};
-ghost use Rattle.std.specs.Option.{is_some};
-ghost use Rattle.plain_tree.specs.Explains.{ends_at, noted};
+ghost use Rattle.hart_core.specs.Vocabulary.{is_some, ends_at, noted};
 ghost use Rattle.hart_core.specs.Runs.{shown, shown_outcome, trace_in};
 ghost use Rattle.hart_core.specs.Unfinished.{AreUnfinished};
 

@@ -1,10 +1,5 @@
 -- Which of a row of seats are in the list.
-use Rattle.std.proofs.Common.{ℕ, ◌≡◌, ◌≢◌, ◌<◌, ◌≤◌, ◌+◌, ◌∙◌, [], List, All, map, take, length, slice_get, slice_index_or, sym, ap, subst, refl, arith}
-use Rattle.std.proofs.lemmas.List.{length-map, take_all, get_or-map}
-use Rattle.std.proofs.lemmas.List.Elements.{All-more, Contains-get_or}
-use Rattle.locked_world.specs.Kept.{StoredRun, replies_of}
-use Rattle.hart_runner.specs.Seats.{SeatV, kept_view, kept_of, IsListed, OneDiffers, Differs}
-use Rattle.hart_runner.specs.declared.kernel.Kept.{Kept}
+use Rattle.hart_runner.proofs.Vocabulary.{ℕ, ◌≡◌, ◌≢◌, ◌<◌, ◌≤◌, ◌+◌, ◌∙◌, [], List, All, map, take, length, slice_get, slice_index_or, sym, ap, subst, refl, arith, length-map, take_all, get_or-map, All-more, Contains-get_or, StoredRun, replies_of, SeatV, kept_view, kept_of, IsListed, OneDiffers, Differs, Kept}
 
 at : (xs : List Kept) (i : ℕ) (x : Kept) → i < length xs → x ≡ slice_index_or xs i x → slice_index_or (map kept_view xs) i (kept_view x) ≡ kept_view x
 at xs i x lt e = get_or-map kept_view xs i x (kept_view x) lt ∙ ap kept_view (sym e)

@@ -6,12 +6,10 @@ use denote.Param.Send.{IsSend, IsSync, view_send, sendable}
 use denote.Param.SendFields.{as_row_send, declared_send, declared_sync, FieldsHave}
 use denote.Struct.Field.{row_field}
 use denote.Struct.Tuple.{TupleAt, parts, type_at}
-use Rattle.std.proofs.Crossing.{crosses}
+use Rattle.hart_runner.proofs.Vocabulary.{crosses, LedgerGhosts, DeviceGhosts}
 use Rattle.std.proofs.sync.Mutex.TheSendSync as mutex
 use Rattle.std.proofs.sync.Condvar.TheSendSync as condvar
 use Rattle.std.proofs.sync.ledger.Book.TheSendSync as book
-use Rattle.std.specs.declared.sync.ledger.Ledger.{Ghosts as LedgerGhosts}
-use Rattle.block_device.specs.declared.device.Device.{Ghosts as DeviceGhosts}
 use Rattle.block_device.proofs.fused.Fused.TheSendSync as fused
 use Rattle.buffer_cache.proofs.buffer.Buffer.TheSendSync as buffer
 use Rattle.buffer_cache.specs.contracts.cache.Cache as cache

@@ -1,11 +1,5 @@
 -- A seat's reply stands in the list.
-use Rattle.std.proofs.Common.{ℕ, ◌≡◌, ◌<◌, ◌++◌, ◌∷◌, [], ◌∙◌, List, All, Some, length, slice_get, slice_index_or, sym, ap, subst, arith}
-use Rattle.std.proofs.lemmas.Option.{slice_get_read}
-use Rattle.std.proofs.lemmas.List.{length-append}
-use Rattle.std.proofs.Math.Seq.{get_or-append_seam}
-use Rattle.locked_world.specs.Kept.{StoredRun, replies_of}
-use Rattle.plain_tree.specs.declared.answer.Reply.{Reply}
-use Rattle.hart_runner.specs.Seats.{SeatV}
+use Rattle.hart_runner.proofs.Vocabulary.{ℕ, ◌≡◌, ◌<◌, ◌++◌, ◌∷◌, [], ◌∙◌, List, All, Some, length, slice_get, slice_index_or, sym, ap, subst, arith, slice_get_read, length-append, get_or-append_seam, StoredRun, replies_of, Reply, SeatV}
 
 -- what was added last stands there
 pub added : (xs : List Reply) (v : Reply) → slice_get (xs ++ v ∷ []) (length xs) ≡ Some v

@@ -1,9 +1,6 @@
 -- What a call says.
 use Rattle.std.specs.Prelude.{ℕ, ◌≡◌, ◌+◌, ◌++◌, ◌∷◌, [], length}
-use Rattle.plain_tree.specs.declared.call.Call.{Call}
-use Rattle.locked_world.specs.HandedBack.{HandsBack}
-use Rattle.locked_world.specs.declared.locked.Receipt.{Receipt}
-use Rattle.locked_world.specs.declared.locked.Told.{Told}
+use Rattle.hart_runner.specs.Vocabulary.{Call, HandsBack, Receipt, Told}
 use Rattle.locked_world.specs.declared.locked.Told.TheVariants as told
 use Rattle.hart_runner.specs.Seats.{SeatV, BusyV, busy_of}
 use Rattle.hart_runner.specs.declared.kernel.CallFault.{CallFault}

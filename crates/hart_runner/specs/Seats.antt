@@ -1,8 +1,6 @@
 -- Seats as callers see them.
 use Rattle.std.specs.Prelude.{ℕ, ◌+◌, ◌≡◌, ◌≢◌, List, Contains, slice_get}
-use Rattle.locked_world.specs.Kept.{StoredRun, replies_of}
-use Rattle.plain_tree.specs.declared.answer.Reply.{Reply}
-use Rattle.plain_tree.specs.declared.call.Call.{Call}
+use Rattle.hart_runner.specs.Vocabulary.{StoredRun, replies_of, Reply, Call}
 use Rattle.hart_runner.specs.declared.kernel.Kept.{Kept}
 
 -- a hart, its replies, and what its share counts

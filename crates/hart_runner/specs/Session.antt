@@ -1,7 +1,6 @@
 -- Receipts beside seats and lists.
 use Rattle.std.specs.Prelude.{◌≡◌, Some, slice_get}
-use Rattle.locked_world.specs.Kept.{StoredRun, replies_of}
-use Rattle.locked_world.specs.declared.locked.Receipt.{Receipt}
+use Rattle.hart_runner.specs.Vocabulary.{StoredRun, replies_of, Receipt}
 use Rattle.hart_runner.specs.Seats.{SeatV}
 
 -- the receipt is one of the seat's replies

@@ -1,11 +1,5 @@
 -- Lists that are gathered from inodes, where no number is named twice.
-use Rattle.std.proofs.Common.{◌≡◌, ◌≢◌, inl, inr, ℕ, zero, suc, ◌+◌, ◌<◌, ◌≤◌, List, [], ◌∷◌, ◌++◌, length, length-append, append_assoc, sym, ◌∙◌, ap, subst, arith, Contains}
-use Rattle.std.specs.List.{All}
-use Rattle.std.proofs.lemmas.Bool.{cases_eq}
-use Rattle.std.proofs.lemmas.List.{append-nil, get_or_append_left, get_or-append-add}
-use Rattle.std.proofs.lemmas.List.Elements.{Contains-append_left, Contains-append_right, All-append}
-use Rattle.std.proofs.lemmas.List.Kept.{AllPairs-cons}
-use Rattle.image_tree.specs.Lists.{IsOnce, gathered}
+use Rattle.image_tree.proofs.Vocabulary.{◌≡◌, ◌≢◌, inl, inr, ℕ, zero, suc, ◌+◌, ◌<◌, ◌≤◌, List, [], ◌∷◌, ◌++◌, length, length-append, append_assoc, sym, ◌∙◌, ap, subst, arith, Contains, All, cases_eq, append-nil, get_or_append_left, get_or-append-add, Contains-append_left, Contains-append_right, All-append, AllPairs-cons, IsOnce, gathered}
 use Rattle.image_tree.proofs.MarkLemmas.{front_once}
 use Rattle.image_tree.proofs.NumberLists.{All-front}
 use Rattle.image_tree.proofs.SlotNumbers.{All-last}

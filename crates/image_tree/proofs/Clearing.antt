@@ -1,9 +1,5 @@
 -- Bits that are cleared, one after the other.
-use Rattle.std.proofs.Common.{◌≡◌, ◌≢◌, ◌==◌, inl, inr, ℕ, ◌+◌, ◌<◌, Bool, false, if◌then◌else◌, List, length, get_or, refl, sym, ◌∙◌, ap, subst, arith}
-use Rattle.std.specs.List.{All}
-use Rattle.std.proofs.lemmas.Bool.{cases_eq, eq-eqb, ne_eqb}
-use Rattle.std.proofs.lemmas.List.{get_or_default}
-use Rattle.fs_layout.specs.Bits.{bit_of}
+use Rattle.image_tree.proofs.Vocabulary.{◌≡◌, ◌≢◌, ◌==◌, inl, inr, ℕ, ◌+◌, ◌<◌, Bool, false, if◌then◌else◌, List, length, get_or, refl, sym, ◌∙◌, ap, subst, arith, All, cases_eq, eq-eqb, ne_eqb, get_or_default, bit_of}
 
 -- of the first i of these numbers the bits are clear, but for 0's; no other bit is changed
 pub record ClearedTo (first now numbers : List ℕ) (i : ℕ) : Type 0 where

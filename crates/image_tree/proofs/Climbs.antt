@@ -1,13 +1,5 @@
 -- Going up by "..", step by step and by jumps.
-use Rattle.std.proofs.Common.{◌≡◌, ◌≢◌, ◌↔◌, ◌∙◌, ap, sym, refl, ℕ, zero, suc, ◌+◌, ◌-◌, ◌^◌, ◌<◌, ◌≤◌, Bool, true, IsTrue, eqb, List, [], ◌∷◌, length, get_or, map, arith, ⊎_elim}
-use Rattle.std.specs.List.{AllPairs, list_any}
-use Rattle.std.proofs.Math.Nat.{pow-suc}
-use Rattle.std.proofs.lemmas.List.{get_or_past, get_or-map, length-map}
-use Rattle.std.proofs.lemmas.Bool.{cases_eq, cases_lt, ne_eqb, false≢true}
-use Rattle.std.proofs.lemmas.Bool.Decides.{Decides-eqb}
-use Rattle.std.proofs.lemmas.Map.Steps.{length-le_from_distinct_below}
-use Rattle.std.proofs.lemmas.Map.Made.{IsDistinct-from_AllPairs}
-use Rattle.image_tree.specs.Links.{climb, Reaches}
+use Rattle.image_tree.proofs.Vocabulary.{◌≡◌, ◌≢◌, ◌↔◌, ◌∙◌, ap, sym, refl, ℕ, zero, suc, ◌+◌, ◌-◌, ◌^◌, ◌<◌, ◌≤◌, Bool, true, IsTrue, eqb, List, [], ◌∷◌, length, get_or, map, arith, ⊎_elim, AllPairs, list_any, pow-suc, get_or_past, get_or-map, length-map, cases_eq, cases_lt, ne_eqb, false≢true, Decides-eqb, length-le_from_distinct_below, IsDistinct-from_AllPairs, climb, Reaches}
 
 climb-none : (f : ℕ → ℕ) (d : ℕ) → climb f 0 d ≡ d
 unfolding climb

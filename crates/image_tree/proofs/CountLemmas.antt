@@ -1,15 +1,5 @@
 -- Counts, and how often inodes are named.
-use Rattle.std.proofs.Common.{◌≡◌, ◌↔◌, ◌∙◌, sym, subst, ℕ, ◌<◌, ◌≤◌, min, Bool, true, false, IsTrue, List, length, get_or, arith}
-use Rattle.std.proofs.lemmas.List.{get_or_default}
-use Rattle.std.proofs.lemmas.Bool.{false≢true}
-use Rattle.fs_layout.specs.declared.inode.Dinode.{Dinode}
-use Rattle.image_tree.specs.Lists.{times}
-use Rattle.image_tree.specs.Inodes.{inode_of, is_free, is_node}
-use Rattle.image_tree.specs.Links.{names_of, further_names_of, children_of}
-use Rattle.image_tree.specs.Checks.{IsGoodCount}
-use Rattle.image_tree.specs.Marks.{Tallies}
-use Rattle.image_tree.specs.declared.disk.Layout.{Layout}
-use Rattle.image_tree.specs.Layout.{IsLayout}
+use Rattle.image_tree.proofs.Vocabulary.{◌≡◌, ◌↔◌, ◌∙◌, sym, subst, ℕ, ◌<◌, ◌≤◌, min, Bool, true, false, IsTrue, List, length, get_or, arith, get_or_default, false≢true, Dinode, times, inode_of, is_free, is_node, names_of, further_names_of, children_of, IsGoodCount, Tallies, Layout, IsLayout}
 use Rattle.image_tree.proofs.Nodes.{node_is, node_from}
 
 abbrev pub GoodCount : List (List ℕ) → ℕ → Type 0

@@ -1,17 +1,5 @@
 -- The slots of live directories, and the table of nodes.
-use Rattle.std.proofs.Common.{◌≡◌, ◌↔◌, ◌∙◌, ap, sym, refl, subst, ℕ, ◌+◌, ◌<◌, ◌≤◌, Bool, true, false, not, IsTrue, List, [], ◌∷◌, ◌++◌, length, get_or, arith, length-append, ⊎_elim, Option, None}
-use Rattle.std.specs.Prelude.{◌&&◌, nat_lt}
-use Rattle.std.proofs.lemmas.List.{get_or_past, get_or_append_left, get_or_at}
-use Rattle.std.proofs.lemmas.Bool.{false≢true, false_from_ne_true, cases_lt, lt-ltb, and_parts}
-use Rattle.fs_layout.specs.declared.inode.Dinode.{Dinode}
-use Rattle.fs_layout.specs.declared.entry.Dirent.{Dirent}
-use Rattle.fs_layout.specs.Recovered.{sizes_of}
-use Rattle.image_tree.specs.Inodes.{inode_of, is_free, is_directory, is_live, is_node, is_live_directory}
-use Rattle.image_tree.specs.Links.{slots_in, slot_numbers}
-use Rattle.image_tree.specs.Checks.{AreGoodSlots, IsDotDot}
-use Rattle.image_tree.specs.Marks.{IsNodeTable}
-use Rattle.image_tree.specs.declared.disk.Layout.{Layout}
-use Rattle.image_tree.specs.Layout.{IsLayout}
+use Rattle.image_tree.proofs.Vocabulary.{◌≡◌, ◌↔◌, ◌∙◌, ap, sym, refl, subst, ℕ, ◌+◌, ◌<◌, ◌≤◌, Bool, true, false, not, IsTrue, List, [], ◌∷◌, ◌++◌, length, get_or, arith, length-append, ⊎_elim, Option, None, ◌&&◌, nat_lt, get_or_past, get_or_append_left, get_or_at, false≢true, false_from_ne_true, cases_lt, lt-ltb, and_parts, Dinode, Dirent, sizes_of, inode_of, is_free, is_directory, is_live, is_node, is_live_directory, slots_in, slot_numbers, AreGoodSlots, IsDotDot, IsNodeTable, Layout, IsLayout}
 use Rattle.image_tree.proofs.Nodes.{both_from, directory_is, directory_from, node_is}
 
 -- ---- the table of nodes

@@ -1,24 +1,5 @@
 -- An image stays well formed where a node without a name is freed.
-use Rattle.std.proofs.Common.{◌≡◌, ◌≢◌, inl, inr, ℕ, zero, suc, ◌-◌, ◌/◌, ◌<◌, ◌≤◌, ◌==◌, nat_lt, ◌&&◌, not, ℤ, pos, ◌≤ℤ◌, ◌<ℤ◌, Bool, true, false, if◌then◌else◌, List, [], ◌∷◌, ◌++◌, length, get_or, slice_index_or, drop, filter, Option, Some, None, refl, sym, ◌∙◌, ap, subst, arith, Contains}
-use Rattle.std.specs.List.{All}
-use Rattle.std.proofs.lemmas.Bool.{cases_eq, cases_lt, and_parts, ltb-true, false≢true, ne_eqb}
-use Rattle.std.proofs.lemmas.List.{get_or_default}
-use Rattle.fs_layout.specs.declared.superblock.Super.{Super}
-use Rattle.fs_layout.specs.declared.inode.Dinode.{Dinode}
-use Rattle.fs_layout.specs.declared.entry.Dirent.{Dirent}
-use Rattle.fs_layout.specs.Widths.{dirent_len}
-use Rattle.fs_layout.specs.Recovered.{sizes_of}
-use Rattle.image_tree.specs.Lists.{IsOnce, gathered, times}
-use Rattle.image_tree.specs.Inodes.{inode_of, is_number, is_free, is_directory, is_live, is_node, is_live_directory, numbers_of, block_number, numbers_by, named_by, is_block, slots_of, last}
-use Rattle.image_tree.specs.Links.{slots_in, slot_numbers, number_in, up, names_of, further_names_of, proper_names_of, children_of, Reaches}
-use Rattle.image_tree.specs.Checks.{IsGoodType, IsData, is_marked, IsGoodSize, AreGoodSlots, IsOneTree, IsGoodCount, HasMarks, HasGoodTypes, HasRoot, HasGoodNumbers, NamesOnce, HasGoodSizes, HasGoodSlots, HasGoodCounts}
-use Rattle.image_tree.specs.Damage.{IsWellFormed}
-use Rattle.image_tree.specs.Shape.{is_orphan}
-use Rattle.image_tree.specs.Freeing.{IsFreed, FreedNodesLeaveImages}
-use Rattle.plain_tree.specs.declared.node.Kind.{Kind}
-use Rattle.plain_tree.specs.declared.node.Node.{Node}
-use Rattle.plain_tree.specs.Fresh.{at_rest}
-use Rattle.image_tree.specs.Trees.{kind_of, count_of, node_of, first_nodes, tree_in}
+use Rattle.image_tree.proofs.Vocabulary.{◌≡◌, ◌≢◌, inl, inr, ℕ, zero, suc, ◌-◌, ◌/◌, ◌<◌, ◌≤◌, ◌==◌, nat_lt, ◌&&◌, not, ℤ, pos, ◌≤ℤ◌, ◌<ℤ◌, Bool, true, false, if◌then◌else◌, List, [], ◌∷◌, ◌++◌, length, get_or, slice_index_or, drop, filter, Option, Some, None, refl, sym, ◌∙◌, ap, subst, arith, Contains, All, cases_eq, cases_lt, and_parts, ltb-true, false≢true, ne_eqb, get_or_default, Super, Dinode, Dirent, dirent_len, sizes_of, IsOnce, gathered, times, inode_of, is_number, is_free, is_directory, is_live, is_node, is_live_directory, numbers_of, block_number, numbers_by, named_by, is_block, slots_of, last, slots_in, slot_numbers, number_in, up, names_of, further_names_of, proper_names_of, children_of, Reaches, IsGoodType, IsData, is_marked, IsGoodSize, AreGoodSlots, IsOneTree, IsGoodCount, HasMarks, HasGoodTypes, HasRoot, HasGoodNumbers, NamesOnce, HasGoodSizes, HasGoodSlots, HasGoodCounts, IsWellFormed, is_orphan, IsFreed, FreedNodesLeaveImages, Kind, Node, at_rest, kind_of, count_of, node_of, first_nodes, tree_in}
 use Rattle.image_tree.proofs.Nodes.{node_is, directory_is}
 use Rattle.image_tree.proofs.NumberLists.{All-nil, numbers_by_free}
 use Rattle.image_tree.proofs.Contents.{pick, not_free, InRange, ranged, used_good, node_good, live_good, numbers_same, slots_same, kind_same}

@@ -1,8 +1,5 @@
 -- What is gathered from the inodes, one after the other.
-use Rattle.std.proofs.Common.{◌≡◌, ℕ, zero, suc, ◌+◌, ◌-◌, ◌≤◌, List, [], ◌++◌, refl, sym, ap, ◌∙◌, subst, arith, append_assoc, filter}
-use Rattle.std.proofs.lemmas.List.{append-nil}
-use Rattle.image_tree.specs.Lists.{IsOnce, gathered}
-use Rattle.image_tree.specs.Inodes.{named_by, numbers_by, is_block}
+use Rattle.image_tree.proofs.Vocabulary.{◌≡◌, ℕ, zero, suc, ◌+◌, ◌-◌, ◌≤◌, List, [], ◌++◌, refl, sym, ap, ◌∙◌, subst, arith, append_assoc, filter, append-nil, IsOnce, gathered, named_by, numbers_by, is_block}
 use Rattle.image_tree.proofs.MarkLemmas.{front_once}
 
 -- what the first inodes give begins what more give

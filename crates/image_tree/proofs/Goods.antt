@@ -1,16 +1,5 @@
 -- What recovery's writes keep of the superblock and the log's head.
-use Rattle.std.proofs.Common.{◌≡◌, ◌≢◌, ◌⊎◌, inl, inr, ℕ, ◌+◌, ◌-◌, ◌<◌, ◌≤◌, List, [], ◌∷◌, length, get_or, set, replicate, refl, sym, ◌∙◌, ap, subst, arith}
-use Rattle.std.specs.List.{All}
-use Rattle.std.proofs.Math.ListN.{length-set}
-use Rattle.fs_layout.specs.declared.superblock.Super.{Super}
-use Rattle.fs_layout.specs.Bytes.{u32_at}
-use Rattle.block_device.specs.Blocks.{block_at}
-use Rattle.fs_layout.specs.Recovered.{sizes_of, logged, log_count, log_head_at}
-use Rattle.block_device.specs.BlockLaws.{block_at-set_same, block_at-set_other}
-use Rattle.fs_layout.proofs.RecoveredDisk.{sizes_of-set, logged-set}
-use Rattle.image_tree.specs.Lists.{IsOnce}
-use Rattle.image_tree.specs.Checks.{IsGoodSuper, HasGoodLog}
-use Rattle.image_tree.specs.Damage.{UpToLog}
+use Rattle.image_tree.proofs.Vocabulary.{◌≡◌, ◌≢◌, ◌⊎◌, inl, inr, ℕ, ◌+◌, ◌-◌, ◌<◌, ◌≤◌, List, [], ◌∷◌, length, get_or, set, replicate, refl, sym, ◌∙◌, ap, subst, arith, All, length-set, Super, u32_at, block_at, sizes_of, logged, log_count, log_head_at, block_at-set_same, block_at-set_other, sizes_of-set, logged-set, IsOnce, IsGoodSuper, HasGoodLog, UpToLog}
 use Rattle.image_tree.proofs.Layouts.{length-logged}
 use Rattle.image_tree.proofs.Installs.{Installed}
 

@@ -1,15 +1,5 @@
 -- Copies going home.
-use Rattle.std.proofs.Common.{◌≡◌, ◌≢◌, ◌⊎◌, inl, inr, ℕ, ◌+◌, ◌<◌, ◌≤◌, ◌^◌, List, [], length, get_or, set, replicate, refl, sym, ◌∙◌, ap, subst, arith}
-use Rattle.std.proofs.lemmas.Bool.{cases_eq}
-use Rattle.std.proofs.Math.ListN.{length-set}
-use Rattle.fs_layout.specs.declared.superblock.Super.{Super}
-use Rattle.block_device.specs.Blocks.{block_at}
-use Rattle.fs_layout.specs.Recovered.{sizes_of, log_count, log_head_at, logged, recovered, IsOutsideLog}
-use Rattle.fs_layout.specs.Bytes.{u32_at}
-use Rattle.block_device.specs.BlockLaws.{block_at-set_same, block_at-set_other}
-use Rattle.fs_layout.proofs.RecoveredDisk.{sizes_of-set, logged-set, logged-empty, recovered-empty, recovered-copy, recovered-own, first_copy, IsFirstCopy}
-use Rattle.image_tree.specs.declared.disk.Layout.{Layout}
-use Rattle.image_tree.specs.Layout.{IsLayout}
+use Rattle.image_tree.proofs.Vocabulary.{◌≡◌, ◌≢◌, ◌⊎◌, inl, inr, ℕ, ◌+◌, ◌<◌, ◌≤◌, ◌^◌, List, [], length, get_or, set, replicate, refl, sym, ◌∙◌, ap, subst, arith, cases_eq, length-set, Super, block_at, sizes_of, log_count, log_head_at, logged, recovered, IsOutsideLog, u32_at, block_at-set_same, block_at-set_other, sizes_of-set, logged-set, logged-empty, recovered-empty, recovered-copy, recovered-own, first_copy, IsFirstCopy, Layout, IsLayout}
 use Rattle.image_tree.proofs.Layouts.{length-logged}
 
 -- the log lies on the disk and has room for the blocks that it names: blocks of the disk behind it, each once

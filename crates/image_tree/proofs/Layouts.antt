@@ -1,15 +1,5 @@
 -- What a layout that passed the checks keeps in range.
-use Rattle.std.proofs.Common.{◌≡◌, ℕ, ◌+◌, ◌/◌, ◌%◌, ◌<◌, ◌≤◌, cond, ltb, List, length, Some, None, refl, ap, ◌∙◌, ⊎_elim, arith}
-use Rattle.std.proofs.lemmas.Bool.{cases_lt}
-use Rattle.std.proofs.lemmas.Bool.Decides.{nat_tests}
-use Rattle.std.specs.Option.{option_map_or}
-use Rattle.fs_layout.specs.Inode.{dinode_at}
-use Rattle.fs_layout.proofs.Numbers.{length-u32s_at}
-use Rattle.image_tree.specs.declared.disk.Layout.{Layout}
-use Rattle.block_device.specs.Blocks.{block_at}
-use Rattle.fs_layout.specs.Recovered.{place_of, logged, log_count, sizes_of, recovered}
-use Rattle.image_tree.specs.Inodes.{inode_of}
-use Rattle.image_tree.specs.Layout.{IsLayout}
+use Rattle.image_tree.proofs.Vocabulary.{◌≡◌, ℕ, ◌+◌, ◌/◌, ◌%◌, ◌<◌, ◌≤◌, cond, ltb, List, length, Some, None, refl, ap, ◌∙◌, ⊎_elim, arith, cases_lt, nat_tests, option_map_or, dinode_at, length-u32s_at, Layout, block_at, place_of, logged, log_count, sizes_of, recovered, inode_of, IsLayout}
 
 pub length-logged : (disk : List (List ℕ)) → length (logged disk) ≡ log_count disk
 unfolding logged

@@ -1,3 +1,5 @@
+pub mod Lemmas
+pub mod Vocabulary
 pub mod Told
 pub mod Layouts
 pub mod NumberLists

@@ -1,18 +1,5 @@
 -- The tables of who names whom.
-use Rattle.std.proofs.Common.{◌≡◌, ◌∙◌, ap, sym, refl, subst, ℕ, zero, suc, ◌+◌, ◌-◌, ◌<◌, ◌≤◌, false, not, eqb, List, [], ◌∷◌, ◌++◌, length, get_or, filter, drop, arith, ⊎_elim, Option, None}
-use Rattle.std.specs.Prelude.{Vec, vec_len}
-use Rattle.std.specs.Vec.{with_items}
-use Rattle.std.proofs.lemmas.List.{get_or_past, with_items_is}
-use Rattle.std.proofs.lemmas.List.Elements.{filter_agree}
-use Rattle.std.proofs.lemmas.Bool.{false_from_ne_true, cases_lt}
-use Rattle.fs_layout.specs.declared.entry.Dirent.{Dirent}
-use Rattle.fs_layout.specs.Recovered.{sizes_of}
-use Rattle.image_tree.specs.Lists.{gathered}
-use Rattle.image_tree.specs.Inodes.{is_live_directory, last}
-use Rattle.image_tree.specs.Links.{slots_in, slot_numbers, number_in, up, further_in, proper_in, parent_of}
-use Rattle.image_tree.specs.Marks.{Tallies, IsUpTable}
-use Rattle.image_tree.specs.declared.disk.Layout.{Layout}
-use Rattle.image_tree.specs.Layout.{IsLayout}
+use Rattle.image_tree.proofs.Vocabulary.{◌≡◌, ◌∙◌, ap, sym, refl, subst, ℕ, zero, suc, ◌+◌, ◌-◌, ◌<◌, ◌≤◌, false, not, eqb, List, [], ◌∷◌, ◌++◌, length, get_or, filter, drop, arith, ⊎_elim, Option, None, Vec, vec_len, with_items, get_or_past, with_items_is, filter_agree, false_from_ne_true, cases_lt, Dirent, sizes_of, gathered, is_live_directory, last, slots_in, slot_numbers, number_in, up, further_in, proper_in, parent_of, Tallies, IsUpTable, Layout, IsLayout}
 use Rattle.image_tree.proofs.Gathered.{gathered-more, gathered-none}
 use Rattle.image_tree.proofs.Nodes.{directory_is}
 

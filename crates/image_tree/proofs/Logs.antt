@@ -1,15 +1,5 @@
 -- What a write keeps of the superblock and the log's head.
-use Rattle.std.proofs.Common.{◌≡◌, ◌≢◌, ℕ, ◌-◌, ◌<◌, ◌≤◌, List, [], length, set, sym, ◌∙◌, ap, subst, arith}
-use Rattle.std.specs.List.{All}
-use Rattle.std.proofs.Math.ListN.{length-set}
-use Rattle.fs_layout.specs.declared.superblock.Super.{Super}
-use Rattle.fs_layout.specs.Bytes.{u32_at}
-use Rattle.fs_layout.specs.Recovered.{sizes_of, logged, log_count}
-use Rattle.block_device.specs.BlockLaws.{block_at-set_other}
-use Rattle.fs_layout.proofs.RecoveredDisk.{sizes_of-set}
-use Rattle.image_tree.specs.Lists.{IsOnce}
-use Rattle.image_tree.specs.Checks.{IsGoodSuper, HasGoodLog}
-use Rattle.image_tree.specs.Damage.{UpToLog}
+use Rattle.image_tree.proofs.Vocabulary.{◌≡◌, ◌≢◌, ℕ, ◌-◌, ◌<◌, ◌≤◌, List, [], length, set, sym, ◌∙◌, ap, subst, arith, All, length-set, Super, u32_at, sizes_of, logged, log_count, block_at-set_other, sizes_of-set, IsOnce, IsGoodSuper, HasGoodLog, UpToLog}
 use Rattle.image_tree.proofs.Layouts.{length-logged}
 
 module _ (d : List (List ℕ)) (good : UpToLog d) where

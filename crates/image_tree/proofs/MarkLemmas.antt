@@ -1,12 +1,5 @@
 -- Marks, and lists in which no number stands twice.
-use Rattle.std.proofs.Common.{◌≡◌, ◌≢◌, ℕ, ◌+◌, ◌<◌, Bool, true, false, List, [], ◌∷◌, ◌++◌, length, get_or, set, take, drop, filter, replicate, refl, sym, ap, ◌∙◌, subst, ⊎_elim, arith, length-append, append_assoc, Contains}
-use Rattle.std.proofs.lemmas.List.{append-nil, get_or_append_left, get_or_at, get_or_default, get_or-set_same, get_or-set_other, get_or-replicate, take-append-drop}
-use Rattle.std.proofs.lemmas.List.Elements.{Contains-push, Contains-push_cases, Contains-append_left, filter_more, filter-append}
-use Rattle.std.proofs.lemmas.List.Quantifiers.{all_pairs_push}
-use Rattle.std.proofs.lemmas.Bool.{cases_eq, ne_eqb, false≢true}
-use Rattle.image_tree.specs.Inodes.{is_block}
-use Rattle.image_tree.specs.Marks.{Marks}
-use Rattle.image_tree.specs.Lists.{IsOnce}
+use Rattle.image_tree.proofs.Vocabulary.{◌≡◌, ◌≢◌, ℕ, ◌+◌, ◌<◌, Bool, true, false, List, [], ◌∷◌, ◌++◌, length, get_or, set, take, drop, filter, replicate, refl, sym, ap, ◌∙◌, subst, ⊎_elim, arith, length-append, append_assoc, Contains, append-nil, get_or_append_left, get_or_at, get_or_default, get_or-set_same, get_or-set_other, get_or-replicate, take-append-drop, Contains-push, Contains-push_cases, Contains-append_left, filter_more, filter-append, all_pairs_push, cases_eq, ne_eqb, false≢true, is_block, Marks, IsOnce}
 
 -- a front of a list without repeats has none
 pub front_once : {X : Type 0} (xs ys : List X) → IsOnce (xs ++ ys) → IsOnce xs

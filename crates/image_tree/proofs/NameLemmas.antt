@@ -1,20 +1,5 @@
 -- The numbers of names: no two names have one.
-use Rattle.std.proofs.Common.{◌≡◌, ◌≢◌, ◌↔◌, ◌∙◌, ap, sym, refl, subst, ℕ, zero, suc, ◌+◌, ◌-◌, ◌*◌, ◌^◌, ◌<◌, ◌≤◌, Bool, true, IsTrue, eqb, List, [], ◌∷◌, length, drop, get_or, map, arith}
-use Rattle.std.specs.Prelude.{◌&&◌, nat_lt, nat_le}
-use Rattle.std.specs.List.{All, AllByRecursion, AllPairs, list_all}
-use Rattle.std.specs.List.Sorted.{IsStrictlyIncreasing, IsNonDecreasing, IsPermutation}
-use Rattle.std.proofs.Math.Nat.{pow-suc, pow-le-pow_right}
-use Rattle.std.proofs.lemmas.List.{drop_more, drop_all, get_or_default, get_or-map, length-map}
-use Rattle.std.proofs.lemmas.List.Elements.{recursion_from_All}
-use Rattle.std.proofs.lemmas.List.Sums.{AllPass-from_list_all}
-use Rattle.std.proofs.lemmas.List.Sorted.{IsPermutation-sym}
-use Rattle.std.proofs.lemmas.Map.Keys.{IsDistinct-IsPermutation, IsStrictlyIncreasing-from_distinct}
-use Rattle.std.proofs.lemmas.Map.Made.{AllPairs-from_IsDistinct, IsDistinct-from_AllPairs}
-use Rattle.std.proofs.lemmas.Bool.{and_parts}
-use Rattle.std.proofs.lemmas.Bool.Decides.{nat_tests, Decides-eqb}
-use Rattle.fs_layout.specs.Name.{IsName, is_name_byte}
-use Rattle.image_tree.specs.Lists.{IsOnce}
-use Rattle.image_tree.specs.Names.{name_key, IsKeyed}
+use Rattle.image_tree.proofs.Vocabulary.{◌≡◌, ◌≢◌, ◌↔◌, ◌∙◌, ap, sym, refl, subst, ℕ, zero, suc, ◌+◌, ◌-◌, ◌*◌, ◌^◌, ◌<◌, ◌≤◌, Bool, true, IsTrue, eqb, List, [], ◌∷◌, length, drop, get_or, map, arith, ◌&&◌, nat_lt, nat_le, All, AllByRecursion, AllPairs, list_all, IsStrictlyIncreasing, IsNonDecreasing, IsPermutation, pow-suc, pow-le-pow_right, drop_more, drop_all, get_or_default, get_or-map, length-map, recursion_from_All, AllPass-from_list_all, IsPermutation-sym, IsDistinct-IsPermutation, IsStrictlyIncreasing-from_distinct, AllPairs-from_IsDistinct, IsDistinct-from_AllPairs, and_parts, nat_tests, Decides-eqb, IsName, is_name_byte, IsOnce, name_key, IsKeyed}
 
 pub key_none : (xs : List ℕ) (n : ℕ) → length xs ≤ n → name_key (drop n xs) ≡ 0
 unfolding name_key

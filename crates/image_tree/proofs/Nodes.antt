@@ -1,15 +1,5 @@
 -- What it is to be a node, or a live directory.
-use Rattle.std.proofs.Common.{◌≡◌, ◌≢◌, ℕ, ◌<◌, ◌≤◌, Bool, true, false, not, List, length, slice_index, refl, sym, ap, subst, arith, ◌+◌, ⊎_elim}
-use Rattle.std.specs.Prelude.{◌&&◌, nat_lt}
-use Rattle.std.specs.List.{All}
-use Rattle.std.proofs.lemmas.Bool.{false≢true, cases_lt}
-use Rattle.std.proofs.lemmas.Bool.Decides.{nat_tests}
-use Rattle.fs_layout.specs.declared.inode.Dinode.{Dinode}
-use Rattle.fs_layout.specs.Recovered.{sizes_of}
-use Rattle.image_tree.specs.Inodes.{inode_of, is_free, is_directory, is_live, is_node, is_live_directory, numbers_of, numbers_by}
-use Rattle.image_tree.specs.Checks.{HasGoodNumbers, IsData}
-use Rattle.image_tree.specs.declared.disk.Layout.{Layout}
-use Rattle.image_tree.specs.Layout.{IsLayout}
+use Rattle.image_tree.proofs.Vocabulary.{◌≡◌, ◌≢◌, ℕ, ◌<◌, ◌≤◌, Bool, true, false, not, List, length, slice_index, refl, sym, ap, subst, arith, ◌+◌, ⊎_elim, ◌&&◌, nat_lt, All, false≢true, cases_lt, nat_tests, Dinode, sizes_of, inode_of, is_free, is_directory, is_live, is_node, is_live_directory, numbers_of, numbers_by, HasGoodNumbers, IsData, Layout, IsLayout}
 use Rattle.image_tree.proofs.NumberLists.{All-addrs, twelfth_within}
 
 pub both : (a b : Bool) → (a && b) ≡ true → (a ≡ true) × (b ≡ true)

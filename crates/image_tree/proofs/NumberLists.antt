@@ -1,15 +1,5 @@
 -- The numbers that an inode has.
-use Rattle.std.proofs.Common.{true, ◌≡◌, ◌≢◌, ℕ, ◌<◌, ◌≤◌, false, List, [], ◌++◌, length, get_or, slice_index, refl, arith, length-append, subst, ⊎_elim}
-use Rattle.std.proofs.lemmas.List.{append-nil, get_or_append_left}
-use Rattle.std.proofs.lemmas.Bool.{ne_eqb, cases_eq}
-use Rattle.std.specs.List.{All}
-use Rattle.fs_layout.specs.declared.inode.Dinode.{Dinode}
-use Rattle.fs_layout.specs.Bytes.{u32s_at}
-use Rattle.image_tree.specs.Inodes.{numbers_of, numbers_by, inode_of, is_free}
-use Rattle.fs_layout.specs.Recovered.{recovered, sizes_of}
-use Rattle.image_tree.specs.Checks.{IsData}
-use Rattle.image_tree.specs.declared.disk.Layout.{Layout}
-use Rattle.image_tree.specs.Layout.{IsLayout}
+use Rattle.image_tree.proofs.Vocabulary.{true, ◌≡◌, ◌≢◌, ℕ, ◌<◌, ◌≤◌, false, List, [], ◌++◌, length, get_or, slice_index, refl, arith, length-append, subst, ⊎_elim, append-nil, get_or_append_left, ne_eqb, cases_eq, All, Dinode, u32s_at, numbers_of, numbers_by, inode_of, is_free, recovered, sizes_of, IsData, Layout, IsLayout}
 
 pub numbers_without : (disk : List (List ℕ)) (d : Dinode) → slice_index d.addrs 12 ≡ 0 → numbers_of disk d ≡ d.addrs
 unfolding numbers_of

@@ -1,19 +1,5 @@
 -- Two blocks that are put through an empty log.
-use Rattle.std.proofs.Common.{◌≡◌, ◌≢◌, ◌⊎◌, inl, inr, ℕ, zero, suc, ◌+◌, ◌^◌, ◌<◌, ◌≤◌, List, [], ◌∷◌, length, get_or, set, Result, Ok, Err, OnOk, OnErr, refl, sym, ◌∙◌, ap, subst, arith}
-use Rattle.std.specs.List.{All}
-use Rattle.std.proofs.lemmas.List.Elements.{recursion_from_All}
-use Rattle.block_device.specs.Blocks.{block_at}
-use Rattle.block_device.specs.BlockLaws.{block_at-set_same, block_at-set_other}
-use Rattle.fs_layout.specs.declared.superblock.Super.{Super}
-use Rattle.fs_layout.specs.Bytes.{overwrite}
-use Rattle.fs_layout.specs.LogHead.{spell_log_head}
-use Rattle.fs_layout.specs.Recovered.{sizes_of, logged, log_head_at, recovered, IsOutsideLog}
-use Rattle.fs_layout.proofs.RecoveredDisk.{sizes_of-set, logged-set, logged-written, recovered-empty, recovered-copy, recovered-own, IsFirstCopy}
-use Rattle.image_tree.specs.Lists.{IsOnce}
-use Rattle.image_tree.specs.Damage.{UpToLog}
-use Rattle.image_tree.specs.Checks.{IsGoodSuper}
-use Rattle.image_tree.specs.Views.{IsViewOf}
-use Rattle.image_tree.specs.Freeing.{IsPut}
+use Rattle.image_tree.proofs.Vocabulary.{◌≡◌, ◌≢◌, ◌⊎◌, inl, inr, ℕ, zero, suc, ◌+◌, ◌^◌, ◌<◌, ◌≤◌, List, [], ◌∷◌, length, get_or, set, Result, Ok, Err, OnOk, OnErr, refl, sym, ◌∙◌, ap, subst, arith, All, recursion_from_All, block_at, block_at-set_same, block_at-set_other, Super, overwrite, spell_log_head, sizes_of, logged, log_head_at, recovered, IsOutsideLog, sizes_of-set, logged-set, logged-written, recovered-empty, recovered-copy, recovered-own, IsFirstCopy, IsOnce, UpToLog, IsGoodSuper, IsViewOf, IsPut}
 use Rattle.image_tree.proofs.Logs.{names_keep, empty_keeps}
 
 pub good_super : (d : List (List ℕ)) → UpToLog d → IsGoodSuper (sizes_of d)

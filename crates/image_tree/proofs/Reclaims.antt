@@ -1,21 +1,6 @@
 -- A node without a name, freed by a put of two blocks; and one such node after the other.
-use Rattle.std.proofs.Common.{◌≡◌, ◌≢◌, ◌⊎◌, inl, inr, ℕ, ◌+◌, ◌/◌, ◌%◌, ◌<◌, ◌≤◌, ◌&&◌, not, nat_lt, pos, Bool, true, false, if◌then◌else◌, List, [], refl, sym, ◌∙◌, ap, subst, arith}
-use Rattle.std.specs.List.{All}
-use Rattle.std.proofs.lemmas.Bool.{cases_eq, and_parts, false≢true}
-use Rattle.fs_layout.specs.declared.superblock.Super.{Super}
-use Rattle.fs_layout.specs.declared.inode.Dinode.{Dinode}
-use Rattle.fs_layout.specs.Bits.{bit_of}
-use Rattle.fs_layout.specs.Inode.{dinode_at}
-use Rattle.fs_layout.specs.Recovered.{sizes_of, recovered}
-use Rattle.std.proofs.lemmas.Bool.Decides.{nat_tests}
-use Rattle.image_tree.specs.Inodes.{inode_of, is_free, is_live, is_node, numbers_by, numbers_of}
+use Rattle.image_tree.proofs.Vocabulary.{◌≡◌, ◌≢◌, ◌⊎◌, inl, inr, ℕ, ◌+◌, ◌/◌, ◌%◌, ◌<◌, ◌≤◌, ◌&&◌, not, nat_lt, pos, Bool, true, false, if◌then◌else◌, List, [], refl, sym, ◌∙◌, ap, subst, arith, All, cases_eq, and_parts, false≢true, Super, Dinode, bit_of, dinode_at, sizes_of, recovered, nat_tests, inode_of, is_free, is_live, is_node, numbers_by, numbers_of, HasGoodNumbers, IsData, is_marked, UpToLog, IsWellFormed, is_orphan, tree_in, IsViewOf, AreNamed, IsFreed, IsPut, IsReclaimed}
 use Rattle.image_tree.proofs.Nodes.{both_from, node_is}
-use Rattle.image_tree.specs.Checks.{HasGoodNumbers, IsData, is_marked}
-use Rattle.image_tree.specs.Damage.{UpToLog, IsWellFormed}
-use Rattle.image_tree.specs.Shape.{is_orphan}
-use Rattle.image_tree.specs.Trees.{tree_in}
-use Rattle.image_tree.specs.Views.{IsViewOf}
-use Rattle.image_tree.specs.Freeing.{AreNamed, IsFreed, IsPut, IsReclaimed}
 use Rattle.image_tree.proofs.Views.{checks_see_recovered, trees_see_recovered, inode_same, node_same}
 use Rattle.image_tree.proofs.Contents.{pick, InRange, ranged, used_good, numbers_same}
 use Rattle.image_tree.proofs.Freed.{freed_nodes_leave_images, by_same, orphan_other, orphan_gone}

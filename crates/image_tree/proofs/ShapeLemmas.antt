@@ -1,13 +1,5 @@
 -- What is counted of the first inodes.
-use Rattle.std.proofs.Common.{◌≡◌, ◌∙◌, ap, sym, refl, subst, ℕ, suc, ◌+◌, ◌-◌, ◌*◌, ◌<◌, ◌≤◌, Bool, true, false, cond, not, List, length, filter, arith, length-append}
-use Rattle.std.specs.Prelude.{◌&&◌}
-use Rattle.fs_layout.specs.declared.inode.Dinode.{Dinode}
-use Rattle.fs_layout.specs.Recovered.{sizes_of}
-use Rattle.image_tree.specs.Lists.{gathered, count_upto}
-use Rattle.image_tree.specs.Inodes.{inode_of, is_free, is_live, is_node, is_block, named_by, numbers_by, last}
-use Rattle.image_tree.specs.Shape.{is_live_node, is_orphan, shape_of}
-use Rattle.image_tree.specs.declared.disk.Layout.{Layout}
-use Rattle.image_tree.specs.Layout.{IsLayout}
+use Rattle.image_tree.proofs.Vocabulary.{◌≡◌, ◌∙◌, ap, sym, refl, subst, ℕ, suc, ◌+◌, ◌-◌, ◌*◌, ◌<◌, ◌≤◌, Bool, true, false, cond, not, List, length, filter, arith, length-append, ◌&&◌, Dinode, sizes_of, gathered, count_upto, inode_of, is_free, is_live, is_node, is_block, named_by, numbers_by, last, is_live_node, is_orphan, shape_of, Layout, IsLayout}
 use Rattle.image_tree.proofs.Gathered.{gathered-more, gathered-none}
 use Rattle.image_tree.proofs.EntryLemmas.{node_flag}
 

@@ -1,11 +1,5 @@
 -- What the parts of the check of a size say of the whole.
-use Rattle.std.proofs.Common.{◌≡◌, ◌≢◌, ◌↔◌, ◌∙◌, sym, subst, ℕ, ◌<◌, ◌≤◌, ◌*◌, List, Bool, true, false, IsTrue}
-use Rattle.std.proofs.lemmas.Bool.{false≢true}
-use Rattle.fs_layout.specs.declared.inode.Dinode.{Dinode}
-use Rattle.image_tree.specs.Inodes.{inode_of, is_free, is_node, numbers_of, block_number}
-use Rattle.image_tree.specs.Checks.{IsFittingSize, IsGoodSize}
-use Rattle.image_tree.specs.declared.disk.Layout.{Layout}
-use Rattle.image_tree.specs.Layout.{IsLayout}
+use Rattle.image_tree.proofs.Vocabulary.{◌≡◌, ◌≢◌, ◌↔◌, ◌∙◌, sym, subst, ℕ, ◌<◌, ◌≤◌, ◌*◌, List, Bool, true, false, IsTrue, false≢true, Dinode, inode_of, is_free, is_node, numbers_of, block_number, IsFittingSize, IsGoodSize, Layout, IsLayout}
 use Rattle.image_tree.proofs.Nodes.{node_is, node_from}
 
 pub free_no_size : (disk : List (List ℕ)) (i : ℕ) (d : Dinode) → d ≡ inode_of disk i → is_free d ≡ true

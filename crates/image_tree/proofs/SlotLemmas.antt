@@ -1,15 +1,5 @@
 -- The slots of a directory, one by one.
-use Rattle.std.proofs.Common.{◌≡◌, ℕ, ◌+◌, ◌/◌, ◌%◌, ◌<◌, ◌≤◌, true, false, List, [], ◌∷◌, ◌++◌, refl, sym, ap, ◌∙◌, add-one, Option, ℤ, pos, negsuc, eqb}
-use Rattle.std.specs.Prelude.{◌&&◌}
-use Rattle.std.proofs.lemmas.Bool.{false≢true, false_from_ne_true, eqb-true}
-use Rattle.fs_layout.specs.declared.inode.Dinode.{Dinode}
-use Rattle.fs_layout.specs.declared.entry.Dirent.{Dirent}
-use Rattle.fs_layout.specs.Entry.{dirent_at}
-use Rattle.fs_layout.specs.Recovered.{recovered}
-use Rattle.image_tree.specs.Inodes.{inode_of, is_directory, is_live, is_live_directory, is_free, is_number, numbers_by, numbers_of, block_number, content_block, slot_at, first_slots, slots_of}
-use Rattle.image_tree.specs.Links.{slots_in}
-use Rattle.image_tree.specs.declared.disk.Layout.{Layout}
-use Rattle.image_tree.specs.Layout.{IsLayout}
+use Rattle.image_tree.proofs.Vocabulary.{◌≡◌, ℕ, ◌+◌, ◌/◌, ◌%◌, ◌<◌, ◌≤◌, true, false, List, [], ◌∷◌, ◌++◌, refl, sym, ap, ◌∙◌, add-one, Option, ℤ, pos, negsuc, eqb, ◌&&◌, false≢true, false_from_ne_true, eqb-true, Dinode, Dirent, dirent_at, recovered, inode_of, is_directory, is_live, is_live_directory, is_free, is_number, numbers_by, numbers_of, block_number, content_block, slot_at, first_slots, slots_of, slots_in, Layout, IsLayout}
 use Rattle.image_tree.proofs.Nodes.{both, both_from, directory_is, directory_from, numbers_by_node}
 
 directory_kind : (z : ℤ) → is_number 1 z ≡ true → is_number 0 z ≡ false

@@ -1,8 +1,5 @@
 -- What the slots give, slot by slot.
-use Rattle.std.proofs.Common.{◌≡◌, ℕ, ◌+◌, ◌<◌, List, [], ◌∷◌, ◌++◌, length, take, drop, get_or, sym, ap, ◌∙◌, subst, arith, length-append}
-use Rattle.std.specs.List.{All, flat_map}
-use Rattle.std.proofs.lemmas.List.{take_more, take-append-drop, append-nil, get_or-append-add}
-use Rattle.std.proofs.lemmas.List.Concat.{flat_map-append}
+use Rattle.image_tree.proofs.Vocabulary.{◌≡◌, ℕ, ◌+◌, ◌<◌, List, [], ◌∷◌, ◌++◌, length, take, drop, get_or, sym, ap, ◌∙◌, subst, arith, length-append, All, flat_map, take_more, take-append-drop, append-nil, get_or-append-add, flat_map-append}
 use Rattle.image_tree.proofs.NumberLists.{All-front}
 
 pub flat_more : {X A : Type 0} (f : X → List A) (xs : List X) (i : ℕ) (d : X) → i < length xs

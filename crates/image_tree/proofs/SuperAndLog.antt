@@ -1,15 +1,5 @@
 -- What a superblock and a log's head that were read say.
-use Rattle.std.proofs.Common.{◌≡◌, ℕ, ◌≤◌, Bool, true, false, cond, eqb, leb, List, Some, None, refl, sym, ap, ◌∙◌, arith}
-use Rattle.std.proofs.lemmas.Bool.{eqb-true}
-use Rattle.std.proofs.lemmas.Bool.Decides.{nat_tests}
-use Rattle.fs_layout.specs.declared.superblock.Super.{Super}
-use Rattle.fs_layout.specs.declared.log_head.LogHead.{LogHead}
-use Rattle.fs_layout.specs.Bytes.{u32_at, u32s_at}
-use Rattle.fs_layout.specs.Super.{super_of, super_fields}
-use Rattle.fs_layout.specs.LogHead.{log_head_of}
-use Rattle.block_device.specs.Blocks.{block_at}
-use Rattle.fs_layout.specs.Recovered.{sizes_of, logged, log_count}
-use Rattle.image_tree.specs.Checks.{HasGoodLog}
+use Rattle.image_tree.proofs.Vocabulary.{◌≡◌, ℕ, ◌≤◌, Bool, true, false, cond, eqb, leb, List, Some, None, refl, sym, ap, ◌∙◌, arith, eqb-true, nat_tests, Super, LogHead, u32_at, u32s_at, super_of, super_fields, log_head_of, block_at, sizes_of, logged, log_count, HasGoodLog}
 
 some_from : {T : Type 0} (b : Bool) (x y : T) → cond b (Some x) None ≡ Some y → (b ≡ true) × (x ≡ y)
 some_from true x y h = (refl, let e = h in cc)

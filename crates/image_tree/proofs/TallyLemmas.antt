@@ -1,10 +1,6 @@
 -- Tables of counts.
-use Rattle.std.proofs.Common.{◌≡◌, ◌≢◌, ◌∙◌, ap, sym, refl, ℕ, ◌+◌, ◌<◌, min, Bool, cond, eqb, List, [], ◌∷◌, ◌++◌, length, get_or, set, replicate, arith, ⊎_elim}
-use Rattle.std.proofs.lemmas.List.{get_or-set_same, get_or-set_other, get_or-replicate, length-set, length-replicate}
-use Rattle.std.proofs.lemmas.List.Sums.{fold_push}
-use Rattle.std.proofs.lemmas.Bool.{cases_eq, eq-eqb, ne_eqb}
-use Rattle.image_tree.specs.Lists.{times}
-use Rattle.image_tree.specs.Marks.{Tallies}
+use Rattle.image_tree.proofs.Vocabulary.{◌≡◌, ◌≢◌, ◌∙◌, ap, sym, refl, ℕ, ◌+◌, ◌<◌, min, Bool, cond, eqb, List, [], ◌∷◌, ◌++◌, length, get_or, set, replicate, arith, ⊎_elim, get_or-set_same, get_or-set_other, get_or-replicate, length-replicate, fold_push, cases_eq, eq-eqb, ne_eqb, times, Tallies}
+use Rattle.std.proofs.lemmas.List.{length-set}
 
 times-push : (i n : ℕ) (xs : List ℕ) → times i (xs ++ n ∷ []) ≡ times i xs + cond (eqb n i) 1 0
 times-push i n xs = fold_push (λ a x. a + cond (eqb x i) 1 0) 0 xs n

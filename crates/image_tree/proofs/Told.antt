@@ -1,6 +1,5 @@
 -- What a test tells, where its answer is known.
-use Rattle.std.proofs.Common.{◌↔◌, true, false, IsTrue, IsFalse, refl}
-use Rattle.std.proofs.lemmas.Bool.{false≢true, true≢false}
+use Rattle.image_tree.proofs.Vocabulary.{◌↔◌, true, false, IsTrue, IsFalse, refl, false≢true, true≢false}
 
 pub held : (P : Type 0) → P → IsTrue true ↔ P
 held P p = (λ _. p, λ _. refl)

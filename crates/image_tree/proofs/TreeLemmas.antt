@@ -1,16 +1,5 @@
 -- What the tables tell of the live directories.
-use Rattle.std.proofs.Common.{◌≡◌, ◌≢◌, ◌↔◌, ◌∙◌, ap, sym, refl, subst, ℕ, ◌<◌, ◌≤◌, Bool, true, false, IsTrue, List, length, get_or, arith, ⊎_elim, Option, Some, None}
-use Rattle.std.specs.List.{All}
-use Rattle.std.proofs.lemmas.List.{get_or_past, get_or_default}
-use Rattle.std.proofs.lemmas.Bool.{cases_lt}
-use Rattle.fs_layout.specs.declared.entry.Dirent.{Dirent}
-use Rattle.fs_layout.specs.declared.entry.Dirent.TheVariants.{Free, Used}
-use Rattle.image_tree.specs.Lists.{gathered, times}
-use Rattle.image_tree.specs.Inodes.{is_node, is_live_directory, last}
-use Rattle.image_tree.specs.Links.{slots_in, slot_number, number_in, up, further_in, proper_in, Reaches}
-use Rattle.image_tree.specs.Checks.{HasGoodSlots, IsDotDot, IsOneTree}
-use Rattle.image_tree.specs.Marks.{Tallies, IsUpTable, IsLinks}
-use Rattle.image_tree.specs.declared.links.Links.{Links}
+use Rattle.image_tree.proofs.Vocabulary.{◌≡◌, ◌≢◌, ◌↔◌, ◌∙◌, ap, sym, refl, subst, ℕ, ◌<◌, ◌≤◌, Bool, true, false, IsTrue, List, length, get_or, arith, ⊎_elim, Option, Some, None, All, get_or_past, get_or_default, cases_lt, Dirent, Free, Used, gathered, times, is_node, is_live_directory, last, slots_in, slot_number, number_in, up, further_in, proper_in, Reaches, HasGoodSlots, IsDotDot, IsOneTree, Tallies, IsUpTable, IsLinks, Links}
 use Rattle.image_tree.proofs.Nodes.{node_is, directory_is}
 use Rattle.image_tree.proofs.SlotNumbers.{All-at}
 use Rattle.image_tree.proofs.LinkLemmas.{up_none, no_directory_zero}

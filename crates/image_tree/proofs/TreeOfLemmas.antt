@@ -1,17 +1,5 @@
 -- The nodes that an image holds, one by one.
-use Rattle.std.proofs.Common.{◌≡◌, ◌∙◌, ap, sym, refl, ℕ, ◌+◌, ◌<◌, ◌≤◌, Bool, true, false, not, List, [], ◌∷◌, ◌++◌, map, add-one, Option, Some, None}
-use Rattle.std.specs.Prelude.{◌&&◌}
-use Rattle.fs_layout.specs.declared.inode.Dinode.{Dinode}
-use Rattle.fs_layout.specs.declared.entry.Dirent.{Dirent}
-use Rattle.fs_layout.specs.Recovered.{recovered}
-use Rattle.plain_tree.specs.declared.node.Slot.{Slot}
-use Rattle.plain_tree.specs.declared.node.Kind.{Kind}
-use Rattle.plain_tree.specs.declared.node.Kind.TheVariants.{Directory, File, Device}
-use Rattle.plain_tree.specs.declared.node.Node.{Node}
-use Rattle.image_tree.specs.Inodes.{inode_of, is_node, is_free, is_live, is_directory, numbers_of, numbers_by, block_number, content_block, front_blocks, content_of, slots_of}
-use Rattle.image_tree.specs.Trees.{slot_of, is_file, kind_of, count_of, node_of, first_nodes}
-use Rattle.image_tree.specs.declared.disk.Layout.{Layout}
-use Rattle.image_tree.specs.Layout.{IsLayout}
+use Rattle.image_tree.proofs.Vocabulary.{◌≡◌, ◌∙◌, ap, sym, refl, ℕ, ◌+◌, ◌<◌, ◌≤◌, Bool, true, false, not, List, [], ◌∷◌, ◌++◌, map, add-one, Option, Some, None, ◌&&◌, Dinode, Dirent, recovered, Slot, Kind, Directory, File, Device, Node, inode_of, is_node, is_free, is_live, is_directory, numbers_of, numbers_by, block_number, content_block, front_blocks, content_of, slots_of, slot_of, is_file, kind_of, count_of, node_of, first_nodes, Layout, IsLayout}
 use Rattle.image_tree.proofs.Nodes.{numbers_by_node}
 use Rattle.image_tree.proofs.EntryLemmas.{node_flag, no_node_zero}
 

@@ -1,15 +1,5 @@
 -- No slot of a live directory names a node that has no name.
-use Rattle.std.proofs.Common.{◌≡◌, ◌≢◌, inl, inr, ℕ, zero, suc, ◌+◌, ◌<◌, ◌≤◌, ◌==◌, nat_lt, true, false, pos, if◌then◌else◌, List, [], ◌∷◌, length, drop, get_or, Option, Some, None, refl, sym, ◌∙◌, ap, arith}
-use Rattle.std.specs.List.{All}
-use Rattle.std.proofs.lemmas.Bool.{cases_eq, eq-eqb, ne_eqb, false≢true}
-use Rattle.std.proofs.lemmas.Bool.Decides.{nat_tests}
-use Rattle.std.proofs.lemmas.List.Sums.{sum_by-cons, sum_by-append}
-use Rattle.fs_layout.specs.declared.entry.Dirent.{Dirent}
-use Rattle.fs_layout.specs.declared.entry.Dirent.TheVariants.{Free, Used}
-use Rattle.image_tree.specs.Lists.{gathered, times}
-use Rattle.image_tree.specs.Inodes.{inode_of, is_directory, is_live, is_positive, is_node, is_live_directory, last}
-use Rattle.image_tree.specs.Links.{slots_in, slot_numbers, number_in, named_in, further_in, up, climb, names_of}
-use Rattle.image_tree.specs.Checks.{HasGoodSlots, HasGoodCounts, IsOneTree, IsDotDot, dot}
+use Rattle.image_tree.proofs.Vocabulary.{◌≡◌, ◌≢◌, inl, inr, ℕ, zero, suc, ◌+◌, ◌<◌, ◌≤◌, ◌==◌, nat_lt, true, false, pos, if◌then◌else◌, List, [], ◌∷◌, length, drop, get_or, Option, Some, None, refl, sym, ◌∙◌, ap, arith, All, cases_eq, eq-eqb, ne_eqb, false≢true, nat_tests, sum_by-cons, sum_by-append, Dirent, Free, Used, gathered, times, inode_of, is_directory, is_live, is_positive, is_node, is_live_directory, last, slots_in, slot_numbers, number_in, named_in, further_in, up, climb, names_of, HasGoodSlots, HasGoodCounts, IsOneTree, IsDotDot, dot}
 use Rattle.image_tree.proofs.Nodes.{directory_is}
 use Rattle.image_tree.proofs.LinkLemmas.{up_none}
 use Rattle.image_tree.proofs.TreeLemmas.{up_zero}

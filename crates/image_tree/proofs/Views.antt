@@ -1,28 +1,5 @@
 -- The checks see the recovered blocks outside the log alone.
-use Rattle.std.proofs.Common.{◌≡◌, ◌≢◌, inl, inr, ℕ, zero, suc, ◌+◌, ◌-◌, ◌/◌, ◌%◌, ◌<◌, ◌≤◌, ◌==◌, nat_lt, ◌&&◌, not, ℤ, pos, negsuc, ◌<ℤ◌, Bool, true, false, if◌then◌else◌, List, [], ◌∷◌, ◌++◌, length, slice_index, slice_index_or, take, drop, filter, Option, Some, None, map, refl, sym, ◌∙◌, ap, subst, arith, length-append}
-use Rattle.std.specs.List.{All}
-use Rattle.std.proofs.lemmas.Bool.{cases_eq, cases_lt, and_parts, eqb-true, ltb-true}
-use Rattle.std.proofs.lemmas.List.{get_or_append_left, get_or_past}
-use Rattle.fs_layout.specs.declared.superblock.Super.{Super}
-use Rattle.fs_layout.specs.declared.inode.Dinode.{Dinode}
-use Rattle.fs_layout.specs.declared.entry.Dirent.{Dirent}
-use Rattle.fs_layout.specs.Bits.{bit_of}
-use Rattle.fs_layout.specs.Indirect.{numbers_in}
-use Rattle.fs_layout.specs.Inode.{dinode_at}
-use Rattle.fs_layout.specs.Entry.{dirent_at}
-use Rattle.fs_layout.specs.Widths.{inodes_per_block, dirents_per_block, dirent_len}
-use Rattle.fs_layout.specs.Recovered.{recovered, sizes_of, IsOutsideLog}
-use Rattle.image_tree.specs.Lists.{IsOnce, gathered, times}
-use Rattle.image_tree.specs.Inodes.{inode_of, is_number, is_free, is_directory, is_live, is_node, is_live_directory, direct, numbers_of, block_number, content_block, numbers_by, named_by, is_block, front_blocks, content_of, blocks_for, slot_at, first_slots, slots_of}
-use Rattle.image_tree.specs.Links.{slots_in, slot_numbers, number_in, up, names_of, further_names_of, proper_names_of, children_of, Reaches}
-use Rattle.image_tree.specs.Checks.{IsGoodType, IsData, is_marked, IsGoodSize, AreGoodSlots, IsOneTree, IsGoodCount, HasMarks, HasGoodTypes, HasRoot, HasGoodNumbers, NamesOnce, HasGoodSizes, HasGoodSlots, HasGoodCounts}
-use Rattle.image_tree.specs.Damage.{IsWellFormed, UpToLog}
-use Rattle.image_tree.specs.Views.{IsViewOf, ChecksSeeRecovered, TreesSeeRecovered}
-use Rattle.plain_tree.specs.declared.node.Kind.{Kind}
-use Rattle.plain_tree.specs.declared.node.Kind.TheVariants.{Directory, File, Device}
-use Rattle.plain_tree.specs.declared.node.Node.{Node}
-use Rattle.plain_tree.specs.Fresh.{at_rest}
-use Rattle.image_tree.specs.Trees.{slot_of, is_file, kind_of, count_of, node_of, first_nodes, tree_in}
+use Rattle.image_tree.proofs.Vocabulary.{◌≡◌, ◌≢◌, inl, inr, ℕ, zero, suc, ◌+◌, ◌-◌, ◌/◌, ◌%◌, ◌<◌, ◌≤◌, ◌==◌, nat_lt, ◌&&◌, not, ℤ, pos, negsuc, ◌<ℤ◌, Bool, true, false, if◌then◌else◌, List, [], ◌∷◌, ◌++◌, length, slice_index, slice_index_or, take, drop, filter, Option, Some, None, map, refl, sym, ◌∙◌, ap, subst, arith, length-append, All, cases_eq, cases_lt, and_parts, eqb-true, ltb-true, get_or_append_left, get_or_past, Super, Dinode, Dirent, bit_of, numbers_in, dinode_at, dirent_at, inodes_per_block, dirents_per_block, dirent_len, recovered, sizes_of, IsOutsideLog, IsOnce, gathered, times, inode_of, is_number, is_free, is_directory, is_live, is_node, is_live_directory, direct, numbers_of, block_number, content_block, numbers_by, named_by, is_block, front_blocks, content_of, blocks_for, slot_at, first_slots, slots_of, slots_in, slot_numbers, number_in, up, names_of, further_names_of, proper_names_of, children_of, Reaches, IsGoodType, IsData, is_marked, IsGoodSize, AreGoodSlots, IsOneTree, IsGoodCount, HasMarks, HasGoodTypes, HasRoot, HasGoodNumbers, NamesOnce, HasGoodSizes, HasGoodSlots, HasGoodCounts, IsWellFormed, UpToLog, IsViewOf, ChecksSeeRecovered, TreesSeeRecovered, Kind, Directory, File, Device, Node, at_rest, slot_of, is_file, kind_of, count_of, node_of, first_nodes, tree_in}
 
 pick : (t : Bool) (P : Bool → Type 0) → (t ≡ true → P true) → (t ≡ false → P false) → P t
 pick true P yes_ no_ = yes_ refl

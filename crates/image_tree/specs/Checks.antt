@@ -1,14 +1,6 @@
 -- What is checked of an image, each check as it passes. Their order stands in Damage.
 use Rattle.std.specs.Prelude.{◌≡◌, ◌≢◌, ℕ, ◌+◌, ◌-◌, ◌*◌, ◌/◌, ◌%◌, ◌<◌, ◌≤◌, pos, Bool, true, false, ◌≤ℤ◌, ◌<ℤ◌, List, [], ◌∷◌, slice_index_or, All, Option, Some, None}
-use Rattle.fs_layout.specs.declared.superblock.Super.{Super}
-use Rattle.fs_layout.specs.declared.inode.Dinode.{Dinode}
-use Rattle.fs_layout.specs.declared.entry.Dirent.{Dirent}
-use Rattle.fs_layout.specs.declared.entry.Dirent.TheVariants.{Free, Used}
-use Rattle.fs_layout.specs.Bytes.{u32_at}
-use Rattle.fs_layout.specs.Bits.{bit_of}
-use Rattle.fs_layout.specs.Widths.{block_len, dirent_len, inodes_per_block, log_head_len, magic, super_block, super_magic_at}
-use Rattle.block_device.specs.Blocks.{block_at}
-use Rattle.fs_layout.specs.Recovered.{sizes_of, log_count, logged, recovered}
+use Rattle.image_tree.specs.Vocabulary.{Super, Dinode, Dirent, Free, Used, u32_at, bit_of, block_len, dirent_len, inodes_per_block, log_head_len, magic, super_block, super_magic_at, block_at, sizes_of, log_count, logged, recovered}
 use Rattle.image_tree.specs.Lists.{IsOnce, gathered}
 use Rattle.image_tree.specs.Inodes.{inode_of, last, is_directory, is_live, is_node, is_live_directory, numbers_of, numbers_by, named_by, block_number}
 use Rattle.image_tree.specs.Links.{slots_in, slot_numbers, slot_names, up, names_of, further_names_of, proper_names_of, children_of, Reaches}

@@ -4,8 +4,7 @@ use Rattle.image_tree.specs.declared.fault.Damage.{Damage}
 use Rattle.image_tree.specs.declared.fault.Damage.TheVariants.{TooShort, BadSuper, BadLog, BadType, NoRoot, BlockRange, BlockShared, BlockUnmarked, BadSize, BadEntry, NotATree, LinkCount}
 use Rattle.image_tree.specs.declared.fault.MountFault.{MountFault}
 use Rattle.image_tree.specs.declared.fault.MountFault.TheVariants as faults
-use Rattle.block_device.specs.Blocks.{most_faults}
-use Rattle.fs_layout.specs.Recovered.{sizes_of}
+use Rattle.image_tree.specs.Vocabulary.{most_faults, sizes_of}
 use Rattle.image_tree.specs.Checks.{HasSuper, HasGoodLog, HasGoodTypes, HasRoot, HasGoodNumbers, NamesOnce, HasMarks, HasGoodSizes, HasGoodSlots, IsOneTree, HasGoodCounts}
 
 -- what the checks up to one say

@@ -1,6 +1,6 @@
 -- A node without a name, freed.
 use Rattle.std.specs.Prelude.{◌≡◌, ◌≢◌, ◌⊎◌, ℕ, ◌<◌, pos, true, false, List, All}
-use Rattle.fs_layout.specs.Recovered.{sizes_of, recovered, IsOutsideLog}
+use Rattle.image_tree.specs.Vocabulary.{sizes_of, recovered, IsOutsideLog}
 use Rattle.image_tree.specs.Inodes.{inode_of, numbers_by}
 use Rattle.image_tree.specs.Checks.{IsData, is_marked}
 use Rattle.image_tree.specs.Damage.{UpToLog, IsWellFormed}

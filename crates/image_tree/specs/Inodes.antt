@@ -1,12 +1,6 @@
 -- The inodes of an image: their fields, the blocks that they name, the slots of a directory, the content of a file.
 use Rattle.std.specs.Prelude.{ℕ, zero, suc, ◌+◌, ◌-◌, ◌/◌, ◌%◌, ◌==◌, nat_lt, ◌&&◌, not, ℤ, pos, negsuc, Bool, false, if◌then◌else◌, List, [], ◌∷◌, ◌++◌, take, filter, slice_index, Option}
-use Rattle.fs_layout.specs.declared.inode.Dinode.{Dinode}
-use Rattle.fs_layout.specs.declared.entry.Dirent.{Dirent}
-use Rattle.fs_layout.specs.Indirect.{numbers_in}
-use Rattle.fs_layout.specs.Widths.{block_len, inodes_per_block, dirents_per_block, dirent_len}
-use Rattle.fs_layout.specs.Inode.{dinode_at}
-use Rattle.fs_layout.specs.Entry.{dirent_at}
-use Rattle.fs_layout.specs.Recovered.{recovered, sizes_of}
+use Rattle.image_tree.specs.Vocabulary.{Dinode, Dirent, numbers_in, block_len, inodes_per_block, dirents_per_block, dirent_len, dinode_at, dirent_at, recovered, sizes_of}
 
 unfoldable pub inode_of : List (List ℕ) → ℕ → Dinode
 inode_of disk i = dinode_at (i % inodes_per_block) (recovered disk ((sizes_of disk).inodestart + i / inodes_per_block))

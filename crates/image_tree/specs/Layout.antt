@@ -1,7 +1,7 @@
 -- What is read of a disk first.
 use Rattle.std.specs.Prelude.{◌≡◌, ℕ, List}
 use Rattle.image_tree.specs.declared.disk.Layout.{Layout}
-use Rattle.fs_layout.specs.Recovered.{sizes_of, logged}
+use Rattle.image_tree.specs.Vocabulary.{sizes_of, logged}
 use Rattle.image_tree.specs.Damage.{UpToLog}
 
 pub record IsLayout (disk : List (List ℕ)) (layout : Layout) : Type 0 where

@@ -1,8 +1,6 @@
 -- Who names whom: the slots of live directories as lists of inode numbers.
 use Rattle.std.specs.Prelude.{◌≡◌, ℕ, zero, suc, ◌==◌, not, if◌then◌else◌, List, [], ◌∷◌, drop, filter, slice_index_or, Option, Some, None}
-use Rattle.std.specs.List.{flat_map}
-use Rattle.fs_layout.specs.declared.entry.Dirent.{Dirent}
-use Rattle.fs_layout.specs.declared.entry.Dirent.TheVariants.{Free, Used}
+use Rattle.image_tree.specs.Vocabulary.{flat_map, Dirent, Free, Used}
 use Rattle.image_tree.specs.Inodes.{inode_of, is_live_directory, slots_of, last}
 use Rattle.image_tree.specs.Lists.{gathered, times}
 

@@ -1,6 +1,6 @@
 -- Lists of numbers that are gathered inode by inode.
 use Rattle.std.specs.Prelude.{◌≢◌, ℕ, zero, suc, ◌+◌, ◌==◌, Bool, List, [], ◌++◌, if◌then◌else◌}
-use Rattle.std.specs.List.{AllPairs, count_by}
+use Rattle.image_tree.specs.Vocabulary.{AllPairs, count_by}
 
 -- nothing stands in it twice
 pub record IsOnce {X : Type 0} (xs : List X) : Type 0 where

@@ -4,7 +4,7 @@ use Rattle.image_tree.specs.Lists.{gathered, times}
 use Rattle.image_tree.specs.Inodes.{is_node, last}
 use Rattle.image_tree.specs.Links.{up, named_in, further_in, proper_in, parent_of}
 use Rattle.image_tree.specs.declared.links.Links.{Links}
-use Rattle.fs_layout.specs.Recovered.{sizes_of}
+use Rattle.image_tree.specs.Vocabulary.{sizes_of}
 
 -- just the numbers of the list are marked
 pub record Marks (seen : List Bool) (xs : List ℕ) : Type 0 where

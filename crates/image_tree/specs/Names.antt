@@ -1,6 +1,6 @@
 -- A number for each name.
 use Rattle.std.specs.Prelude.{ℕ, ◌+◌, ◌*◌, ◌<◌, List, [], ◌∷◌}
-use Rattle.std.specs.List.{AllByRecursion}
+use Rattle.image_tree.specs.Vocabulary.{AllByRecursion}
 
 -- the bytes as digits, the lowest first
 unfoldable pub name_key : List ℕ → ℕ

@@ -1,7 +1,7 @@
 -- What an examination tells of an image.
 use Rattle.std.specs.Prelude.{ℕ, ◌&&◌, not, Bool, List, length}
 use Rattle.image_tree.specs.declared.shape.Shape.{Shape}
-use Rattle.fs_layout.specs.Recovered.{sizes_of}
+use Rattle.image_tree.specs.Vocabulary.{sizes_of}
 use Rattle.image_tree.specs.Lists.{gathered, count_upto}
 use Rattle.image_tree.specs.Inodes.{inode_of, is_node, is_live, named_by, last}
 

@@ -1,15 +1,6 @@
 -- The tree that an image holds: its live nodes; no open files, no holds, and all harts in the root.
 use Rattle.std.specs.Prelude.{ℕ, zero, suc, ◌&&◌, ℤ, pos, negsuc, Bool, List, [], ◌∷◌, ◌++◌, map, Option, Some, None, if◌then◌else◌}
-use Rattle.fs_layout.specs.declared.inode.Dinode.{Dinode}
-use Rattle.fs_layout.specs.declared.entry.Dirent.{Dirent}
-use Rattle.fs_layout.specs.declared.entry.Dirent.TheVariants.{Free, Used}
-use Rattle.fs_layout.specs.Recovered.{sizes_of}
-use Rattle.plain_tree.specs.declared.node.Slot.{Slot}
-use Rattle.plain_tree.specs.declared.node.Kind.{Kind}
-use Rattle.plain_tree.specs.declared.node.Kind.TheVariants.{Directory, File, Device}
-use Rattle.plain_tree.specs.declared.node.Node.{Node}
-use Rattle.plain_tree.specs.TreeData.{TreeData}
-use Rattle.plain_tree.specs.Fresh.{at_rest}
+use Rattle.image_tree.specs.Vocabulary.{Dinode, Dirent, Free, Used, sizes_of, Slot, Kind, Directory, File, Device, Node, TreeData, at_rest}
 use Rattle.image_tree.specs.Inodes.{inode_of, is_node, is_live, is_number, is_directory, content_of, slots_of}
 
 -- a slot as the tree has it

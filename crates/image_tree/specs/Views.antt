@@ -1,6 +1,6 @@
 -- What the checks see of a disk.
 use Rattle.std.specs.Prelude.{◌≡◌, ℕ, List}
-use Rattle.fs_layout.specs.Recovered.{sizes_of, SameRecovered}
+use Rattle.image_tree.specs.Vocabulary.{sizes_of, SameRecovered}
 use Rattle.image_tree.specs.Damage.{UpToLog, IsWellFormed}
 use Rattle.image_tree.specs.Trees.{tree_in}
 

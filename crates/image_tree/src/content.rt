@@ -1,7 +1,6 @@
 //! The content of a file.
 ghost use Rattle.std.specs.Prelude.{◌≡◌, ◌≢◌, ◌<◌, ◌≤◌, ◌++◌, ℕ, List, length, IfOk, IfErr, OnOk, All};
-ghost use Rattle.block_device.specs.Calls.{ComesByCalls};
-ghost use Rattle.fs_layout.specs.Recovered.{sizes_of};
+ghost use Rattle.image_tree.specs.Vocabulary.{ComesByCalls, sizes_of};
 ghost use Rattle.image_tree.specs.Inodes.{content_of, numbers_of};
 ghost use Rattle.image_tree.specs.Checks.{IsData};
 ghost use Rattle.image_tree.specs.Damage.{JudgesFault, faults_with};

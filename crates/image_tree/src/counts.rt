@@ -1,7 +1,6 @@
 //! That counts are how often nodes are named.
 ghost use Rattle.std.specs.Prelude.{◌≡◌, ◌+◌, ◌<◌, ◌≤◌, ◌↔◌, ℕ, true, min, IfOk, IsTrue};
-ghost use Rattle.block_device.specs.Blocks.{faults_after};
-ghost use Rattle.block_device.specs.Calls.{ComesByCalls};
+ghost use Rattle.image_tree.specs.Vocabulary.{faults_after, ComesByCalls};
 ghost use Rattle.image_tree.specs.Inodes.{inode_of, is_node};
 ghost use Rattle.image_tree.specs.Links.{children_of, further_names_of, names_of};
 ghost use Rattle.image_tree.specs.Checks.{HasGoodCounts, IsGoodCount};

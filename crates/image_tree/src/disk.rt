@@ -1,8 +1,6 @@
 //! A disk, seen as recovery would leave it.
 ghost use Rattle.std.specs.Prelude.{◌≡◌, ◌+◌, ◌<◌, ◌≤◌, ◌^◌, ◌==◌, length, position, OnOk, IfOk, IfSome};
-ghost use Rattle.block_device.specs.Blocks.{faults_after};
-ghost use Rattle.block_device.specs.Calls.{ComesByCalls};
-ghost use Rattle.fs_layout.specs.Recovered.{place_of, recovered};
+ghost use Rattle.image_tree.specs.Vocabulary.{faults_after, ComesByCalls, place_of, recovered};
 ghost use Rattle.image_tree.specs.Inodes.{inode_of};
 ghost use Rattle.image_tree.specs.Layout.{IsLayout};
 ghost use Rattle.image_tree.specs.Reads.{OnlyReads};

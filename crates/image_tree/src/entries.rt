@@ -1,9 +1,7 @@
 //! That live directories have good slots.
 ghost use Rattle.std.specs.Prelude.{◌≡◌, ◌≢◌, ◌+◌, ◌<◌, ◌≤◌, ◌↔◌, ℕ, Bool, true, false, List, length, slice_index_or, IfOk, IfErr, Option, Some, None, IsTrue};
 ghost use Rattle.std.specs.List.{All};
-ghost use Rattle.std.specs.Option.{option_to_list};
-ghost use Rattle.block_device.specs.Calls.{ComesByCalls};
-ghost use Rattle.fs_layout.specs.declared.entry.Dirent.TheVariants.{Used};
+ghost use Rattle.image_tree.specs.Vocabulary.{option_to_list, ComesByCalls, Used};
 ghost use Rattle.image_tree.specs.Inodes.{is_live_directory, is_node};
 ghost use Rattle.image_tree.specs.Links.{slot_number, slot_numbers, slots_in};
 ghost use Rattle.image_tree.specs.Checks.{AreGoodSlots, HasGoodNumbers, HasGoodSlots, IsDotDot, dot};

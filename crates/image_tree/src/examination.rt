@@ -1,6 +1,6 @@
 //! The examination of an image.
 ghost use Rattle.std.specs.Prelude.{◌≡◌, List, ℕ};
-ghost use Rattle.block_device.specs.Calls.{ComesByCalls};
+ghost use Rattle.image_tree.specs.Vocabulary.{ComesByCalls};
 ghost use Rattle.image_tree.specs.Damage.{IsWellFormed, JudgesWith, UpToOnce, UpToSlots, faults_with};
 ghost use Rattle.image_tree.specs.Layout.{IsLayout};
 ghost use Rattle.image_tree.specs.Shape.{shape_of};

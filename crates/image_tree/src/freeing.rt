@@ -1,10 +1,6 @@
 //! Nodes without a name are freed, one after the other.
 ghost use Rattle.std.specs.Prelude.{◌≡◌, ◌≢◌, ◌⊎◌, ◌+◌, ◌/◌, ◌%◌, ◌<◌, ◌≤◌, ◌&&◌, not, ℕ, [], true, false, pos, All, IfOk, OnOk};
-ghost use Rattle.block_device.specs.Blocks.{faults_after};
-ghost use Rattle.block_device.specs.Calls.{ComesByCalls};
-ghost use Rattle.fs_layout.specs.Bits.{bit_of};
-ghost use Rattle.fs_layout.specs.Inode.{dinode_at};
-ghost use Rattle.fs_layout.specs.Recovered.{logged, recovered, sizes_of};
+ghost use Rattle.image_tree.specs.Vocabulary.{faults_after, ComesByCalls, bit_of, dinode_at, logged, recovered, sizes_of};
 ghost use Rattle.image_tree.specs.Checks.{is_marked};
 ghost use Rattle.image_tree.specs.Damage.{IsWellFormed};
 ghost use Rattle.image_tree.specs.Inodes.{is_free, is_live, numbers_by};
@@ -16,11 +12,11 @@ ghost use Rattle.image_tree.specs.Views.{IsViewOf};
 ghost use Rattle.image_tree.specs.Freeing.{AreNamed, FreedNodesLeaveImages, IsFreed, IsReclaimed};
 
 use crate::putting::put_both;
+use crate::{Layout, load, load_inode, numbers_at};
 use arrayvec::ArrayVec;
 use block_device::{Device, Fault};
 use fs_layout::widths::{ADDRESSES, BLOCK_LEN, Block, INODES_PER_BLOCK};
 use fs_layout::{Dinode, LogHead, Super, clear_bit, read_dinode, write_dinode};
-use crate::{Layout, load, load_inode, numbers_at};
 
 /// The type of an inode that is free.
 const KIND_FREE: i16 = 0;

@@ -1,8 +1,7 @@
 //! The superblock and the log's head.
 ghost use Rattle.std.specs.Prelude.{◌≡◌, ◌≢◌, ◌<◌, ◌≤◌, ◌↔◌, length, All, Err, IsFalse, IsTrue};
-ghost use Rattle.block_device.specs.Calls.{ComesByCalls};
+ghost use Rattle.image_tree.specs.Vocabulary.{ComesByCalls, sizes_of, logged};
 ghost use Rattle.image_tree.specs.Checks.{IsGoodSuper, HasSuper, HasGoodLog};
-ghost use Rattle.fs_layout.specs.Recovered.{sizes_of, logged};
 ghost use Rattle.image_tree.specs.Damage.{JudgesWith, UpToShort, UpToSize, faults_with};
 ghost use Rattle.image_tree.specs.Layout.{IsLayout};
 ghost use Rattle.image_tree.specs.Lists.{IsOnce};

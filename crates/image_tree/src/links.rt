@@ -1,6 +1,6 @@
 //! Who names whom, as tables by inode number.
 ghost use Rattle.std.specs.Prelude.{◌≡◌, ◌≢◌, ◌+◌, ◌-◌, ◌<◌, ◌≤◌, ◌++◌, ◌∷◌, [], ◌==◌, not, ℕ, List, length, filter, slice_index, slice_index_or, None, IfOk, IfErr, OnOk};
-ghost use Rattle.block_device.specs.Calls.{ComesByCalls};
+ghost use Rattle.image_tree.specs.Vocabulary.{ComesByCalls};
 ghost use Rattle.image_tree.specs.Inodes.{last};
 ghost use Rattle.image_tree.specs.Links.{further_in, named_in, number_in, proper_in, up};
 ghost use Rattle.image_tree.specs.Lists.{gathered};

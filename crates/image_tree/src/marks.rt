@@ -1,8 +1,6 @@
 //! That the bitmap shows the blocks in use as used.
 ghost use Rattle.std.specs.Prelude.{◌≡◌, ◌≢◌, ◌<◌, ◌≤◌, ◌↔◌, ℕ, Bool, true, length, IfOk, All, IsTrue};
-ghost use Rattle.block_device.specs.Blocks.{faults_after};
-ghost use Rattle.block_device.specs.Calls.{ComesByCalls};
-ghost use Rattle.fs_layout.specs.Bits.{bit_of};
+ghost use Rattle.image_tree.specs.Vocabulary.{faults_after, ComesByCalls, bit_of};
 ghost use Rattle.image_tree.specs.Checks.{HasGoodNumbers, HasMarks};
 ghost use Rattle.image_tree.specs.Layout.{IsLayout};
 ghost use Rattle.image_tree.specs.Reads.{OnlyReads};

@@ -1,7 +1,7 @@
 //! That no name stands twice in a directory.
 ghost use Rattle.std.specs.Prelude.{◌≡◌, ◌+◌, ◌*◌, ◌<◌, ◌≤◌, ◌++◌, ◌↔◌, ℕ, List, length, map, IfOk, OnOk, IsTrue};
 ghost use Rattle.std.specs.List.{All};
-ghost use Rattle.std.specs.List.Sorted.{IsStrictlyIncreasing};
+ghost use Rattle.image_tree.specs.Vocabulary.{IsStrictlyIncreasing};
 ghost use Rattle.image_tree.specs.Links.{slot_name, slot_names};
 ghost use Rattle.image_tree.specs.Lists.{IsOnce};
 ghost use Rattle.image_tree.specs.Names.{IsKeyed, name_key};

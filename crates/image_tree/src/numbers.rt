@@ -1,10 +1,8 @@
 //! The block numbers that inodes name.
 ghost use Rattle.std.specs.Prelude.{◌≡◌, ◌≢◌, ◌<◌, ◌≤◌, ◌++◌, ◌+◌, ◌∷◌, ◌↔◌, [], ℕ, Bool, List, length, filter, slice_index, IfOk, IfErr, All, IsTrue};
-ghost use Rattle.block_device.specs.Blocks.{faults_after};
-ghost use Rattle.block_device.specs.Calls.{ComesByCalls};
+ghost use Rattle.image_tree.specs.Vocabulary.{faults_after, ComesByCalls, sizes_of};
 ghost use Rattle.image_tree.specs.Checks.{IsData, HasGoodNumbers, NamesOnce};
 ghost use Rattle.image_tree.specs.Inodes.{numbers_of, numbers_by, is_block};
-ghost use Rattle.fs_layout.specs.Recovered.{sizes_of};
 ghost use Rattle.image_tree.specs.Damage.{JudgesFault, faults_with};
 ghost use Rattle.image_tree.specs.Layout.{IsLayout};
 ghost use Rattle.image_tree.specs.Marks.{Marks};

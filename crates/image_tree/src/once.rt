@@ -1,7 +1,6 @@
 //! That no block number is named twice.
 ghost use Rattle.std.specs.Prelude.{◌≡◌, ◌<◌, ◌++◌, ◌∷◌, ◌↔◌, [], ℕ, Bool, List, length, filter, IfOk, IfErr, All, IsTrue};
-ghost use Rattle.block_device.specs.Blocks.{faults_after};
-ghost use Rattle.block_device.specs.Calls.{ComesByCalls};
+ghost use Rattle.image_tree.specs.Vocabulary.{faults_after, ComesByCalls};
 ghost use Rattle.image_tree.specs.Inodes.{is_block};
 ghost use Rattle.image_tree.specs.Checks.{HasGoodNumbers, NamesOnce};
 ghost use Rattle.image_tree.specs.Damage.{JudgesFault, faults_with};

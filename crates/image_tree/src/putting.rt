@@ -1,16 +1,14 @@
 //! Two blocks put in one transaction of an empty log: copies into the log, its head, the blocks' homes, and the head cleared.
 ghost use Rattle.std.specs.Prelude.{◌≡◌, ◌⊎◌, ◌+◌, ◌<◌, ◌≤◌, ◌∷◌, List, ℕ, [], OnOk, slice_set};
-ghost use Rattle.block_device.specs.Blocks.{block_at, faults_after};
-ghost use Rattle.block_device.specs.Calls.{ComesByCalls};
-ghost use Rattle.fs_layout.specs.Recovered.{logged, recovered, sizes_of, IsOutsideLog};
+ghost use Rattle.image_tree.specs.Vocabulary.{block_at, faults_after, ComesByCalls, logged, recovered, sizes_of, IsOutsideLog};
 ghost use Rattle.image_tree.specs.Damage.{IsWellFormed, UpToLog};
 ghost use Rattle.image_tree.specs.Views.{IsViewOf};
 ghost use Rattle.image_tree.specs.Freeing.{IsPut};
 
+use crate::recover;
 use block_device::{Device, Fault};
 use fs_layout::widths::{BLOCK_LEN, Block};
 use fs_layout::{Super, write_log_head};
-use crate::recover;
 
 /// Puts the bitmap and a block of inodes in one transaction.
 pub fn put_both<D: Device>(

@@ -1,8 +1,6 @@
 //! Recovery: what the log holds goes home.
 ghost use Rattle.std.specs.Prelude.{◌≡◌, ◌≢◌, ◌⊎◌, ◌<◌, ℕ, [], length, replicate, slice_set, Err, OnOk, OnErr, IfOk};
-ghost use Rattle.block_device.specs.Blocks.{faults_after, block_at};
-ghost use Rattle.block_device.specs.Calls.{ComesByCalls};
-ghost use Rattle.fs_layout.specs.Recovered.{logged, recovered, sizes_of, IsOutsideLog, SameRecovered};
+ghost use Rattle.image_tree.specs.Vocabulary.{faults_after, block_at, ComesByCalls, logged, recovered, sizes_of, IsOutsideLog, SameRecovered};
 ghost use Rattle.image_tree.specs.Damage.{JudgesWith, UpToLog, IsWellFormed, faults_with};
 ghost use Rattle.image_tree.specs.Trees.{tree_in};
 ghost use Rattle.image_tree.specs.Layout.{IsLayout};

@@ -1,6 +1,6 @@
 //! After a stop: recovery, and then the tree.
 ghost use Rattle.std.specs.Prelude.{◌≡◌, ◌≢◌, Err, IfOk};
-ghost use Rattle.block_device.specs.Calls.{ComesByCalls};
+ghost use Rattle.image_tree.specs.Vocabulary.{ComesByCalls};
 ghost use Rattle.image_tree.specs.Damage.{IsWellFormed, faults_with};
 ghost use Rattle.image_tree.specs.Trees.{tree_in};
 ghost use Rattle.image_tree.specs.declared.fault.Damage.{Damage};

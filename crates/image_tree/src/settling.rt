@@ -1,8 +1,6 @@
 //! What is done with a disk before it is used: recovery, and then the freeing of nodes without a name.
 ghost use Rattle.std.specs.Prelude.{◌≡◌, ◌≢◌, ◌<◌, ◌≤◌, ℕ, [], true, false, All, OnOk};
-ghost use Rattle.block_device.specs.Blocks.{block_at, faults_after};
-ghost use Rattle.block_device.specs.Calls.{ComesByCalls};
-ghost use Rattle.fs_layout.specs.Recovered.{logged, recovered, sizes_of, IsOutsideLog};
+ghost use Rattle.image_tree.specs.Vocabulary.{block_at, faults_after, ComesByCalls, logged, recovered, sizes_of, IsOutsideLog};
 ghost use Rattle.image_tree.specs.Checks.{is_marked};
 ghost use Rattle.image_tree.specs.Damage.{IsWellFormed};
 ghost use Rattle.image_tree.specs.Inodes.{numbers_by};

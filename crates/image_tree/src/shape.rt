@@ -1,7 +1,6 @@
 //! What an examination tells of an image.
 ghost use Rattle.std.specs.Prelude.{◌≡◌, ◌<◌, ◌≤◌, ◌&&◌, not, if◌then◌else◌, length, filter, IfOk};
-ghost use Rattle.block_device.specs.Blocks.{faults_after};
-ghost use Rattle.block_device.specs.Calls.{ComesByCalls};
+ghost use Rattle.image_tree.specs.Vocabulary.{faults_after, ComesByCalls};
 ghost use Rattle.image_tree.specs.Inodes.{is_block, is_free, is_live};
 ghost use Rattle.image_tree.specs.Shape.{shape_of};
 ghost use Rattle.image_tree.specs.Checks.{HasGoodNumbers};

@@ -1,7 +1,6 @@
 //! That nodes have sizes that their blocks can hold.
 ghost use Rattle.std.specs.Prelude.{◌≡◌, ◌≢◌, ◌+◌, ◌*◌, ◌<◌, ◌≤◌, ◌^◌, ◌↔◌, ℕ, Bool, true, length, IfOk, IsTrue};
-ghost use Rattle.block_device.specs.Blocks.{faults_after};
-ghost use Rattle.block_device.specs.Calls.{ComesByCalls};
+ghost use Rattle.image_tree.specs.Vocabulary.{faults_after, ComesByCalls};
 ghost use Rattle.image_tree.specs.Checks.{HasGoodNumbers, HasGoodSizes, IsFittingSize, IsGoodSize};
 ghost use Rattle.image_tree.specs.Inodes.{block_number, inode_of, is_node};
 ghost use Rattle.image_tree.specs.Layout.{IsLayout};

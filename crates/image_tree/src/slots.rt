@@ -1,9 +1,6 @@
 //! The slots of a directory.
 ghost use Rattle.std.specs.Prelude.{◌≡◌, ◌≢◌, ◌+◌, ◌*◌, ◌/◌, ◌%◌, ◌<◌, ◌≤◌, ℕ, List, length, IfOk, IfErr, All};
-ghost use Rattle.block_device.specs.Blocks.{faults_after};
-ghost use Rattle.block_device.specs.Calls.{ComesByCalls};
-ghost use Rattle.fs_layout.specs.Entry.{dirent_at};
-ghost use Rattle.fs_layout.specs.Recovered.{recovered, sizes_of};
+ghost use Rattle.image_tree.specs.Vocabulary.{faults_after, ComesByCalls, dirent_at, recovered, sizes_of};
 ghost use Rattle.image_tree.specs.Inodes.{block_number, numbers_of, slots_of};
 ghost use Rattle.image_tree.specs.Links.{slots_in};
 ghost use Rattle.image_tree.specs.Checks.{HasGoodNumbers, IsData};

@@ -1,13 +1,12 @@
 //! The tree that an image holds.
 ghost use Rattle.std.specs.Prelude.{◌≡◌, ◌≢◌, ◌<◌, ◌≤◌, ℕ, List, length, map, Option, IfOk, IfErr, false};
-ghost use Rattle.block_device.specs.Calls.{ComesByCalls};
+ghost use Rattle.image_tree.specs.Vocabulary.{ComesByCalls, sizes_of};
 ghost use Rattle.image_tree.specs.Checks.{HasGoodNumbers};
 ghost use Rattle.image_tree.specs.Damage.{IsWellFormed, JudgesFault, JudgesWith, faults_with};
 ghost use Rattle.image_tree.specs.Inodes.{inode_of, is_free};
 ghost use Rattle.image_tree.specs.Layout.{IsLayout};
 ghost use Rattle.image_tree.specs.Trees.{count_of, first_nodes, is_file, kind_of, node_of, slot_of, tree_in};
 ghost use Rattle.image_tree.specs.Reads.{OnlyReads};
-ghost use Rattle.fs_layout.specs.Recovered.{sizes_of};
 
 use crate::content::load_content;
 use crate::disk::{Layout, load_inode};

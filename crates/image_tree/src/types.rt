@@ -1,7 +1,6 @@
 //! The types of inodes, and the root.
 ghost use Rattle.std.specs.Prelude.{◌↔◌, ◌<◌, IsTrue, IfOk};
-ghost use Rattle.block_device.specs.Blocks.{faults_after};
-ghost use Rattle.block_device.specs.Calls.{ComesByCalls};
+ghost use Rattle.image_tree.specs.Vocabulary.{faults_after, ComesByCalls};
 ghost use Rattle.image_tree.specs.Checks.{IsGoodType, HasGoodTypes, HasRoot};
 ghost use Rattle.image_tree.specs.Layout.{IsLayout};
 ghost use Rattle.image_tree.specs.Reads.{OnlyReads};

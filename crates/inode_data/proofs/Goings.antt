@@ -1,27 +1,6 @@
 -- How a program over the blocks of a content goes on.
-use Rattle.std.proofs.Common.{◌≡◌, ℕ, List, Option, refl, sym, ap, ◌∙◌, [], None}
-use Rattle.std.specs.Option.{option_map, option_map_or}
-use Rattle.inode_table.specs.HeldInodes.{number_in, unloaded, without_content}
-use Rattle.inode_data.specs.Emptying.{beside_emptying}
-use Rattle.inode_data.specs.declared.truncate.Emptying.{Emptying}
-use Rattle.buffer_cache.specs.Buffers.{BufferState}
-use Rattle.fs_layout.specs.declared.inode.Dinode.{Dinode}
-use Rattle.fs_machine.specs.Tied.{bytes_of}
-use Rattle.inode_data.specs.Writing.{look_up, located, name_in_table, take_one}
-use Rattle.fs_layout.specs.declared.superblock.Super.{Super}
-use Rattle.fs_layout.specs.Indirect.{numbers_in}
-use Rattle.std.specs.Prelude.{slice_index, if◌then◌else◌, ◌==◌, Some}
-use Rattle.inode_data.specs.declared.locate.Located.{Located}
-use Rattle.fs_machine.specs.declared.hand.Seat.{Seat}
-use Rattle.fs_machine.specs.declared.hand.Seat.TheVariants.{One, Two}
-use Rattle.fs_machine.specs.declared.hand.Place.TheVariants.{First, Second}
-use Rattle.sleep_lock.specs.SleepLock.{GuardState}
-use Rattle.fs_machine.specs.declared.entries.Inode.{Inode}
-use Rattle.atomic_programs.specs.Prog.{Do, bind, unmarked}
+use Rattle.inode_data.proofs.Vocabulary.{◌≡◌, ℕ, List, Option, refl, sym, ap, ◌∙◌, [], None, option_map, option_map_or, number_in, unloaded, without_content, beside_emptying, Emptying, BufferState, Dinode, bytes_of, look_up, located, name_in_table, take_one, Super, numbers_in, slice_index, if◌then◌else◌, ◌==◌, Some, Located, Seat, One, Two, First, Second, GuardState, Inode, Do, bind, unmarked, P, Hand, no_inode, with_buffer}
 use Rattle.fs_machine.specs.Steps as steps
-use Rattle.fs_machine.specs.Machines.{P}
-use Rattle.fs_machine.specs.declared.hand.Hand.{Hand}
-use Rattle.fs_machine.specs.Hands.{no_inode, with_buffer}
 
 -- the indirect block by its buffer
 abbrev pub table_in : ℕ → Dinode → Option (GuardState BufferState) → Option ℕ → P Located

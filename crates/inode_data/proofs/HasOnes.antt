@@ -1,36 +1,11 @@
 -- Each part has an operation to make.
-use Rattle.std.proofs.Common.{ℕ, Option, Some, None, List}
-use Rattle.fs_layout.specs.declared.inode.Dinode.{Dinode}
-use Rattle.inode_data.specs.Writing.{name_in_table}
-use Rattle.inode_data.specs.declared.locate.Located.{Located}
-use Rattle.fs_machine.proofs.HasOnes.{HasOne, first, fetch_has}
-use Rattle.fs_machine.specs.declared.hand.Hand.{Hand}
-use Rattle.inode_data.specs.Emptying.{truncate_left}
-use Rattle.fs_machine.specs.Fetching.{fetch_left}
-use Rattle.inode_data.specs.FetchingBlocks.{block_left}
-use Rattle.bitmap_alloc.specs.FreeingBlocks.{free_left}
-use Rattle.inode_data.specs.FreeingInodes.{freeing_left}
-use Rattle.inode_data.specs.Locating.{locate_left, stage_left}
-use Rattle.inode_table.specs.Storing.{store_left}
-use Rattle.inode_table.specs.StoringRecords.{record_left}
-use Rattle.bitmap_alloc.specs.Taking.{take_left}
-use Rattle.inode_data.specs.declared.fetch_block.FetchBlock.{FetchBlock}
+use Rattle.inode_data.proofs.Vocabulary.{ℕ, Option, Some, None, List, Dinode, name_in_table, Located, HasOne, first, fetch_has, Hand, truncate_left, fetch_left, block_left, free_left, freeing_left, locate_left, stage_left, store_left, record_left, take_left, FetchBlock, FreeInode, Locate, Stage, Truncate, read_left, write_left, ReadPart, WritePart, free_has, take_has, store_has, record_has}
 use Rattle.inode_data.specs.declared.fetch_block.FetchBlock.TheVariants as block
-use Rattle.inode_data.specs.declared.free_inode.FreeInode.{FreeInode}
 use Rattle.inode_data.specs.declared.free_inode.FreeInode.TheVariants as freeing
-use Rattle.inode_data.specs.declared.locate.Locate.{Locate}
-use Rattle.inode_data.specs.declared.locate.Stage.{Stage}
 use Rattle.inode_data.specs.declared.locate.Stage.TheVariants as stage
-use Rattle.inode_data.specs.declared.truncate.Truncate.{Truncate}
 use Rattle.inode_data.specs.declared.truncate.Truncate.TheVariants as truncate
-use Rattle.inode_data.specs.PartReading.{read_left}
-use Rattle.inode_data.specs.PartWriting.{write_left}
-use Rattle.inode_data.specs.declared.read_part.ReadPart.{ReadPart}
 use Rattle.inode_data.specs.declared.read_part.ReadPart.TheVariants as read
-use Rattle.inode_data.specs.declared.write_part.WritePart.{WritePart}
 use Rattle.inode_data.specs.declared.write_part.WritePart.TheVariants as write
-use Rattle.bitmap_alloc.proofs.HasOnes.{free_has, take_has}
-use Rattle.inode_table.proofs.HasOnes.{store_has, record_has}
 
 pub block_has : (m : FetchBlock) (h : Hand) → HasOne (block_left m h)
 block_has (block.Table i f) h = first (fetch_left f h) _ (fetch_has f h)

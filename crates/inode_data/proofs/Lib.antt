@@ -1,3 +1,5 @@
+pub mod Lemmas
+pub mod Vocabulary
 pub mod Asking
 pub mod ContentFronts
 pub mod Goings

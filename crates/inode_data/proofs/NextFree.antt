@@ -1,12 +1,5 @@
 -- The next number that isn't 0.
-use Rattle.std.proofs.Common.{◌≡◌, ◌≢◌, ℕ, zero, suc, ◌+◌, ◌-◌, ◌<◌, List, [], ◌∷◌, drop, get_or, Some, None, refl, sym, ap, ◌∙◌, arith}
-use Rattle.std.proofs.lemmas.List.{drop-drop, get_or-drop}
-use Rattle.std.proofs.lemmas.Bool.{ne_eqb}
-use Rattle.atomic_programs.specs.Prog.{bind}
-use Rattle.fs_machine.specs.Machines.{P}
-use Rattle.bitmap_alloc.specs.Programs.{free_block}
-use Rattle.inode_data.specs.Freeing.{free_numbers}
-use Rattle.inode_data.specs.Numbers.{IsNext}
+use Rattle.inode_data.proofs.Vocabulary.{◌≡◌, ◌≢◌, ℕ, zero, suc, ◌+◌, ◌-◌, ◌<◌, List, [], ◌∷◌, drop, get_or, Some, None, refl, sym, ap, ◌∙◌, arith, drop-drop, get_or-drop, ne_eqb, bind, P, free_block, free_numbers, IsNext}
 
 none_free : {A : Type 0} (bitmap : ℕ) (numbers : List ℕ) (after : P A) → ((k : ℕ) → get_or numbers k 0 ≡ 0) → free_numbers bitmap numbers after ≡ after
 none_free bitmap [] after zeros = refl

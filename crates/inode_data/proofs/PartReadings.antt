@@ -1,11 +1,5 @@
 -- The blocks of a read.
-use Rattle.std.proofs.Common.{◌≡◌, ◌≢◌, ℕ, zero, suc, ◌-◌, ◌/◌, List, refl, ap, arith}
-use Rattle.fs_layout.specs.declared.inode.Dinode.{Dinode}
-use Rattle.fs_layout.specs.Widths.{block_len}
-use Rattle.atomic_programs.specs.Prog.{bind}
-use Rattle.fs_machine.specs.Machines.{P}
-use Rattle.inode_data.specs.Programs.{FetchedBlock, FilledMemory, blocks_between, end_of, fetch_block, next_block, read_blocks, read_from, read_part}
-use Rattle.inode_data.specs.PartReading.{filled_to}
+use Rattle.inode_data.proofs.Vocabulary.{◌≡◌, ◌≢◌, ℕ, zero, suc, ◌-◌, ◌/◌, List, refl, ap, arith, Dinode, block_len, bind, P, FetchedBlock, FilledMemory, blocks_between, end_of, fetch_block, next_block, read_blocks, read_from, read_part, filled_to}
 
 pub next_read : (left : ℕ) (d : Dinode) (from upto : ℕ) (m : FilledMemory) (p : P FetchedBlock) → left ≢ 0 → p ≡ fetch_block d (from / block_len)
     → bind p (read_part (read_blocks (left - 1) d (next_block from) upto) from upto m) ≡ read_blocks left d from upto m

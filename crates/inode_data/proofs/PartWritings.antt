@@ -1,20 +1,5 @@
 -- The blocks of a writing.
-use Rattle.std.proofs.Common.{◌≡◌, ◌≢◌, ℕ, zero, suc, ◌+◌, ◌-◌, ◌/◌, List, None, length, drop, refl, ap, sym, ◌∙◌, arith}
-use Rattle.std.proofs.lemmas.List.{drop-drop}
-use Rattle.fs_layout.specs.Widths.{block_len}
-use Rattle.fs_layout.specs.declared.inode.Dinode.{Dinode}
-use Rattle.atomic_programs.specs.Prog.{bind}
-use Rattle.atomic_programs.proofs.Prog.{bind-assoc}
-use Rattle.fs_machine.specs.Machines.{P}
-use Rattle.inode_table.specs.Programs.{store}
-use Rattle.inode_data.specs.Programs.{blocks_between}
-use Rattle.inode_data.specs.Writing.{WriteResult, grown, locate, write_located, write_blocks, write_part}
-use Rattle.inode_data.specs.declared.locate.Located.{Located}
-use Rattle.fs_machine.specs.declared.hand.Hand.{Hand}
-use Rattle.inode_table.specs.Storing.{store_left}
-use Rattle.inode_table.specs.declared.store_inode.StoreInode.{StoreInode}
-use Rattle.inode_data.specs.PartWriting.{after_location, blocks_behind, bytes_left, give_written, next_count, stored, write_rest, written_so, IsPast}
-use Rattle.inode_data.specs.declared.write_part.Writing.{Writing}
+use Rattle.inode_data.proofs.Vocabulary.{◌≡◌, ◌≢◌, ℕ, zero, suc, ◌+◌, ◌-◌, ◌/◌, List, None, length, drop, refl, ap, sym, ◌∙◌, arith, drop-drop, block_len, Dinode, bind, bind-assoc, P, store, blocks_between, WriteResult, grown, locate, write_located, write_blocks, write_part, Located, Hand, store_left, StoreInode, after_location, blocks_behind, bytes_left, give_written, next_count, stored, write_rest, written_so, IsPast, Writing}
 
 none_left : (n : ℕ) (w : Writing) (d : Dinode) (bytes : List ℕ) → n ≡ 0 → bind (write_blocks n w.sizes w.at (bytes_left w bytes) d) (stored w) ≡ stored w (written_so d w)
 unfolding write_blocks

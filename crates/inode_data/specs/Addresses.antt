@@ -1,7 +1,6 @@
 -- Where the blocks of a content stand.
 use Rattle.std.specs.Prelude.{ℕ, ◌-◌, ◌<◌, nat_lt, if◌then◌else◌, slice_index}
-use Rattle.fs_layout.specs.declared.inode.Dinode.{Dinode}
-use Rattle.fs_layout.specs.Widths.{numbers_per_block}
+use Rattle.inode_data.specs.Vocabulary.{Dinode, numbers_per_block}
 use Rattle.inode_data.specs.Widths.{direct}
 use Rattle.inode_data.specs.declared.addresses.Address.{Address}
 use Rattle.inode_data.specs.declared.addresses.Address.TheVariants.{Direct, InTable}

@@ -1,6 +1,5 @@
 -- What the beginning of a machine stands for.
-use Rattle.atomic_programs.specs.Prog.{Ret}
-use Rattle.fs_machine.specs.Machines.{P}
+use Rattle.inode_data.specs.Vocabulary.{Ret, P}
 use Rattle.inode_data.specs.declared.begun.Begun.{Begun}
 use Rattle.inode_data.specs.declared.begun.Begun.TheVariants.{Runs, Is}
 

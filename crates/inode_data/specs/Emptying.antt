@@ -1,29 +1,10 @@
 -- The content of the inode at a seat emptied.
 use Rattle.std.specs.Prelude.{◌≡◌, ℕ, ◌+◌, ◌<◌, List, [], drop, take, Option, None, IsSome}
-use Rattle.std.specs.Option.{MatchOption, option_map_or}
-use Rattle.fs_layout.specs.declared.inode.Dinode.{Dinode}
-use Rattle.fs_layout.specs.Indirect.{numbers_in}
-use Rattle.fs_layout.specs.Widths.{numbers_per_block}
-use Rattle.sleep_lock.specs.SleepLock.{GuardState}
-use Rattle.buffer_cache.specs.Buffers.{BufferState}
-use Rattle.fs_machine.specs.declared.entries.Inode.{Inode}
-use Rattle.fs_machine.specs.Tied.{bytes_of}
-use Rattle.inode_table.specs.Programs.{record_of}
-use Rattle.atomic_programs.specs.Prog.{Ret, bind}
-use Rattle.fs_machine.specs.Machines.{P}
+use Rattle.inode_data.specs.Vocabulary.{MatchOption, option_map_or, Dinode, numbers_in, numbers_per_block, GuardState, BufferState, Inode, bytes_of, record_of, Ret, bind, P, HandState as Hand, First, Second, Op, buffer_at, block_at, inode_in, with_buffer, fetch_left, fetch_asked, fetch_block, fetch_place, FetchReady, block_in, bytes_in, free_left, free_asked, free_place, FreeReady, record_in, unloaded, IsLoadedAt, HasBlock, record_left, record_asked, record_place, record_seat, RecordReady, FreeBlock}
 use Rattle.inode_data.specs.Widths.{direct}
 use Rattle.inode_data.specs.Addresses.{table_of}
 use Rattle.inode_data.specs.Freeing.{free_numbers, free_table, free_in_table, free_indirect, without_content, store_record}
-use Rattle.fs_machine.specs.declared.hand.Hand.{Hand}
-use Rattle.fs_machine.specs.declared.hand.Place.TheVariants.{First, Second}
-use Rattle.fs_machine.specs.declared.op.Op.{Op}
 use Rattle.fs_machine.specs.declared.op.Op.TheVariants as ops
-use Rattle.fs_machine.specs.Hands.{buffer_at, block_at, inode_in, with_buffer}
-use Rattle.fs_machine.specs.Fetching.{fetch_left, fetch_asked, fetch_block, fetch_place, FetchReady, block_in, bytes_in}
-use Rattle.bitmap_alloc.specs.FreeingBlocks.{free_left, free_asked, free_place, FreeReady}
-use Rattle.inode_table.specs.HeldInodes.{record_in, unloaded, IsLoadedAt, HasBlock}
-use Rattle.inode_table.specs.StoringRecords.{record_left, record_asked, record_place, record_seat, RecordReady}
-use Rattle.bitmap_alloc.specs.declared.free_block.FreeBlock.{FreeBlock}
 use Rattle.inode_data.specs.declared.truncate.Emptying.{Emptying}
 use Rattle.inode_data.specs.declared.truncate.Truncate.{Truncate}
 use Rattle.inode_data.specs.declared.truncate.Truncate.TheVariants.{Own, Indirect, Listed, GiveBack, Table, Record}

@@ -1,17 +1,9 @@
 -- A block of a content taken.
 use Rattle.std.specs.Prelude.{◌<◌, None, IsSome}
-use Rattle.fs_layout.specs.Widths.{numbers_per_block}
-use Rattle.atomic_programs.specs.Prog.{Do, bind, unmarked}
+use Rattle.inode_data.specs.Vocabulary.{numbers_per_block, Do, bind, unmarked, P, HandState as Hand, Place, Op, buffer_at, block_at, bytes_at, fetch_left, fetch_asked, fetch_block, fetch_place, FetchReady, Fetched}
 use Rattle.fs_machine.specs.Steps as steps
-use Rattle.fs_machine.specs.Machines.{P}
 use Rattle.inode_data.specs.Programs.{FetchedBlock, give_fetched, fetch_named, fetch_number}
-use Rattle.fs_machine.specs.declared.hand.Hand.{Hand}
-use Rattle.fs_machine.specs.declared.hand.Place.{Place}
-use Rattle.fs_machine.specs.declared.op.Op.{Op}
 use Rattle.fs_machine.specs.declared.op.Op.TheVariants as ops
-use Rattle.fs_machine.specs.Hands.{buffer_at, block_at, bytes_at}
-use Rattle.fs_machine.specs.Fetching.{fetch_left, fetch_asked, fetch_block, fetch_place, FetchReady}
-use Rattle.fs_machine.specs.declared.fetch.Fetched.{Fetched}
 use Rattle.inode_data.specs.declared.fetch_block.FetchBlock.{FetchBlock}
 use Rattle.inode_data.specs.declared.fetch_block.FetchBlock.TheVariants.{Table, Number, Block}
 

@@ -1,15 +1,7 @@
 -- Contents emptied: programs over what all harts share. Nothing is marked in them.
 use Rattle.std.specs.Prelude.{ℕ, ◌==◌, if◌then◌else◌, pos, List, [], ◌∷◌, None, replicate, take}
-use Rattle.fs_layout.specs.declared.inode.Dinode.{Dinode}
-use Rattle.fs_layout.specs.declared.superblock.Super.{Super}
-use Rattle.fs_layout.specs.Indirect.{numbers_in}
-use Rattle.fs_layout.specs.Widths.{addresses}
-use Rattle.atomic_programs.specs.Prog.{Prog, Ret, Do, bind, unmarked}
-use Rattle.fs_machine.specs.Inodes.{DroppedState, Counts, Keeps, Dies}
-use Rattle.fs_machine.specs.Steps.{Op, Answer, Put, Unlock, Down, Held, Freed}
-use Rattle.fs_machine.specs.Programs.{fetch}
-use Rattle.bitmap_alloc.specs.Programs.{free_block}
-use Rattle.inode_table.specs.Programs.{store, record_of}
+use Rattle.inode_data.specs.Vocabulary.{Dinode, Super, numbers_in, addresses, Prog, Ret, Do, bind, unmarked, DroppedState, Counts, Keeps, Dies, Answer, Put, Unlock, Down, Held, Freed, fetch, free_block, store, record_of}
+use Rattle.fs_machine.specs.Steps.{Op}
 use Rattle.inode_data.specs.Widths.{direct}
 use Rattle.inode_data.specs.Addresses.{table_of}
 

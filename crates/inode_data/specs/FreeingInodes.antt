@@ -1,20 +1,8 @@
 -- The inode at a seat freed.
 use Rattle.std.specs.Prelude.{◌≡◌, ℕ, None, IsSome}
-use Rattle.std.specs.Option.{MatchOption}
-use Rattle.fs_layout.specs.declared.inode.Dinode.{Dinode}
-use Rattle.fs_layout.specs.declared.superblock.Super.{Super}
-use Rattle.atomic_programs.specs.Prog.{bind}
-use Rattle.fs_machine.specs.Machines.{P}
-use Rattle.inode_table.specs.Programs.{store}
+use Rattle.inode_data.specs.Vocabulary.{MatchOption, Dinode, Super, bind, P, store, HandState as Hand, First, Seat, Op, inode_at, number_in, record_left, record_asked, record_place, record_seat, RecordReady}
 use Rattle.inode_data.specs.Freeing.{truncate, freed}
-use Rattle.fs_machine.specs.declared.hand.Hand.{Hand}
-use Rattle.fs_machine.specs.declared.hand.Place.TheVariants.{First}
-use Rattle.fs_machine.specs.declared.hand.Seat.{Seat}
-use Rattle.fs_machine.specs.declared.op.Op.{Op}
-use Rattle.fs_machine.specs.Hands.{inode_at}
 use Rattle.inode_data.specs.Emptying.{truncate_left, truncate_asked, emptying_of, TruncateReady, HasNoBuffer}
-use Rattle.inode_table.specs.HeldInodes.{number_in}
-use Rattle.inode_table.specs.StoringRecords.{record_left, record_asked, record_place, record_seat, RecordReady}
 use Rattle.inode_data.specs.declared.free_inode.FreeInode.{FreeInode}
 use Rattle.inode_data.specs.declared.free_inode.FreeInode.TheVariants.{Truncating, Storing}
 use Rattle.inode_data.specs.declared.truncate.Emptying.{Emptying}

@@ -1,10 +1,7 @@
 -- What a part over a content's blocks has in hand.
 use Rattle.std.specs.Prelude.{◌≡◌, None, IsSome}
-use Rattle.std.specs.Option.{MatchOption}
+use Rattle.inode_data.specs.Vocabulary.{MatchOption, HandState as Hand, First, Second, block_at, bytes_at, with_buffer}
 use Rattle.inode_data.specs.Programs.{FetchedBlock}
-use Rattle.fs_machine.specs.declared.hand.Hand.{Hand}
-use Rattle.fs_machine.specs.declared.hand.Place.TheVariants.{First, Second}
-use Rattle.fs_machine.specs.Hands.{block_at, bytes_at, with_buffer}
 use Rattle.inode_data.specs.FetchingBlocks.{block_place, BlockReady}
 use Rattle.inode_data.specs.declared.fetch_block.FetchBlock.{FetchBlock}
 

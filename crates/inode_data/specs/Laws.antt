@@ -1,10 +1,6 @@
 -- What a read answers, where each block is seen as it stands.
 use Rattle.std.specs.Prelude.{◌≡◌, ◌⊎◌, ℕ, ◌*◌, ◌≤◌, zero, suc, List, [], ◌++◌, length, take, drop, Some, None, slice_index}
-use Rattle.fs_layout.specs.declared.inode.Dinode.{Dinode}
-use Rattle.fs_layout.specs.Indirect.{numbers_in}
-use Rattle.fs_layout.specs.Widths.{block_len}
-use Rattle.fs_machine.specs.Steps.{Get, Read}
-use Rattle.bitmap_alloc.specs.Laws.{Oracle, outcome}
+use Rattle.inode_data.specs.Vocabulary.{Dinode, numbers_in, block_len, Get, Read, Oracle, outcome}
 use Rattle.inode_data.specs.declared.addresses.Address.{Address}
 use Rattle.inode_data.specs.declared.addresses.Address.TheVariants.{Direct, InTable}
 use Rattle.inode_data.specs.Addresses.{address, table_of}

@@ -1,3 +1,4 @@
+pub mod Vocabulary
 pub mod Addresses
 pub mod Beginnings
 pub mod Emptying

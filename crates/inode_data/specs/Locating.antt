@@ -1,22 +1,11 @@
 -- A block of a content, taken where it is missing.
 use Rattle.std.specs.Prelude.{◌≡◌, ◌<◌, ◌≤◌, ℕ, Option, Some, None, IsSome}
-use Rattle.std.specs.Option.{MatchOption}
-use Rattle.fs_layout.specs.declared.inode.Dinode.{Dinode}
-use Rattle.fs_layout.specs.Widths.{bits_per_block, numbers_per_block}
-use Rattle.atomic_programs.specs.Prog.{Ret, Do, bind, unmarked}
+use Rattle.inode_data.specs.Vocabulary.{MatchOption, Dinode, bits_per_block, numbers_per_block, Ret, Do, bind, unmarked, P, HandState as Hand, First, Second, Op, buffer_at, block_at, bytes_at, with_buffer, fetch_left, fetch_asked, fetch_block, fetch_place, FetchReady, marks, take_left, take_asked, take_place, TakeReady, TakeBlock}
 use Rattle.fs_machine.specs.Steps as steps
-use Rattle.fs_machine.specs.Machines.{P}
 use Rattle.inode_data.specs.Widths.{direct}
 use Rattle.inode_data.specs.Writing.{located, with_address, name_direct, name_in_table, look_up, with_table}
 use Rattle.inode_data.specs.declared.locate.Located.{Located}
-use Rattle.fs_machine.specs.declared.hand.Hand.{Hand}
-use Rattle.fs_machine.specs.declared.hand.Place.TheVariants.{First, Second}
-use Rattle.fs_machine.specs.declared.op.Op.{Op}
 use Rattle.fs_machine.specs.declared.op.Op.TheVariants as ops
-use Rattle.fs_machine.specs.Hands.{buffer_at, block_at, bytes_at, with_buffer}
-use Rattle.fs_machine.specs.Fetching.{fetch_left, fetch_asked, fetch_block, fetch_place, FetchReady}
-use Rattle.bitmap_alloc.specs.Taking.{marks, take_left, take_asked, take_place, TakeReady}
-use Rattle.bitmap_alloc.specs.declared.take_block.TakeBlock.{TakeBlock}
 use Rattle.inode_data.specs.declared.locate.Locate.{Locate}
 use Rattle.inode_data.specs.declared.locate.Stage.{Stage}
 use Rattle.inode_data.specs.declared.locate.Stage.TheVariants.{Direct, NewTable, Table, NewEntry, Name, Give}

@@ -1,16 +1,10 @@
 -- A part of a content read.
 use Rattle.std.specs.Prelude.{◌≡◌, ℕ, ◌+◌, ◌-◌, ◌≤◌, List, length, None, IsSome}
-use Rattle.fs_layout.specs.declared.inode.Dinode.{Dinode}
-use Rattle.atomic_programs.specs.Prog.{Do, bind, unmarked}
+use Rattle.inode_data.specs.Vocabulary.{Dinode, Do, bind, unmarked, P, HandState as Hand, First, Op, block_at}
 use Rattle.fs_machine.specs.Steps as steps
-use Rattle.fs_machine.specs.Machines.{P}
 use Rattle.inode_data.specs.Widths.{most_bytes}
 use Rattle.inode_data.specs.Programs.{FilledMemory, filled_with, next_block, blocks_between, part_of, read_part, read_blocks}
-use Rattle.fs_machine.specs.declared.hand.Hand.{Hand}
-use Rattle.fs_machine.specs.declared.hand.Place.TheVariants.{First}
-use Rattle.fs_machine.specs.declared.op.Op.{Op}
 use Rattle.fs_machine.specs.declared.op.Op.TheVariants as ops
-use Rattle.fs_machine.specs.Hands.{block_at}
 use Rattle.inode_data.specs.FetchingBlocks.{block_left, block_asked}
 use Rattle.inode_data.specs.InHand.{FetchesFirst}
 use Rattle.inode_data.specs.declared.read_part.Reading.{Reading}

@@ -1,21 +1,11 @@
 -- A part of a content written.
 use Rattle.std.specs.Prelude.{◌≡◌, ℕ, ◌+◌, ◌/◌, ◌^◌, ◌<◌, ◌≤◌, List, length, drop, None, IsSome}
-use Rattle.fs_layout.specs.Widths.{bits_per_block, block_len}
-use Rattle.fs_layout.specs.declared.inode.Dinode.{Dinode}
-use Rattle.atomic_programs.specs.Prog.{Ret, bind}
-use Rattle.fs_machine.specs.Machines.{P}
-use Rattle.inode_table.specs.Programs.{inode_block}
+use Rattle.inode_data.specs.Vocabulary.{bits_per_block, block_len, Dinode, Ret, bind, P, inode_block, HandState as Hand, First, Op, block_at, bytes_at, fetch_left, fetch_asked, fetch_block, fetch_place, FetchReady, store_left, store_asked, store_place, StoreReady}
 use Rattle.inode_data.specs.Widths.{most_blocks}
 use Rattle.inode_data.specs.Writing.{WriteResult, front_of, put_part, write_located, write_blocks, store_written}
 use Rattle.inode_data.specs.declared.locate.Located.{Located}
-use Rattle.fs_machine.specs.declared.hand.Hand.{Hand}
-use Rattle.fs_machine.specs.declared.hand.Place.TheVariants.{First}
-use Rattle.fs_machine.specs.declared.op.Op.{Op}
 use Rattle.fs_machine.specs.declared.op.Op.TheVariants as ops
-use Rattle.fs_machine.specs.Hands.{block_at, bytes_at}
-use Rattle.fs_machine.specs.Fetching.{fetch_left, fetch_asked, fetch_block, fetch_place, FetchReady}
 use Rattle.inode_data.specs.Locating.{locate_left, locate_asked, LocateReady}
-use Rattle.inode_table.specs.Storing.{store_left, store_asked, store_place, StoreReady}
 use Rattle.inode_data.specs.InHand.{HasBlock, NoBuffers}
 use Rattle.inode_data.specs.declared.write_part.Writing.{Writing}
 use Rattle.inode_data.specs.declared.write_part.Written.{Written}

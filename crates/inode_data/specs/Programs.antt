@@ -1,12 +1,7 @@
 -- Contents read: programs over what all harts share. Nothing is marked in them.
 use Rattle.std.specs.Prelude.{ℕ, zero, suc, ◌+◌, ◌-◌, ◌*◌, ◌/◌, ◌%◌, List, length, min, nat_lt, if◌then◌else◌, None, take, drop, slice_index}
-use Rattle.fs_layout.specs.declared.inode.Dinode.{Dinode}
-use Rattle.fs_layout.specs.Bytes.{overwrite}
-use Rattle.fs_layout.specs.Indirect.{numbers_in}
-use Rattle.fs_layout.specs.Widths.{block_len}
-use Rattle.atomic_programs.specs.Prog.{Prog, Ret, Do, bind, unmarked}
-use Rattle.fs_machine.specs.Steps.{Op, Answer, Put}
-use Rattle.fs_machine.specs.Programs.{fetch}
+use Rattle.inode_data.specs.Vocabulary.{Dinode, overwrite, numbers_in, block_len, Prog, Ret, Do, bind, unmarked, Answer, Put, fetch}
+use Rattle.fs_machine.specs.Steps.{Op}
 use Rattle.inode_data.specs.declared.addresses.Address.{Address}
 use Rattle.inode_data.specs.declared.addresses.Address.TheVariants.{Direct, InTable}
 use Rattle.inode_data.specs.Widths.{most_bytes}

@@ -1,6 +1,6 @@
 -- How many blocks a content has.
 use Rattle.std.specs.Prelude.{ℕ, ◌+◌, ◌-◌, ◌*◌}
-use Rattle.fs_layout.specs.Widths.{addresses, block_len, numbers_per_block}
+use Rattle.inode_data.specs.Vocabulary.{addresses, block_len, numbers_per_block}
 
 -- how many block numbers stand in the inode itself; that of the indirect block comes behind them
 abbrev pub direct : ℕ

@@ -1,15 +1,7 @@
 -- Contents written: programs over what all harts share. Nothing is marked in them.
 use Rattle.std.specs.Prelude.{ℕ, zero, suc, ◌+◌, ◌-◌, ◌*◌, ◌/◌, ◌%◌, ◌==◌, max, if◌then◌else◌, List, length, take, drop, slice_index, slice_set, Option, Some, None}
-use Rattle.fs_layout.specs.declared.inode.Dinode.{Dinode}
-use Rattle.fs_layout.specs.declared.superblock.Super.{Super}
-use Rattle.fs_layout.specs.Bytes.{overwrite, u32_bytes}
-use Rattle.fs_layout.specs.Indirect.{numbers_in}
-use Rattle.fs_layout.specs.Widths.{block_len, number_len}
-use Rattle.atomic_programs.specs.Prog.{Prog, Ret, Do, bind, unmarked}
-use Rattle.fs_machine.specs.Steps.{Op, Answer, Put}
-use Rattle.fs_machine.specs.Programs.{fetch}
-use Rattle.bitmap_alloc.specs.Programs.{take_block}
-use Rattle.inode_table.specs.Programs.{store}
+use Rattle.inode_data.specs.Vocabulary.{Dinode, Super, overwrite, u32_bytes, numbers_in, block_len, number_len, Prog, Ret, Do, bind, unmarked, Answer, Put, fetch, take_block, store}
+use Rattle.fs_machine.specs.Steps.{Op}
 use Rattle.inode_data.specs.Widths.{direct}
 use Rattle.inode_data.specs.Addresses.{address, table_of}
 use Rattle.inode_data.specs.Programs.{blocks_between}

@@ -1,15 +1,8 @@
 //! A block of a content taken.
-ghost use Rattle.std.specs.Option.{MatchOption};
+ghost use Rattle.inode_data.specs.Vocabulary.{MatchOption, numbers_in, numbers_per_block, buffer_at, bytes_at, IsAfter, answer_in, Goes, left_after, bare, HandState, FetchEnds};
 ghost use Rattle.std.specs.Prelude.{IsSome, ◌≡◌, ◌<◌, ℕ, Some, None, IfSome, IfNone, slice_index};
-ghost use Rattle.fs_layout.specs.Indirect.{numbers_in};
-ghost use Rattle.fs_layout.specs.Widths.{numbers_per_block};
 ghost use Rattle.inode_data.specs.Widths.{most_blocks};
 ghost use Rattle.inode_data.specs.Programs.{FetchedBlock, fetch_block};
-ghost use Rattle.fs_machine.specs.Hands.{buffer_at, bytes_at};
-ghost use Rattle.fs_machine.specs.Ops.{IsAfter, answer_in};
-ghost use Rattle.fs_machine.specs.Controls.{Goes, left_after, bare};
-ghost use Rattle.fs_machine.specs.declared.hand.Hand.{Hand as HandState};
-ghost use Rattle.fs_machine.specs.Fetching.{FetchEnds};
 ghost use Rattle.inode_data.specs.FetchingBlocks.{block_left, block_asked, block_place, BlockReady, fetched_block};
 
 use crate::addresses::{Address, DIRECT, address_of};

@@ -1,11 +1,7 @@
 //! An inode freed.
 ghost use Rattle.std.specs.Prelude.{◌≡◌, None, IfSome, IfNone};
-ghost use Rattle.inode_table.specs.Programs.{store};
+ghost use Rattle.inode_data.specs.Vocabulary.{store, IsAfter, answer_in, Goes, left_after, bare, HandState, number_in, record_in};
 ghost use Rattle.inode_data.specs.Freeing.{freed};
-ghost use Rattle.fs_machine.specs.Ops.{IsAfter, answer_in};
-ghost use Rattle.fs_machine.specs.Controls.{Goes, left_after, bare};
-ghost use Rattle.fs_machine.specs.declared.hand.Hand.{Hand as HandState};
-ghost use Rattle.inode_table.specs.HeldInodes.{number_in, record_in};
 ghost use Rattle.inode_data.specs.Emptying.{beside_emptying, IsEmptying, HasNoBuffer};
 ghost use Rattle.inode_data.specs.FreeingInodes.{free_record, store_free, freeing_left, freeing_asked, freeing_of, FreeingReady, HasFreed};
 ghost use Rattle.inode_data.specs.declared.truncate.Emptying.{Emptying as EmptyingState};

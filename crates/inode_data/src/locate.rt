@@ -1,13 +1,9 @@
 //! A block of a content, taken where it is missing.
 ghost use Rattle.std.specs.Prelude.{◌≡◌, ◌≤◌, ◌<◌, ℕ, None, IsSome, IfSome, IfNone};
-ghost use Rattle.fs_layout.specs.Widths.{bits_per_block};
+ghost use Rattle.inode_data.specs.Vocabulary.{bits_per_block, with_buffer, IsAfter, answer_in, Goes, left_after, bare, HandState};
 ghost use Rattle.inode_data.specs.Widths.{direct, most_blocks};
 ghost use Rattle.inode_data.specs.Writing.{with_address, locate};
 ghost use Rattle.inode_data.specs.declared.locate.Located.{Located as LocatedState};
-ghost use Rattle.fs_machine.specs.Hands.{with_buffer};
-ghost use Rattle.fs_machine.specs.Ops.{IsAfter, answer_in};
-ghost use Rattle.fs_machine.specs.Controls.{Goes, left_after, bare};
-ghost use Rattle.fs_machine.specs.declared.hand.Hand.{Hand as HandState};
 ghost use Rattle.inode_data.specs.Locating.{begun_left, locate_left, locate_asked, named_direct, IfBegun, LocateReady, Leaves};
 
 use crate::addresses::{Address, DIRECT, address_of};

@@ -1,11 +1,10 @@
 // A block of a content sought.
 ghost use Rattle.std.specs.Prelude.{◌≡◌, ◌≤◌, ◌<◌, None, IsSome};
-ghost use Rattle.fs_layout.specs.Widths.{bits_per_block};
+ghost use Rattle.inode_data.specs.Vocabulary.{bits_per_block, HandState};
 ghost use Rattle.inode_data.specs.Beginnings.{begun_of, IfBegun};
 ghost use Rattle.inode_data.specs.declared.begun.Begun.TheVariants as begun;
 ghost use Rattle.inode_data.specs.Widths.{most_blocks};
 ghost use Rattle.inode_data.specs.Writing.{locate};
-ghost use Rattle.fs_machine.specs.declared.hand.Hand.{Hand as HandState};
 ghost use Rattle.inode_data.specs.Locating.{locate_left, LocateReady};
 ghost use Rattle.inode_data.specs.InHand.{NoBuffers};
 

@@ -1,7 +1,6 @@
 //! The numbers of a content's blocks that aren't 0.
 ghost use Rattle.std.specs.Prelude.{◌<◌, IfSome, take};
-ghost use Rattle.fs_layout.specs.Indirect.{numbers_in};
-ghost use Rattle.fs_layout.specs.Widths.{numbers_per_block};
+ghost use Rattle.inode_data.specs.Vocabulary.{numbers_in, numbers_per_block};
 ghost use Rattle.inode_data.specs.Numbers.{IsNext};
 ghost use Rattle.inode_data.specs.Widths.{direct};
 

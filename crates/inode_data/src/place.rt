@@ -1,17 +1,10 @@
 // What a buffer has of a content, and the fetch of its blocks.
 ghost use Rattle.std.specs.Prelude.{◌≡◌, ◌<◌, Some, IsSome, ◌≤◌, IfSome, slice_index, ◌+◌, length, None};
-ghost use Rattle.std.specs.Option.{MatchOption};
-ghost use Rattle.fs_machine.specs.Tied.{bytes_of};
+ghost use Rattle.inode_data.specs.Vocabulary.{MatchOption, bytes_of, block_at, buffer_at, bytes_at, with_bytes, with_content, numbers_in, numbers_per_block, overwrite, HandState, First};
 ghost use Rattle.inode_data.specs.Numbers.{IsNext};
-ghost use Rattle.fs_machine.specs.Hands.{block_at, buffer_at, bytes_at, with_bytes, with_content};
 ghost use Rattle.inode_data.specs.Writing.{with_number, with_part};
-ghost use Rattle.fs_layout.specs.Indirect.{numbers_in};
-ghost use Rattle.fs_layout.specs.Widths.{numbers_per_block};
-ghost use Rattle.fs_layout.specs.Bytes.{overwrite};
 ghost use Rattle.inode_data.specs.Programs.{blocks_between, fetch_block};
 ghost use Rattle.inode_data.specs.Widths.{most_blocks};
-ghost use Rattle.fs_machine.specs.declared.hand.Hand.{Hand as HandState};
-ghost use Rattle.fs_machine.specs.declared.hand.Place.TheVariants.{First};
 ghost use Rattle.inode_data.specs.FetchingBlocks.{block_left};
 ghost use Rattle.inode_data.specs.InHand.{FetchesFirst, NoBuffers};
 

@@ -1,15 +1,8 @@
 //! A part of a content read.
 ghost use Rattle.std.specs.Prelude.{◌≡◌, ◌+◌, ◌-◌, ◌≤◌, ℕ, List, length, Some, None, IsSome, IfSome, IfNone};
-ghost use Rattle.std.specs.Option.{MatchOption};
-ghost use Rattle.atomic_programs.specs.Prog.{asks};
-ghost use Rattle.fs_layout.specs.declared.inode.Dinode.{Dinode as DinodeState};
+ghost use Rattle.inode_data.specs.Vocabulary.{MatchOption, asks, Dinode as DinodeState, bytes_at, op_in, answer_in, CanDo, Prepared, IsAfter, Goes, left_after, HandState, First};
 ghost use Rattle.inode_data.specs.Beginnings.{begun_of, IfBegun};
 ghost use Rattle.inode_data.specs.Programs.{end_of, read_blocks, read_from};
-ghost use Rattle.fs_machine.specs.Hands.{bytes_at};
-ghost use Rattle.fs_machine.specs.Ops.{op_in, answer_in, CanDo, Prepared, IsAfter};
-ghost use Rattle.fs_machine.specs.Controls.{Goes, left_after};
-ghost use Rattle.fs_machine.specs.declared.hand.Hand.{Hand as HandState};
-ghost use Rattle.fs_machine.specs.declared.hand.Place.TheVariants.{First};
 ghost use Rattle.inode_data.specs.Locating.{Leaves};
 ghost use Rattle.inode_data.specs.InHand.{NoBuffers};
 ghost use Rattle.inode_data.specs.PartReading.{filled_in, filled_to, in_all, read_count, read_left, read_asked, HasRead, HasRoom, IsReading, ReadReady};

@@ -1,19 +1,8 @@
 //! A content emptied.
 ghost use Rattle.std.specs.Prelude.{◌≡◌, ◌<◌, ◌^◌, ℕ, take, None, IsSome, IfSome, IfNone, slice_index};
-ghost use Rattle.std.specs.Option.{MatchOption};
-ghost use Rattle.fs_layout.specs.Indirect.{numbers_in};
-ghost use Rattle.fs_layout.specs.Widths.{numbers_per_block};
-ghost use Rattle.fs_layout.specs.declared.inode.Dinode.{Dinode as DinodeState};
-ghost use Rattle.atomic_programs.specs.Prog.{bind};
+ghost use Rattle.inode_data.specs.Vocabulary.{MatchOption, numbers_in, numbers_per_block, Dinode as DinodeState, bind, free_block, buffer_at, inode_in, IsAfter, answer_in, Goes, left_after, bare, HandState, Second, number_in, record_in, IsLoadedAt};
 ghost use Rattle.inode_data.specs.Freeing.{truncate, without_content};
 ghost use Rattle.inode_data.specs.Numbers.{IsNext};
-ghost use Rattle.bitmap_alloc.specs.Programs.{free_block};
-ghost use Rattle.fs_machine.specs.Hands.{buffer_at, inode_in};
-ghost use Rattle.fs_machine.specs.Ops.{IsAfter, answer_in};
-ghost use Rattle.fs_machine.specs.Controls.{Goes, left_after, bare};
-ghost use Rattle.fs_machine.specs.declared.hand.Hand.{Hand as HandState};
-ghost use Rattle.fs_machine.specs.declared.hand.Place.TheVariants.{Second};
-ghost use Rattle.inode_table.specs.HeldInodes.{number_in, record_in, IsLoadedAt};
 ghost use Rattle.inode_data.specs.Emptying.{record_rest, indirect_rest, own_rest, listed_rest, truncate_left, truncate_asked, emptying_of, beside_emptying, IsEmptying, HasTable, HasNoBuffer, TruncateReady};
 ghost use Rattle.inode_data.specs.declared.truncate.Emptying.{Emptying as EmptyingState};
 

@@ -1,14 +1,8 @@
 //! A part of a content written.
 ghost use Rattle.std.specs.Prelude.{◌≡◌, ◌≢◌, ◌+◌, ◌<◌, ◌≤◌, ◌^◌, ℕ, List, drop, length, Some, None, IsSome, IfSome, IfNone};
-ghost use Rattle.std.specs.Option.{MatchOption};
-ghost use Rattle.fs_layout.specs.Widths.{bits_per_block};
-ghost use Rattle.atomic_programs.specs.Prog.{asks};
-ghost use Rattle.inode_table.specs.Programs.{inode_block};
+ghost use Rattle.inode_data.specs.Vocabulary.{MatchOption, bits_per_block, asks, inode_block, op_in, answer_in, CanDo, Prepared, IsAfter, Goes, left_after, HandState};
 ghost use Rattle.inode_data.specs.Widths.{most_bytes};
 ghost use Rattle.inode_data.specs.Writing.{grown, write_part};
-ghost use Rattle.fs_machine.specs.Ops.{op_in, answer_in, CanDo, Prepared, IsAfter};
-ghost use Rattle.fs_machine.specs.Controls.{Goes, left_after};
-ghost use Rattle.fs_machine.specs.declared.hand.Hand.{Hand as HandState};
 ghost use Rattle.inode_data.specs.Locating.{Leaves};
 ghost use Rattle.inode_data.specs.InHand.{NoBuffers};
 ghost use Rattle.inode_data.specs.PartWriting.{after_location, stored, write_left, write_asked, write_rest, written_as, written_so, BeginsAmid, IsPast, IsWithin, IsWriting, WriteReady};

@@ -1,29 +1,5 @@
 -- A step of the tree acts at a walk's last lookup: what it leaves of the world.
-use Rattle.std.proofs.Common.{◌≡◌, ◌≢◌, ◌⊎◌, inl, inr, ℕ, ◌+◌, ◌<◌, ◌≤◌, Bool, true, false, List, [], ◌∷◌, Option, Some, None, refl, sym, ◌∙◌, ap, subst, arith}
-use Rattle.atomic_programs.specs.Logic.{P, own, onto, Fine, Wp}
-use Rattle.plain_tree.specs.declared.node.Node.{Node}
-use Rattle.plain_tree.specs.declared.step.Action.{Action}
-use Rattle.plain_tree.specs.declared.step.Action.TheVariants.{Inherit}
-use Rattle.plain_tree.specs.declared.step.StepAnswer.{StepAnswer}
-use Rattle.plain_tree.specs.Widths.{hart_count}
-use Rattle.plain_tree.specs.Tree.{Name, Tree, put, look, is_live, live_directory, settle}
-use Rattle.plain_tree.specs.Steps.{makes_node, opens_one, refusal_with, effect_with, answer_with, StepWith}
-use Rattle.plain_tree.specs.Laws.{AsksForWhatStays}
-use Rattle.plain_tree.specs.HartRow.{row_of}
-use Rattle.plain_tree.proofs.Settling.{settle_alive, settle_live, settle_again}
-use Rattle.plain_tree.proofs.SettledSteps.{settled_step, settled_makes}
-use Rattle.tree_laws.specs.WellFormed.{IsWellFormed}
-use Rattle.tree_laws.proofs.Maps.{same_or, put_same, put_other}
-use Rattle.tree_laws.proofs.Sums.{sum_same}
-use Rattle.tree_laws.proofs.Facts.{look_live}
-use Rattle.tree_laws.proofs.Walks.{look_same}
-use Rattle.tree_laws.specs.Moves.{Walk, Deed, Stage, Step, walks_at}
-use Rattle.tree_laws.specs.Moves.Move.{Look}
-use Rattle.inode_machine.specs.World.{Mine, Note, Desk, World, stage_of}
-use Rattle.inode_machine.specs.Inodes.{sort_of}
-use Rattle.inode_machine.specs.Exec.{with_walk}
-use Rattle.inode_machine.specs.Marks.{Made, acts, act_entered, act_left, found_by, look_made, looked, made_by, new_id, with_made}
-use Rattle.inode_machine.specs.Rules.{own_names, Stands, shop_of, Found, IsReferredTo, IsReached, IsAlone, Inv, machine}
+use Rattle.inode_machine.proofs.Vocabulary.{◌≡◌, ◌≢◌, ◌⊎◌, inl, inr, ℕ, ◌+◌, ◌<◌, ◌≤◌, Bool, true, false, List, [], ◌∷◌, Option, Some, None, refl, sym, ◌∙◌, ap, subst, arith, P, own, onto, Fine, Wp, Node, Action, Inherit, StepAnswer, hart_count, Name, Tree, put, look, is_live, live_directory, settle, makes_node, opens_one, refusal_with, effect_with, answer_with, StepWith, AsksForWhatStays, row_of, settle_alive, settle_live, settle_again, settled_step, settled_makes, IsWellFormed, same_or, put_same, put_other, sum_same, look_live, look_same, Walk, Deed, Stage, Step, walks_at, Look, Mine, Note, Desk, World, stage_of, sort_of, with_walk, Made, acts, act_entered, act_left, found_by, look_made, looked, made_by, new_id, with_made, own_names, Stands, shop_of, Found, IsReferredTo, IsReached, IsAlone, Inv, machine}
 use Rattle.inode_machine.proofs.Frame.{ours_some, Kin, Did, Ours, Fair, two_refs, refers_on, type_on}
 use Rattle.inode_machine.proofs.Freeing.{lone_file}
 use Rattle.inode_machine.proofs.Walking.{refs_walk, moves_good}

@@ -1,29 +1,6 @@
 -- A step that acts where its walk ends: at the last lookup, or at the start of a path without elements.
-use Rattle.std.proofs.Common.{◌≡◌, inl, inr, ℕ, ◌<◌, true, false, List, [], Option, Some, None, refl, sym, ◌∙◌, ap, subst}
-use Rattle.plain_tree.specs.declared.answer.Cause.{Cause}
-use Rattle.plain_tree.specs.declared.node.Node.{Node}
-use Rattle.plain_tree.specs.declared.step.Action.{Action}
-use Rattle.plain_tree.specs.declared.step.Action.TheVariants.{Inherit}
-use Rattle.plain_tree.specs.declared.step.StepAnswer.{StepAnswer}
-use Rattle.plain_tree.specs.declared.step.StepAnswer.TheVariants.{Failed}
-use Rattle.plain_tree.specs.Laws.{AsksForWhatStays}
-use Rattle.plain_tree.specs.Widths.{hart_count, root}
-use Rattle.plain_tree.specs.Tree.{Name, Tree, put, look, live_directory, is_absolute, start_of, elements, settle}
-use Rattle.plain_tree.specs.Steps.{path_of, follows_path, makes_node, refusal_with, IsInPlace, StepWith}
-use Rattle.plain_tree.proofs.Settling.{settle_alive, settle_live, settle_named}
-use Rattle.plain_tree.proofs.SettledSteps.{settled_step}
-use Rattle.tree_laws.specs.WellFormed.{IsWellFormed}
-use Rattle.tree_laws.proofs.Facts.{look_live}
-use Rattle.tree_laws.proofs.Nodes.{cwd_named}
-use Rattle.tree_laws.proofs.Walks.{look_same}
-use Rattle.tree_laws.proofs.Maps.{either, put_same}
-use Rattle.tree_laws.specs.Moves.{Walk, Acts, Looks, Begins, Takes}
-use Rattle.tree_laws.specs.Moves.Move.{Begin, Look}
-use Rattle.inode_machine.specs.World.{Desk, Note, World, stage_of}
-use Rattle.inode_machine.specs.Inodes.{sort_of}
-use Rattle.inode_machine.specs.Exec.{with_walk}
-use Rattle.inode_machine.specs.Marks.{found_by, acts, looked, look_made, begun}
-use Rattle.inode_machine.specs.Rules.{Own, Held, own_of, Inv}
+use Rattle.inode_machine.proofs.Vocabulary.{◌≡◌, inl, inr, ℕ, ◌<◌, true, false, List, [], Option, Some, None, refl, sym, ◌∙◌, ap, subst, Cause, Node, Action, Inherit, StepAnswer, Failed, AsksForWhatStays, hart_count, root, Name, Tree, put, look, live_directory, is_absolute, start_of, elements, settle, path_of, follows_path, makes_node, refusal_with, IsInPlace, StepWith, settle_alive, settle_live, settle_named, settled_step, IsWellFormed, look_live, cwd_named, look_same, either, put_same, Walk, Acts, Looks, Takes, Begin, Look, Desk, Note, World, stage_of, sort_of, with_walk, found_by, acts, looked, look_made, begun, Own, Held, own_of, Inv}
+use Rattle.tree_laws.specs.Moves.{Begins}
 use Rattle.inode_machine.proofs.Frame.{Fair, fair, fair_then}
 use Rattle.inode_machine.proofs.Rules.{root_live, has_node}
 use Rattle.inode_machine.proofs.Walking.{walk_did, own_walk}

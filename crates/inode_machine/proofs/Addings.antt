@@ -1,19 +1,6 @@
 -- A new inode's name is entered: its node comes into the tree, and it is the hart's alone no longer.
-use Rattle.std.proofs.Common.{◌≡◌, ◌≢◌, inl, inr, ℕ, ◌<◌, true, false, Option, Some, None, refl, sym, ◌∙◌, ap}
-use Rattle.plain_tree.specs.declared.node.Node.{Node}
-use Rattle.plain_tree.specs.Widths.{hart_count}
-use Rattle.plain_tree.specs.Tree.{Tree, put, is_live, live_directory}
-use Rattle.plain_tree.specs.Steps.{with_nodes}
-use Rattle.tree_laws.specs.WellFormed.{IsWellFormed}
-use Rattle.tree_laws.proofs.Maps.{same_or, put_same, put_other}
-use Rattle.inode_machine.specs.World.{Note, World}
-use Rattle.inode_machine.specs.Inodes.{Sort, OfDirectory, sort_of, sort_of_kind}
-use Rattle.inode_machine.specs.Exec.{with_walk}
-use Rattle.inode_machine.specs.Rules.{Own, Held, view, is_hart, if_kept, own_of, shop_of, Inv}
-use Rattle.inode_machine.proofs.Frame.{shop_same, stands_in, kept_here, Fair, fair, fair_then, has_inode}
-use Rattle.inode_machine.proofs.Rules.{locks_it, has_node}
-use Rattle.inode_machine.proofs.Counting.{Writes, writes}
-use Rattle.inode_machine.proofs.Acting.{Fits, acts_did, two_put}
+use Rattle.inode_machine.proofs.Vocabulary.{◌≡◌, ◌≢◌, inl, inr, ℕ, ◌<◌, true, false, Option, Some, None, refl, sym, ◌∙◌, ap, Node, hart_count, Tree, put, is_live, live_directory, with_nodes, IsWellFormed, same_or, put_same, put_other, Note, World, Sort, OfDirectory, sort_of, sort_of_kind, with_walk, Own, Held, view, is_hart, if_kept, own_of, shop_of, Inv}
+use Rattle.inode_machine.proofs.Basics.{shop_same, stands_in, kept_here, Fair, fair, fair_then, has_inode, locks_it, has_node, Writes, writes, Fits, acts_did, two_put}
 use Rattle.inode_machine.proofs.Removes.{directory_sort}
 
 abbrev pub added_nodes : (ℕ → Option Node) → ℕ → ℕ → Node → Node → ℕ → Option Node

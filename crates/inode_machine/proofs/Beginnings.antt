@@ -1,36 +1,7 @@
 -- A walk begins at its path's start, to which a reference is counted.
-use Rattle.std.proofs.Common.{◌≡◌, ◌≢◌, inl, inr, ℕ, ◌+◌, ◌<◌, Bool, true, false, nat_lt, ◌==◌, ◌||◌, List, ◌∷◌, Option, Some, None, refl, sym, ◌∙◌, ap, subst, arith, if◌then◌else◌}
-use Rattle.atomic_programs.specs.Prog.{Do}
-use Rattle.atomic_programs.specs.Logic.{own, onto, Fine, Good, Safe, Wp}
-use Rattle.plain_tree.specs.declared.answer.Reply.{Reply}
-use Rattle.plain_tree.specs.declared.node.Node.{Node}
-use Rattle.plain_tree.specs.declared.node.Kind.{Kind}
-use Rattle.plain_tree.specs.declared.node.Kind.TheVariants.{Directory, File, Device}
-use Rattle.plain_tree.specs.declared.step.Action.{Action}
-use Rattle.plain_tree.specs.Widths.{hart_count, root}
-use Rattle.plain_tree.specs.Tree.{Name, Tree, is_directory, is_live, live_directory, put, elements, start_of, is_absolute, settle, hold_names}
-use Rattle.plain_tree.specs.Steps.{path_of, follows_path, IsInPlace}
-use Rattle.plain_tree.specs.HartRow.{Row, key_names, row_of}
-use Rattle.plain_tree.proofs.Settling.{settled_row}
-use Rattle.tree_laws.specs.WellFormed.{one_if, IsWellFormed}
-use Rattle.tree_laws.proofs.Nodes.{folder_dead}
-use Rattle.tree_laws.proofs.Maps.{either, and_true, eq_self, same_or, put_same, put_other}
-use Rattle.tree_laws.specs.Moves.{Walk, Stage, Step, Begins}
-use Rattle.tree_laws.specs.Moves.Move.{Begin}
-use Rattle.inode_machine.proofs.Names.{AllNames}
-use Rattle.inode_machine.specs.World.{Note, World, stage_of}
-use Rattle.inode_machine.specs.World.Op.{UpStart}
-use Rattle.inode_machine.specs.Inodes.{OfDirectory, sort_of, sort_of_kind}
-use Rattle.inode_machine.specs.Exec.{counted_up, start_if, start_number, has_place, is_at, with_walk}
-use Rattle.inode_machine.specs.Marks.{begun as begun_by, marked, mended, new_id, places, with_mark}
-use Rattle.inode_machine.specs.Rules.{Own, Held, key_in, left_or, own_names, own_of, Inv, machine}
-use Rattle.inode_machine.specs.Parts.{P, Stop, NoMemory, begins_unless_full, makes, start_on}
-use Rattle.inode_machine.proofs.Frame.{fair, fair_then}
-use Rattle.inode_machine.proofs.Rules.{has_node, root_live, s-owned, locks_none, MayRefer, Ups, ups}
-use Rattle.inode_machine.proofs.Walking.{walk_did, own_walk, stage_walk, moves_good}
-use Rattle.inode_machine.proofs.Looks.{spoilt, KeepsHold, mends}
-use Rattle.inode_machine.proofs.Listing.{IsListed, listed_held, times, one_at, one_else, listed_free, listed_on}
-use Rattle.inode_machine.proofs.Walks.{stays_same, names_stay, On, Gone, Ready, few_listed, Known}
+use Rattle.inode_machine.proofs.Vocabulary.{◌≡◌, ◌≢◌, inl, inr, ℕ, ◌+◌, ◌<◌, Bool, true, false, nat_lt, ◌==◌, ◌||◌, List, ◌∷◌, Option, Some, None, refl, sym, ◌∙◌, ap, subst, arith, if◌then◌else◌, Do, own, onto, Fine, Good, Safe, Wp, Reply, Node, Kind, Directory, File, Device, Action, hart_count, root, Name, Tree, is_directory, is_live, live_directory, put, elements, start_of, is_absolute, settle, hold_names, path_of, follows_path, IsInPlace, Row, key_names, row_of, settled_row, one_if, IsWellFormed, folder_dead, either, and_true, eq_self, same_or, put_same, put_other, Walk, Stage, Step, Begin, Note, World, stage_of, UpStart, OfDirectory, sort_of, sort_of_kind, counted_up, start_if, start_number, has_place, is_at, with_walk, begun as begun_by, marked, mended, new_id, places, with_mark, Own, Held, key_in, left_or, own_names, own_of, Inv, machine, ThisP as P, Stop, NoMemory, begins_unless_full, makes, start_on}
+use Rattle.tree_laws.specs.Moves.{Begins}
+use Rattle.inode_machine.proofs.Basics.{AllNames, fair, fair_then, has_node, root_live, s-owned, locks_none, MayRefer, Ups, ups, walk_did, own_walk, stage_walk, moves_good, spoilt, KeepsHold, mends, IsListed, listed_held, times, one_at, one_else, listed_free, listed_on, stays_same, names_stay, On, Gone, Ready, few_listed, Known}
 
 -- a live directory is one
 live_sort : (o : Option Node) → live_directory o ≡ true → sort_of o ≡ Some OfDirectory

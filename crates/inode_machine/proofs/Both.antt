@@ -1,17 +1,5 @@
 -- A step that changes what two harts have: a hart's, and those of the one that it serves, which rests.
-use Rattle.std.proofs.Common.{◌≡◌, ◌≢◌, inl, inr, ℕ, ◌+◌, ◌<◌, ◌≤◌, true, ◌==◌, [], Option, Some, None, refl, sym, ◌∙◌, ap, subst, arith}
-use Rattle.plain_tree.specs.declared.tree.OpenFile.{OpenFile}
-use Rattle.plain_tree.specs.Widths.{hart_count, descriptor_count}
-use Rattle.plain_tree.specs.HartRow.{row_of}
-use Rattle.plain_tree.specs.declared.tree.Hold.{Hold}
-use Rattle.plain_tree.specs.Steps.{holds_raised}
-use Rattle.tree_laws.specs.WellFormed.{sum_below, IsWellFormed}
-use Rattle.tree_laws.proofs.Maps.{eq_self, same_or}
-use Rattle.tree_laws.proofs.Sums.{one_yes}
-use Rattle.inode_machine.specs.World.{Mine, Entry, Desk, World}
-use Rattle.inode_machine.specs.Exec.{child_of, given_of}
-use Rattle.inode_machine.specs.Inodes.{OfDirectory, sort_of}
-use Rattle.inode_machine.specs.Rules.{Own, Held, Rests, Idle, Others, Stands, IsTied, own_names, own_of, Found, IsReferredTo, IsReached, reference_limit, References, IsAlone, Has, Lends, Inv, left_or, HasType}
+use Rattle.inode_machine.proofs.Vocabulary.{◌≡◌, ◌≢◌, inl, inr, ℕ, ◌+◌, ◌<◌, ◌≤◌, true, ◌==◌, [], Option, Some, None, refl, sym, ◌∙◌, ap, subst, arith, OpenFile, hart_count, descriptor_count, row_of, Hold, holds_raised, sum_below, IsWellFormed, eq_self, same_or, one_yes, Mine, Entry, Desk, World, child_of, given_of, OfDirectory, sort_of, Own, Held, Rests, Idle, Others, Stands, IsTied, own_names, own_of, Found, IsReferredTo, IsReached, reference_limit, References, IsAlone, Has, Lends, Inv, left_or, HasType}
 use Rattle.inode_machine.proofs.Rules.{FairTo}
 use Rattle.inode_machine.proofs.Frame.{has_none, resting_names}
 use Rattle.inode_machine.proofs.Counting.{one_most}

@@ -1,28 +1,8 @@
 -- No transaction of a call records more than ten blocks.
-use Rattle.std.proofs.Common.{◌≡◌, ◌⊎◌, inl, inr, ℕ, zero, suc, ◌+◌, ◌-◌, ◌≤◌, ◌==◌, ◌||◌, List, [], ◌∷◌, length, Bool, true, false, Option, Some, None, refl, subst, arith, if◌then◌else◌}
-use Rattle.plain_tree.specs.declared.answer.Cause.{Cause}
-use Rattle.plain_tree.specs.declared.answer.Cause.TheVariants.{NoEntry}
-use Rattle.plain_tree.specs.declared.answer.Reply.{Reply}
-use Rattle.plain_tree.specs.declared.call.Call.{Call}
+use Rattle.inode_machine.proofs.Vocabulary.{◌≡◌, ◌⊎◌, inl, inr, ℕ, zero, suc, ◌+◌, ◌-◌, ◌≤◌, ◌==◌, ◌||◌, List, [], ◌∷◌, length, Bool, true, false, Option, Some, None, refl, subst, arith, if◌then◌else◌, Cause, NoEntry, Reply, Call, Action, Name, elements, same_name, dot, dotdot, creates, piece_count, descriptor_count, one_if, either, eq_self, Do, unmarked, Sort, Face, face_or, is_live_face, is_directory_face, is_directory_sort, Mark, ClaimResult, New, NoInode, NoPlace, EntryResult, InPlace, NoBlock, NoSlot, LockResult, NotLocked, LocksIt, JoinResult, NotJoined, Joined, Wrote, Whole, Refused, Short, LoanResult, Lent, Moved, Free, Forget, Store, Enter, Clear, ThisP as P, Stop, NotThere, NoMemory, done, failed, stopped, drop, give_up, free_all, tail, walk, walk_step, walk_parent, leave_directory, with_last, start, start_on, joined_on, read_on, dup_on, stat_on, close_on, write_from, wrote_on, write_program, installed_on, take_descriptor, open_end, open_face, open_at, open_old, open_new, make_on, make_with, create_found, create_in, unmake, empties, lower_parent, clear_name, unlink_child, unlink_found, unlink_in, name_directory, mkdir_with, mkdir_on, mkdir_in, mkdir_refused, lower, named_on, link_found, link_in, link_name, link_raise, link_at, bump_refused, in_parent, chdir_at, inherit_end, lend_on, lend_from, Spent, unspent, size, with_record, with_bitmap, with_contents, spent_after, HasRoom, TransactionsAreSmall}
 use Rattle.plain_tree.specs.declared.call.Call.TheVariants as calls
-use Rattle.plain_tree.specs.declared.step.Action.{Action}
 use Rattle.plain_tree.specs.declared.step.Action.TheVariants as steps
-use Rattle.plain_tree.specs.Tree.{Name, elements, same_name, dot, dotdot}
-use Rattle.plain_tree.specs.Steps.{creates}
-use Rattle.plain_tree.specs.Calls.{piece_count}
-use Rattle.plain_tree.specs.Widths.{descriptor_count}
-use Rattle.tree_laws.specs.WellFormed.{one_if}
-use Rattle.tree_laws.proofs.Maps.{either, eq_self}
-use Rattle.atomic_programs.specs.Prog.{Do, unmarked}
-use Rattle.inode_machine.specs.Inodes.{Sort, Face, face_or, is_live_face, is_directory_face, is_directory_sort}
-use Rattle.inode_machine.specs.World.{Mark, ClaimResult, New, NoInode, NoPlace, EntryResult, InPlace, NoBlock, NoSlot, LockResult, NotLocked, LocksIt, JoinResult, NotJoined, Joined, Wrote, Whole, Refused, Short, LoanResult, Lent, Moved}
-use Rattle.inode_machine.specs.World.Op.{Free, Forget, Store, Enter, Clear}
-use Rattle.inode_machine.specs.Parts.{P, Stop, NotThere, NoMemory, done, failed, stopped, drop, give_up, free_all, tail, walk, walk_step, walk_parent, leave_directory, with_last, start, start_on}
-use Rattle.inode_machine.specs.Descriptors.{joined_on, read_on, dup_on, stat_on, close_on, write_from, wrote_on, write_program}
-use Rattle.inode_machine.specs.Opening.{installed_on, take_descriptor, open_end, open_face, open_at, open_old, open_new, make_on, make_with, create_found, create_in, unmake, empties}
-use Rattle.inode_machine.specs.Naming.{lower_parent, clear_name, unlink_child, unlink_found, unlink_in, name_directory, mkdir_with, mkdir_on, mkdir_in, mkdir_refused, lower, named_on, link_found, link_in, link_name, link_raise, link_at, bump_refused, in_parent}
-use Rattle.inode_machine.specs.Moving.{chdir_at, inherit_end, lend_on, lend_from}
-use Rattle.inode_machine.specs.Budget.{Spent, unspent, size, has, with_record, with_bitmap, with_contents, spent_after, HasRoom, TransactionsAreSmall}
+use Rattle.inode_machine.specs.Budget.{has}
 
 -- ---- what may be spent on these inodes
 

@@ -1,43 +1,14 @@
 -- The calls on descriptors are right, whatever the other harts do.
-use Rattle.std.proofs.Common.{◌≡◌, inl, inr, ℕ, ◌+◌, ◌-◌, ◌<◌, ◌≤◌, Bool, true, false, nat_lt, not, ◌==◌, List, [], ◌∷◌, ◌++◌, length, Option, Some, None, refl, sym, ◌∙◌, ap, subst, arith}
-use Rattle.std.proofs.lemmas.Bool.Decides.{nat_tests}
-use Rattle.atomic_programs.specs.Logic.{Safe, Laws}
-use Rattle.atomic_programs.specs.Calls.{Began, Begins, Begun, Ends, IsBeginning, Right, Lawful}
-use Rattle.plain_tree.specs.declared.answer.Cause.{Cause}
-use Rattle.plain_tree.specs.declared.answer.Cause.TheVariants.{BadDescriptor}
+use Rattle.inode_machine.proofs.Vocabulary.{◌≡◌, inl, inr, ℕ, ◌+◌, ◌-◌, ◌<◌, ◌≤◌, Bool, true, false, nat_lt, not, ◌==◌, List, [], ◌∷◌, ◌++◌, length, Option, Some, None, refl, sym, ◌∙◌, ap, subst, arith, nat_tests, Safe, Laws, Began, Begins, Begun, Ends, IsBeginning, Right, Lawful, Cause, BadDescriptor, Call, Node, hart_count, put, next_of, reply_of, had_room, Row, Hold, holds_raised, one_if, put_same, put_other, same_or, IsWholeCall, Desk, World, stage_of, face_or, face_of, Held, Own, Others, Rests, own_of, Idle, Inv, machine, asked_limit, say, dup_program, close_program, stat_program, stat_reply, read_program, read_reply, program, limit, rest_cost, descriptor_calls, calls_that, on_descriptors, begin_call, Refusal}
 use Rattle.plain_tree.specs.declared.answer.Answer.TheVariants as answers
-use Rattle.plain_tree.specs.declared.call.Call.{Call}
 use Rattle.plain_tree.specs.declared.call.Call.TheVariants as calls
 use Rattle.plain_tree.specs.declared.step.Action.TheVariants as steps
-use Rattle.plain_tree.specs.declared.node.Node.{Node}
-use Rattle.plain_tree.specs.Widths.{hart_count}
-use Rattle.plain_tree.specs.Tree.{put}
-use Rattle.plain_tree.specs.Calls.{next_of, reply_of, had_room}
-use Rattle.plain_tree.specs.HartRow.{Row}
-use Rattle.plain_tree.specs.declared.tree.Hold.{Hold}
-use Rattle.plain_tree.specs.Steps.{holds_raised}
-use Rattle.tree_laws.specs.WellFormed.{one_if}
-use Rattle.tree_laws.proofs.Maps.{put_same, put_other, same_or}
-use Rattle.tree_laws.specs.Moves.{IsWholeCall}
-use Rattle.inode_machine.specs.World.{Desk, World, stage_of}
-use Rattle.inode_machine.specs.Inodes.{face_or, face_of}
-use Rattle.inode_machine.specs.Rules.{Held, Own, Others, Rests, own_of, Idle, Inv, machine, asked_limit}
-use Rattle.inode_machine.specs.Parts.{say}
 use Rattle.inode_machine.specs.Parts as parts
-use Rattle.inode_machine.specs.Descriptors.{dup_program, close_program, stat_program, stat_reply, read_program, read_reply}
-use Rattle.inode_machine.specs.Programs.{program, limit, rest_cost}
-use Rattle.inode_machine.specs.Theory.{descriptor_calls, calls_that, on_descriptors, begin_call, Refusal}
-use Rattle.inode_machine.proofs.Rules.{locked_held}
-use Rattle.inode_machine.proofs.Counting.{s-give, one_most}
-use Rattle.inode_machine.proofs.Dups.{fails, dupped, s-double, s-join, s-leave, s-say, SameRow, SameDesk}
+use Rattle.inode_machine.proofs.Basics.{locked_held, s-give, one_most, fails, dupped, s-double, s-join, s-leave, s-say, SameRow, SameDesk, begun_same, start_is, files_then, given_is, idle_as, unlocks_nothing, s-drop}
 use Rattle.inode_machine.proofs.Closes.{shut_step, s-shut}
 use Rattle.inode_machine.proofs.Stats.{stat_step, stat_face, s-stat-file}
 use Rattle.inode_machine.proofs.Readings.{read_step, s-lock-file, s-read-file}
-use Rattle.inode_machine.proofs.Starts.{begun_same, start_is}
-use Rattle.inode_machine.proofs.Frame.{files_then}
-use Rattle.inode_machine.proofs.Resting.{given_is, idle_as, unlocks_nothing}
 use Rattle.inode_machine.proofs.WriteCalls.{write_begins, write_ok}
-use Rattle.inode_machine.proofs.Drops.{s-drop}
 
 -- The machine's laws.
 

@@ -1,56 +1,10 @@
 -- Chdir is right, whatever the other harts do.
-use Rattle.std.proofs.Common.{◌≡◌, ◌≢◌, ◌⊎◌, inl, inr, ℕ, ◌+◌, ◌-◌, ◌*◌, ◌<◌, ◌≤◌, Bool, true, false, ◌==◌, ◌||◌, List, [], ◌∷◌, length, Option, Some, None, refl, sym, ◌∙◌, ap, subst, arith, if◌then◌else◌}
-use Rattle.atomic_programs.specs.Prog.{Do, unmarked}
-use Rattle.atomic_programs.specs.Logic.{own, onto, Fine, Safe, Wp}
-use Rattle.atomic_programs.specs.Calls.{Begun, Ends, IsBeginning}
-use Rattle.plain_tree.specs.declared.answer.Cause.TheVariants.{NoEntry, NotDirectory}
-use Rattle.plain_tree.specs.declared.answer.Reply.{Reply}
-use Rattle.plain_tree.specs.declared.call.Call.{Call}
+use Rattle.inode_machine.proofs.Vocabulary.{◌≡◌, ◌≢◌, ◌⊎◌, inl, inr, ℕ, ◌+◌, ◌-◌, ◌*◌, ◌<◌, ◌≤◌, Bool, true, false, ◌==◌, ◌||◌, List, [], ◌∷◌, length, Option, Some, None, refl, sym, ◌∙◌, ap, subst, arith, if◌then◌else◌, Do, unmarked, own, onto, Fine, Safe, Wp, Begun, Ends, IsBeginning, NoEntry, NotDirectory, Reply, Call, Node, Kind, Directory, File, Device, Action, Chdir, Inherit, StepAnswer, Done, Failed, next_of, reply_of, had_room, hart_count, descriptor_count, Name, Tree, put, elements, is_absolute, is_directory, is_live, live_directory, look, settle, start_of, node_at, node_or, place_of, refusal_with, IsInPlace, Row, row_of, settle_again, one_if, either, eq_is, eq_not, eq_self, same_or, put_same, put_other, look_live, look_same, Deed, Walk, Move, Stage, Step, IsNext, MayEnd, begins, Begin, Look, Desk, Note, World, stage_of, UpStart, Settle, OfDirectory, face_of, is_directory_face, is_directory_sort, sort_of, sort_of_kind, counted_up, is_at, with_walk, Made, acts, begun, made_by, marked, new_id, places, Held, Own, own_names, own_of, Idle, Inv, machine, ThisP as P, Stop, NoMemory, done, drop, failed, give_up, makes, start, stopped, tail, walk, walk_step, chdir_at, chdir_program, limit, covered_calls}
 use Rattle.plain_tree.specs.declared.call.Call.TheVariants as calls
-use Rattle.plain_tree.specs.declared.node.Node.{Node}
-use Rattle.plain_tree.specs.declared.node.Kind.{Kind}
-use Rattle.plain_tree.specs.declared.node.Kind.TheVariants.{Directory, File, Device}
-use Rattle.plain_tree.specs.declared.step.Action.{Action}
-use Rattle.plain_tree.specs.declared.step.Action.TheVariants.{Chdir, Inherit}
-use Rattle.plain_tree.specs.declared.step.StepAnswer.{StepAnswer}
-use Rattle.plain_tree.specs.declared.step.StepAnswer.TheVariants.{Done, Failed}
-use Rattle.plain_tree.specs.Calls.{next_of, reply_of, had_room}
-use Rattle.plain_tree.specs.Widths.{hart_count, descriptor_count}
-use Rattle.plain_tree.specs.Tree.{Name, Tree, put, elements, is_absolute, is_directory, is_live, live_directory, look, settle, start_of}
-use Rattle.plain_tree.specs.Steps.{node_at, node_or, place_of, refusal_with, IsInPlace}
-use Rattle.plain_tree.specs.HartRow.{Row, row_of}
-use Rattle.plain_tree.proofs.Settling.{settle_again}
-use Rattle.tree_laws.specs.WellFormed.{one_if}
-use Rattle.tree_laws.proofs.Maps.{either, eq_is, eq_not, eq_self, same_or, put_same, put_other}
-use Rattle.tree_laws.proofs.Facts.{look_live}
-use Rattle.tree_laws.proofs.Walks.{look_same}
-use Rattle.tree_laws.specs.Moves.{Deed, Walk, Move, Stage, Step, IsNext, MayEnd, begins}
-use Rattle.tree_laws.specs.Moves.Move.{Begin, Look}
-use Rattle.inode_machine.proofs.Names.{AllNames}
-use Rattle.inode_machine.specs.World.{Desk, Note, World, stage_of}
-use Rattle.inode_machine.specs.World.Op.{UpStart, Settle}
-use Rattle.inode_machine.specs.Inodes.{OfDirectory, face_of, is_directory_face, is_directory_sort, sort_of, sort_of_kind}
-use Rattle.inode_machine.specs.Exec.{counted_up, is_at, with_walk}
-use Rattle.inode_machine.specs.Marks.{Made, acts, begun, made_by, marked, new_id, places}
-use Rattle.inode_machine.specs.Rules.{Held, Own, own_names, own_of, Idle, Inv, machine}
-use Rattle.inode_machine.specs.Parts.{P, Stop, NoMemory, done, drop, failed, give_up, makes, start, stopped, tail, walk, walk_step}
-use Rattle.inode_machine.specs.Moving.{chdir_at, chdir_program}
-use Rattle.inode_machine.specs.Programs.{limit}
-use Rattle.inode_machine.specs.Theory.{covered_calls}
-use Rattle.inode_machine.proofs.Frame.{Fair, fair, fair_then, has_inode}
-use Rattle.inode_machine.proofs.Rules.{has_node, live_typed, locked_held, my_refs, noted_sort, s-take, sort_there}
-use Rattle.inode_machine.proofs.Rows.{below_is}
-use Rattle.inode_machine.proofs.Walking.{moves_good, own_walk, stage_walk, walk_did}
-use Rattle.inode_machine.proofs.Dups.{s-join}
-use Rattle.inode_machine.proofs.Drops.{s-drop}
-use Rattle.inode_machine.proofs.Looks.{KeepsHold, MoveFine, mends, note_of}
-use Rattle.inode_machine.proofs.Listing.{times, one_at, one_else, listed_among, listed_beside}
-use Rattle.inode_machine.proofs.Rest.{directory_sort}
-use Rattle.inode_machine.proofs.Walks.{At, Gone, Lost, On, Ready, Stays, names_stay, stays_same, s-arrive, s-walk}
+use Rattle.inode_machine.proofs.Basics.{AllNames, Fair, fair, fair_then, has_inode, has_node, live_typed, locked_held, my_refs, noted_sort, s-take, sort_there, below_is, moves_good, own_walk, stage_walk, walk_did, s-join, s-drop, KeepsHold, MoveFine, mends, note_of, times, one_at, one_else, listed_among, listed_beside, directory_sort, At, Gone, Lost, On, Ready, Stays, names_stay, stays_same, s-arrive, s-walk, Finder, Finding, finding, found_world, last_made, last_takes, refused_made, start_made, start_takes, MayRest, Walked, back_at, face_sort, follows_begin, follows_look, follows_lost, follows_quit, gone_at, home, home_is, joined_own, looks, may_rest, may_stay, missed, names_plain, ready_at, times_none, s-ends, s-lost, tells, walked_begun, walked_tells}
 use Rattle.inode_machine.proofs.Beginnings.{Begun as StartsAt, s-begin, s-start}
-use Rattle.inode_machine.proofs.Acts.{Finder, Finding, finding, found_world, last_made, last_takes, refused_made, start_made, start_takes}
 use Rattle.inode_machine.proofs.Chdirs.{Leaving, kind_directory, chdir_made, chdir_refused_step, chdir_step, leaving, left_world, mends_left, s-settle}
-use Rattle.inode_machine.proofs.Endings.{Follows, MayRest, Walked, back_at, face_sort, follows_begin, follows_look, follows_lost, follows_quit, gone_at, home, home_is, joined_own, looks, may_rest, may_stay, missed, names_plain, ready_at, times_none, s-ends, s-give-up, s-lost, tells, walked_begun, walked_tells}
+use Rattle.inode_machine.proofs.Endings.{Follows, s-give-up}
 
 -- What the call is told.
 

@@ -1,37 +1,6 @@
 -- A change of directory: the tree's step, what is taken back of it, and the hart's own.
-use Rattle.std.proofs.Common.{◌≡◌, inl, inr, ℕ, ◌+◌, ◌<◌, Bool, true, false, ◌==◌, ◌||◌, List, [], Option, Some, None, refl, sym, ◌∙◌, ap, subst, arith}
-use Rattle.atomic_programs.specs.Prog.{Do, unmarked}
-use Rattle.atomic_programs.specs.Logic.{P, Fine, Safe, Wp}
-use Rattle.plain_tree.specs.declared.answer.Cause.TheVariants.{NotDirectory}
-use Rattle.plain_tree.specs.declared.node.Node.{Node}
-use Rattle.plain_tree.specs.declared.node.Kind.{Kind}
-use Rattle.plain_tree.specs.declared.node.Kind.TheVariants.{Directory, File, Device}
-use Rattle.plain_tree.specs.declared.step.Action.TheVariants.{Chdir}
-use Rattle.plain_tree.specs.declared.step.StepAnswer.TheVariants.{Done, Failed}
-use Rattle.plain_tree.specs.Widths.{hart_count}
-use Rattle.plain_tree.specs.Tree.{Name, Tree, put, is_directory, hold_names, settle}
-use Rattle.plain_tree.specs.Steps.{node_at, node_or, answer_with, effect_with, place_of, refusal_with, StepWith}
-use Rattle.plain_tree.specs.HartRow.{key_names, row_of}
-use Rattle.tree_laws.specs.WellFormed.{one_if}
-use Rattle.tree_laws.proofs.Maps.{either, eq_is, or_right, put_same, put_other}
-use Rattle.tree_laws.proofs.Opened.{well_chdir}
-use Rattle.tree_laws.specs.Moves.{Step}
-use Rattle.inode_machine.specs.World.{Desk, World}
-use Rattle.inode_machine.specs.World.Op.{Settle}
-use Rattle.inode_machine.specs.Inodes.{OfDirectory, sort_of, sort_of_kind}
-use Rattle.inode_machine.specs.Exec.{is_at, unlocked, with_directory, with_walk, child_of}
-use Rattle.inode_machine.specs.Marks.{acts, mended, unheld, unmoved, unopened}
-use Rattle.inode_machine.specs.Rules.{Own, Held, key_in, left_or, own_names, own_of, shop_of, Inv, IsReached, machine}
-use Rattle.inode_machine.proofs.Frame.{shop_same, directory_named, Did, Fair, fair, fair_then, has_inode}
-use Rattle.inode_machine.proofs.Rules.{s-owned, quiet, locks_it, my_refs}
-use Rattle.inode_machine.proofs.Rows.{below_is}
-use Rattle.inode_machine.proofs.Counting.{gives}
-use Rattle.inode_machine.proofs.Walking.{walk_named_did, own_walk}
-use Rattle.inode_machine.proofs.Dups.{with_new, Flagging, desk_changes}
-use Rattle.inode_machine.proofs.Shops.{names_less}
-use Rattle.inode_machine.proofs.Looks.{KeepsHold, unheld_is}
-use Rattle.inode_machine.proofs.Rest.{directory_sort}
-use Rattle.inode_machine.proofs.Walks.{Mending}
+use Rattle.inode_machine.proofs.Vocabulary.{◌≡◌, inl, inr, ℕ, ◌+◌, ◌<◌, Bool, true, false, ◌==◌, ◌||◌, List, [], Option, Some, None, refl, sym, ◌∙◌, ap, subst, arith, Do, unmarked, P, Fine, Safe, Wp, NotDirectory, Node, Kind, Directory, File, Device, Chdir, Done, Failed, hart_count, Name, Tree, put, is_directory, hold_names, settle, node_at, node_or, answer_with, effect_with, place_of, refusal_with, StepWith, key_names, row_of, one_if, either, eq_is, or_right, put_same, put_other, well_chdir, Step, Desk, World, Settle, OfDirectory, sort_of, sort_of_kind, is_at, unlocked, with_directory, with_walk, child_of, acts, mended, unheld, unmoved, unopened, Own, Held, key_in, left_or, own_names, own_of, shop_of, Inv, IsReached, machine}
+use Rattle.inode_machine.proofs.Basics.{shop_same, directory_named, Did, Fair, fair, fair_then, has_inode, s-owned, quiet, locks_it, my_refs, below_is, gives, walk_named_did, own_walk, with_new, Flagging, desk_changes, names_less, KeepsHold, unheld_is, directory_sort, Mending}
 
 -- The tree's step.
 

@@ -1,23 +1,5 @@
 -- A new inode: claimed, and its count and its entries stored; and what a call takes back where it finds no room.
-use Rattle.std.proofs.Common.{◌≡◌, ◌≢◌, ◌⊎◌, inl, inr, ℕ, ◌+◌, ◌<◌, ◌≤◌, Bool, true, false, ◌==◌, nat_lt, List, [], Option, Some, None, refl, sym, ◌∙◌, ap, subst, arith, if◌then◌else◌}
-use Rattle.atomic_programs.specs.Prog.{Do, Ran, unmarked}
-use Rattle.atomic_programs.specs.Logic.{P, own, onto, Good, Fine, Safe, Wp}
-use Rattle.plain_tree.specs.declared.node.Node.{Node}
-use Rattle.plain_tree.specs.declared.node.Kind.TheVariants.{Directory}
-use Rattle.plain_tree.specs.Widths.{count_limit, hart_count}
-use Rattle.plain_tree.specs.Tree.{put, settle}
-use Rattle.plain_tree.specs.Steps.{node_or}
-use Rattle.tree_laws.specs.WellFormed.{sum_below}
-use Rattle.tree_laws.proofs.Maps.{eq_is, same_or, put_same, put_other, and_true}
-use Rattle.tree_laws.specs.Moves.{Walk, Step}
-use Rattle.inode_machine.specs.World.{Mine, World, ClaimResult, New, NoInode, NoPlace, Outside, Room, RoomFor, Picks}
-use Rattle.inode_machine.specs.World.Op.{Claim, Store, Fill}
-use Rattle.inode_machine.specs.Inodes.{Sort}
-use Rattle.inode_machine.specs.Exec.{is_nothing, blank, claimed, claim_if, is_free, place_count, referenced, with_count, with_dots, fill_if}
-use Rattle.inode_machine.specs.Marks.{with_mark, mended, places}
-use Rattle.inode_machine.specs.Rules.{Own, shop_of, own_names, Held, view, is_hart, own_of, IsReferredTo, Inv, machine, IsReached, HonestClaim}
-use Rattle.inode_machine.specs.Parts.{mends_if_full}
-use Rattle.inode_machine.specs.Opening.{mends_unless_new}
+use Rattle.inode_machine.proofs.Vocabulary.{◌≡◌, ◌≢◌, ◌⊎◌, inl, inr, ℕ, ◌+◌, ◌<◌, ◌≤◌, Bool, true, false, ◌==◌, nat_lt, List, [], Option, Some, None, refl, sym, ◌∙◌, ap, subst, arith, if◌then◌else◌, Do, Ran, unmarked, P, own, onto, Good, Fine, Safe, Wp, Node, Directory, count_limit, hart_count, put, settle, node_or, sum_below, eq_is, same_or, put_same, put_other, and_true, Walk, Step, Mine, World, ClaimResult, New, NoInode, NoPlace, Outside, Room, RoomFor, Picks, Claim, Store, Fill, Sort, is_nothing, blank, claimed, claim_if, is_free, place_count, referenced, with_count, with_dots, fill_if, with_mark, mended, places, Own, shop_of, own_names, Held, view, is_hart, own_of, IsReferredTo, Inv, machine, IsReached, HonestClaim, mends_if_full, mends_unless_new}
 use Rattle.inode_machine.proofs.Frame.{shop_same, put_elim, ours_none, ours_some, kept_here, Did, Fair, fair, own_inodes, has_inode, found_more, one_refs, refers_put}
 use Rattle.inode_machine.proofs.Rules.{opens_slots, s-owned, quiet, each_refs, here_refs, walks_refs, total_same, total_changed, my_refs, has_disk, locks_it, has_node}
 use Rattle.inode_machine.proofs.Counting.{writes}

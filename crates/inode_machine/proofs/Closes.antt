@@ -1,35 +1,6 @@
 -- Close: a descriptor goes, and with the last one its open file, whose reference is the hart's then.
-use Rattle.std.proofs.Common.{◌≡◌, ◌≢◌, ◌⊎◌, inl, inr, ℕ, ◌+◌, ◌-◌, ◌<◌, ◌≤◌, Bool, true, false, ◌==◌, ◌&&◌, nat_lt, List, [], ◌∷◌, Option, Some, None, refl, sym, ◌∙◌, ap, subst, arith, if◌then◌else◌}
-use Rattle.atomic_programs.specs.Prog.{Do}
-use Rattle.atomic_programs.specs.Logic.{P, own, onto, Good, Safe, Wp}
-use Rattle.plain_tree.specs.declared.answer.Cause.TheVariants.{BadDescriptor}
-use Rattle.plain_tree.specs.declared.tree.OpenFile.{OpenFile}
-use Rattle.plain_tree.specs.declared.step.Action.TheVariants.{Close}
-use Rattle.plain_tree.specs.declared.step.StepAnswer.TheVariants.{Done}
-use Rattle.plain_tree.specs.Widths.{hart_count, descriptor_count}
-use Rattle.plain_tree.specs.Tree.{Name, Tree, put, fd_names, file_names, settle, resolve, parent}
-use Rattle.plain_tree.specs.Steps.{file_at, refusal_with, effect_with, answer_with, place_of, IsInPlace, has_fd, closed}
-use Rattle.plain_tree.specs.HartRow.{Row, key_at, key_of, row_of}
-use Rattle.plain_tree.proofs.Settling.{with_open, NamesLess, settle_less, file_settled}
-use Rattle.tree_laws.specs.WellFormed.{sum_below, one_if}
-use Rattle.tree_laws.proofs.Maps.{eq_self, eq_is, eq_isnt, either, same_or, put_same, put_other}
-use Rattle.tree_laws.proofs.Sums.{sum_same, sum_changed, one_no, one_yes}
-use Rattle.tree_laws.proofs.Opened.{well_closed}
-use Rattle.tree_laws.specs.Moves.{Walk, Stage, Step, Takes}
-use Rattle.tree_laws.specs.Moves.Move.{Own as OwnMove}
-use Rattle.inode_machine.specs.Exec.{is_at, file_count, with_refs, with_walk, slot_at, entry_at, close_at, close_if, close_less, close_last}
-use Rattle.inode_machine.specs.World.{Mine, Entry, Desk, World, stage_of}
-use Rattle.inode_machine.specs.Marks.{places, with_mark, made_by, new_id}
-use Rattle.inode_machine.specs.World.Op.{Shut}
-use Rattle.inode_machine.specs.Rules.{Own, shop_of, number_is, users, own_names, own_of, IsAlone, Inv, machine, nothing, reference_limit, HasType}
-use Rattle.inode_machine.proofs.Frame.{bond_of, put_elim, stands_on, Fair, fair, has_none, one_refs}
-use Rattle.inode_machine.proofs.Rules.{s-owned, my_refs, each_refs, here_refs, walks_refs, total_same, total_changed, opens_slots, locks_none}
-use Rattle.inode_machine.proofs.Rows.{below_is}
-use Rattle.inode_machine.proofs.Walking.{refs_walk, stage_walk, moves_good}
-use Rattle.inode_machine.proofs.Tables.{with_fd, users_put, users_fd, Changes, changes, changed_shop, tied_closed, kept_open}
-use Rattle.inode_machine.proofs.Shops.{sells_did, own_takes, names_less}
-use Rattle.inode_machine.proofs.Dups.{Behind, behind, behind_none, Refused, fails, refused_good, renewed, renewed_slots, renewed_at, renewed_same, SameRow, SameDesk, less_is, not_one, renewed_sorts, same_desk}
-use Rattle.inode_machine.specs.Parts.{own_step}
+use Rattle.inode_machine.proofs.Vocabulary.{◌≡◌, ◌≢◌, ◌⊎◌, inl, inr, ℕ, ◌+◌, ◌-◌, ◌<◌, ◌≤◌, Bool, true, false, ◌==◌, ◌&&◌, nat_lt, List, [], ◌∷◌, Option, Some, None, refl, sym, ◌∙◌, ap, subst, arith, if◌then◌else◌, Do, P, own, onto, Good, Safe, Wp, BadDescriptor, OpenFile, Close, Done, hart_count, descriptor_count, Name, Tree, put, fd_names, file_names, settle, resolve, parent, file_at, refusal_with, effect_with, answer_with, place_of, IsInPlace, has_fd, closed, Row, key_at, key_of, row_of, with_open, NamesLess, settle_less, file_settled, sum_below, one_if, eq_self, eq_is, eq_isnt, either, same_or, put_same, put_other, sum_same, sum_changed, one_no, one_yes, well_closed, Walk, Stage, Step, Takes, OwnMove, is_at, file_count, with_refs, with_walk, slot_at, entry_at, close_at, close_if, close_less, close_last, Mine, Entry, Desk, World, stage_of, places, with_mark, made_by, new_id, Shut, Own, shop_of, number_is, users, own_names, own_of, IsAlone, Inv, machine, nothing, reference_limit, HasType, own_step}
+use Rattle.inode_machine.proofs.Basics.{bond_of, put_elim, stands_on, Fair, fair, has_none, one_refs, s-owned, my_refs, each_refs, here_refs, walks_refs, total_same, total_changed, opens_slots, locks_none, below_is, refs_walk, stage_walk, moves_good, with_fd, users_put, users_fd, Changes, changes, changed_shop, tied_closed, kept_open, sells_did, own_takes, names_less, Behind, behind, behind_none, Refused, fails, refused_good, renewed, renewed_slots, renewed_at, renewed_same, SameRow, SameDesk, less_is, not_one, renewed_sorts, same_desk}
 
 -- The tree without the descriptor.
 

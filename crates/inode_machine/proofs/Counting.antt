@@ -1,21 +1,5 @@
 -- Unlocking, writing, counting down, and claiming a free number.
-use Rattle.std.proofs.Common.{◌≡◌, ◌≢◌, ◌⊎◌, inl, inr, ℕ, ◌+◌, ◌-◌, ◌<◌, ◌≤◌, Bool, true, false, ◌==◌, List, [], Option, Some, None, refl, sym, ◌∙◌, ap, subst, arith}
-use Rattle.std.proofs.lemmas.Bool.Decides.{nat_tests}
-use Rattle.atomic_programs.specs.Prog.{Do, unmarked}
-use Rattle.atomic_programs.specs.Logic.{P, Good, Fine, Safe, Wp}
-use Rattle.plain_tree.specs.declared.node.Node.{Node}
-use Rattle.plain_tree.specs.Widths.{hart_count}
-use Rattle.plain_tree.specs.Tree.{put, is_live, settle}
-use Rattle.plain_tree.specs.HartRow.{row_of}
-use Rattle.tree_laws.specs.WellFormed.{sum_below, one_if}
-use Rattle.tree_laws.proofs.Maps.{eq_is, eq_not, either, same_or, put_same, put_other, and_true}
-use Rattle.tree_laws.proofs.Sums.{one_no}
-use Rattle.tree_laws.specs.Moves.{Walk, Step}
-use Rattle.inode_machine.specs.World.{Mine, World, stage_of}
-use Rattle.inode_machine.specs.Marks.{with_mark}
-use Rattle.inode_machine.specs.Exec.{unlocked, counted_down, down_if, is_dead, is_last, reserved, walk_down_if}
-use Rattle.inode_machine.specs.World.Op.{Down, Give, WalkDown}
-use Rattle.inode_machine.specs.Rules.{Own, shop_of, own_names, Held, view, is_hart, if_kept, own_of, IsReferredTo, Inv, machine, IsReached, Spares, left_or}
+use Rattle.inode_machine.proofs.Vocabulary.{◌≡◌, ◌≢◌, ◌⊎◌, inl, inr, ℕ, ◌+◌, ◌-◌, ◌<◌, ◌≤◌, Bool, true, false, ◌==◌, List, [], Option, Some, None, refl, sym, ◌∙◌, ap, subst, arith, nat_tests, Do, unmarked, P, Good, Fine, Safe, Wp, Node, hart_count, put, is_live, settle, row_of, sum_below, one_if, eq_is, eq_not, either, same_or, put_same, put_other, and_true, one_no, Walk, Step, Mine, World, stage_of, with_mark, unlocked, counted_down, down_if, is_dead, is_last, reserved, walk_down_if, Down, Give, WalkDown, Own, shop_of, own_names, Held, view, is_hart, if_kept, own_of, IsReferredTo, Inv, machine, IsReached, Spares, left_or}
 use Rattle.inode_machine.proofs.Frame.{shop_same, put_elim, ours_none, ours_some, kept_here, Did, Fair, fair, own_inodes, has_inode, has_none, directory_named, one_refs, two_refs, refers_put}
 use Rattle.inode_machine.proofs.Rules.{opens_slots, s-owned, quiet, each_refs, here_refs, walks_refs, total_same, total_changed, my_refs, not_alone, has_disk, has_node, is_me, is_mine, locks_it, locks_not}
 

@@ -1,16 +1,7 @@
 -- The calls that are shown right, together.
-use Rattle.std.proofs.Common.{◌≡◌, ◌⊎◌, inl, inr, Bool, true, false, [], refl, not, nat_lt, length, Some, None, if◌then◌else◌}
-use Rattle.atomic_programs.specs.Logic.{Safe}
-use Rattle.plain_tree.specs.Steps.{creates}
-use Rattle.atomic_programs.specs.Calls.{Begun, Ends, Lawful, State, fresh, run}
-use Rattle.atomic_programs.proofs.Explains.{explains, holds_of}
+use Rattle.inode_machine.proofs.Vocabulary.{◌≡◌, ◌⊎◌, inl, inr, Bool, true, false, [], refl, not, nat_lt, length, Some, None, if◌then◌else◌, Safe, creates, Begun, Ends, Lawful, State, fresh, run, explains, holds_of, is_nothing, open_program, limit, Idle, Inv, machine, asked_limit, covered_calls, is_covered, CallsAreExplained, StaysInOrder, WorldsStayInOrder, TooLong}
 use Rattle.plain_tree.specs.declared.call.Call.TheVariants as calls
-use Rattle.inode_machine.specs.Exec.{is_nothing}
-use Rattle.inode_machine.proofs.Names.{both_paths, path_names}
-use Rattle.inode_machine.specs.Opening.{open_program}
-use Rattle.inode_machine.specs.Programs.{limit}
-use Rattle.inode_machine.specs.Rules.{Idle, Inv, machine, asked_limit}
-use Rattle.inode_machine.specs.Theory.{covered_calls, is_covered, CallsAreExplained, StaysInOrder, WorldsStayInOrder, TooLong}
+use Rattle.inode_machine.proofs.Basics.{both_paths, path_names}
 use Rattle.inode_machine.proofs.Calls.{IsRight, descriptors_right, lawful_that, right}
 use Rattle.inode_machine.proofs.ChdirCalls.{chdir_begins, chdir_ok}
 use Rattle.inode_machine.proofs.OpenEnds.{open_begins}

@@ -1,64 +1,13 @@
 -- An open that may make its file is right, whatever the other harts do: what is there is opened, what isn't is made.
-use Rattle.std.proofs.Common.{◌≡◌, ◌≢◌, ◌⊎◌, inl, inr, ℕ, ◌+◌, ◌*◌, ◌<◌, ◌≤◌, Bool, true, false, ◌==◌, nat_lt, List, [], ◌∷◌, length, Option, Some, None, refl, sym, ◌∙◌, ap, subst, arith, if◌then◌else◌}
-use Rattle.atomic_programs.specs.Logic.{own, onto, Fine, Safe, Wp}
-use Rattle.atomic_programs.specs.Calls.{Begun, Ends}
-use Rattle.plain_tree.specs.declared.answer.Cause.{Cause}
-use Rattle.plain_tree.specs.declared.answer.Cause.TheVariants.{NoEntry}
-use Rattle.plain_tree.specs.declared.answer.Full.{Full}
-use Rattle.plain_tree.specs.declared.answer.Full.TheVariants.{Descriptors, DiskInodes, MemInodes}
-use Rattle.plain_tree.specs.declared.answer.Reply.{Reply}
-use Rattle.plain_tree.specs.declared.call.Call.{Call}
+use Rattle.inode_machine.proofs.Vocabulary.{◌≡◌, ◌≢◌, ◌⊎◌, inl, inr, ℕ, ◌+◌, ◌*◌, ◌<◌, ◌≤◌, Bool, true, false, ◌==◌, nat_lt, List, [], ◌∷◌, length, Option, Some, None, refl, sym, ◌∙◌, ap, subst, arith, if◌then◌else◌, own, onto, Fine, Safe, Wp, Begun, Ends, Cause, NoEntry, Full, Descriptors, DiskInodes, MemInodes, Reply, Call, Node, Action, Opened, Failed, NoRoom, next_of, Key, Row, key_is, IsLeastUnused, creates, has_room, is_file, lowest, makes_node, node_at, node_or, open_kind, refusal_with, effect_with, answer_with, StepWith, Name, Tree, put, look, elements, is_live, live_directory, settle, hart_count, descriptor_count, settle_again, one_if, look_live, either, eq_not, same_or, put_same, put_other, live_some, look_same, Walk, Stage, Step, Look, Quit, Desk, Mark, Note, World, stage_of, Take, OfFile, Sort, AtName, face_of, seen_in, is_live_face, open_refusal, sort_of, sort_of_kind, with_walk, acts, look_made, looked, made_by, marked, mended, new_id, places, Held, Own, own_names, own_of, nothing, Idle, Inv, machine, ThisP as P, failed, full, give_up, is_some, is_there, looks_if, looks_where, makes, tail, create_found, create_in, file_for, open_at, open_new, open_old, open_program, in_parent, path_cost, rest_cost, covered_calls}
 use Rattle.plain_tree.specs.declared.call.Call.TheVariants as calls
-use Rattle.plain_tree.specs.declared.node.Node.{Node}
-use Rattle.plain_tree.specs.declared.step.Action.{Action}
 use Rattle.plain_tree.specs.declared.step.Action.TheVariants as steps
-use Rattle.plain_tree.specs.declared.step.StepAnswer.TheVariants.{Opened, Failed, Full as NoRoom}
-use Rattle.plain_tree.specs.Calls.{next_of}
-use Rattle.plain_tree.specs.HartRow.{Key, Row, key_is}
-use Rattle.plain_tree.specs.Steps.{IsLeastUnused, creates, has_room, is_file, lowest, makes_node, node_at, node_or, open_kind, refusal_with, effect_with, answer_with, StepWith}
-use Rattle.plain_tree.specs.Tree.{Name, Tree, put, look, elements, is_live, live_directory, settle}
-use Rattle.plain_tree.specs.Widths.{hart_count, descriptor_count}
-use Rattle.plain_tree.proofs.Settling.{settle_again}
-use Rattle.tree_laws.specs.WellFormed.{one_if}
-use Rattle.tree_laws.proofs.Facts.{look_live}
-use Rattle.tree_laws.proofs.Maps.{either, eq_not, same_or, put_same, put_other}
-use Rattle.tree_laws.proofs.Nodes.{live_some}
-use Rattle.tree_laws.proofs.Walks.{look_same}
-use Rattle.tree_laws.specs.Moves.{Walk, Stage, Step}
-use Rattle.tree_laws.specs.Moves.Move.{Look, Quit}
-use Rattle.inode_machine.proofs.Names.{AllNames}
-use Rattle.inode_machine.specs.World.{Desk, Mark, Note, World, stage_of}
-use Rattle.inode_machine.specs.World.Op.{Take}
-use Rattle.inode_machine.specs.Inodes.{OfFile, Sort, AtName, face_of, seen_in, is_live_face, open_refusal, sort_of, sort_of_kind}
-use Rattle.inode_machine.specs.Exec.{with_walk}
-use Rattle.inode_machine.specs.Marks.{acts, look_made, looked, made_by, marked, mended, new_id, places}
-use Rattle.inode_machine.specs.Rules.{Held, Own, own_names, own_of, nothing, Idle, Inv, machine}
-use Rattle.inode_machine.specs.Parts.{P, failed, full, give_up, is_some, is_there, looks_if, looks_where, makes, tail}
-use Rattle.inode_machine.specs.Opening.{create_found, create_in, file_for, open_at, open_new, open_old, open_program}
-use Rattle.inode_machine.specs.Naming.{in_parent}
-use Rattle.inode_machine.specs.Programs.{path_cost, rest_cost}
-use Rattle.inode_machine.specs.Theory.{covered_calls}
-use Rattle.inode_machine.proofs.Frame.{Fair, fair, fair_same, fair_then, has_inode}
-use Rattle.inode_machine.proofs.Rules.{has_node, locked_held, my_refs, noted_sort, quiet, s-up}
-use Rattle.inode_machine.proofs.Counting.{one_most}
-use Rattle.inode_machine.proofs.Walking.{own_walk, stage_walk, walk_did}
-use Rattle.inode_machine.proofs.Tables.{lowest_same}
-use Rattle.inode_machine.proofs.Dups.{Flagging, not_at}
-use Rattle.inode_machine.proofs.Looks.{KeepsHold, MoveFine, live_face, mends, note_of, noting, quit_good, s-take-then, spoilt}
-use Rattle.inode_machine.proofs.Listing.{times, one_at, one_else, listed_held}
-use Rattle.inode_machine.proofs.Walks.{At, Mending, On, Ready, Stays, names_stay, stays_same, known_there, on_refers}
-use Rattle.inode_machine.proofs.Acts.{Finding, finding, found_world, refused_made}
-use Rattle.inode_machine.proofs.Endings.{Walked, home, joined_own, may_rest, ready_at}
-use Rattle.inode_machine.proofs.Openings.{Opening, fresh_id, opened_row, opened_tree, opened_world, opening, row_back, unopened_row}
+use Rattle.inode_machine.proofs.Basics.{AllNames, Fair, fair, fair_same, fair_then, has_inode, has_node, locked_held, my_refs, noted_sort, quiet, s-up, one_most, own_walk, stage_walk, walk_did, lowest_same, Flagging, not_at, KeepsHold, MoveFine, live_face, mends, note_of, noting, quit_good, s-take-then, spoilt, times, one_at, one_else, listed_held, At, Mending, On, Ready, Stays, names_stay, stays_same, known_there, on_refers, Finding, finding, found_world, refused_made, Walked, home, joined_own, may_rest, ready_at, Opening, fresh_id, opened_row, opened_tree, opened_world, opening, row_back, unopened_row, claimed_held, mended_own, s-claim, act_good_to, told_step, Holding, Joins, holding_on, holding_same, holding_set, holding_to, mendable, stays_mended, unlisted, s-give-end, s-give-up-in, Follows, begun_refused, quit_step, walking_quit, walking_told, written_by}
 use Rattle.inode_machine.proofs.Unopens.{mends_opened}
 use Rattle.inode_machine.proofs.Opens.{dirties, moves_full, open_place, refusal_by_sort, file_by_sort}
 use Rattle.inode_machine.proofs.OpenEnds.{open_refused, opened_act, opened_begins, s-open-full, s-open-refused, s-opened}
-use Rattle.inode_machine.proofs.Claiming.{claimed_held, mended_own, s-claim}
-use Rattle.inode_machine.proofs.Acting.{act_good_to, told_step}
-use Rattle.inode_machine.proofs.Holdings.{Holding, Joins, holding_on, holding_same, holding_set, holding_to, mendable, stays_mended, unlisted, s-give-end, s-give-up-in}
 use Rattle.inode_machine.proofs.Pairs.{pair_new}
 use Rattle.inode_machine.proofs.Makings.{makes_file, names_opened}
-use Rattle.inode_machine.proofs.Paths.{Follows, begun_refused, quit_step, walking_quit, walking_told, written_by}
 use Rattle.inode_machine.proofs.Namings.{s-naming}
 
 -- What the step asks of its tree, where the name is there.

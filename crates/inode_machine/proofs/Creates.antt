@@ -1,42 +1,9 @@
 -- The act of an open that makes its file: at the entry's put the file is there, under its name, and open; or the hart has no descriptor left, and the file stays.
-use Rattle.std.proofs.Common.{◌≡◌, ◌≢◌, inl, ℕ, ◌+◌, ◌<◌, ◌≤◌, Bool, true, false, ◌&&◌, nat_lt, List, [], ◌∷◌, Option, Some, None, refl, sym, ◌∙◌, ap, subst, arith, if◌then◌else◌}
-use Rattle.std.proofs.lemmas.Bool.Decides.{nat_tests}
-use Rattle.atomic_programs.specs.Prog.{Do}
-use Rattle.atomic_programs.specs.Logic.{P, Safe}
-use Rattle.plain_tree.specs.declared.answer.Full.TheVariants.{Descriptors}
-use Rattle.plain_tree.specs.declared.node.Node.{Node}
-use Rattle.plain_tree.specs.declared.step.Action.TheVariants.{Open}
-use Rattle.plain_tree.specs.declared.step.StepAnswer.TheVariants.{Opened, Full as NoRoom}
-use Rattle.plain_tree.specs.Widths.{hart_count, descriptor_count}
-use Rattle.plain_tree.specs.Tree.{Name, Tree, put, look, live_directory, settle, is_directory}
-use Rattle.plain_tree.specs.Steps.{node_or, with_nodes, new_file, IsNewNode, creates, has_room, lowest, refusal_with, effect_with, answer_with, is_absent, place_of, IsInPlace}
-use Rattle.plain_tree.specs.HartRow.{key_is}
-use Rattle.tree_laws.specs.WellFormed.{IsWellFormed}
-use Rattle.tree_laws.proofs.Walks.{look_same}
-use Rattle.tree_laws.proofs.Formed.{well_file}
-use Rattle.tree_laws.proofs.Kept.{absent_slot}
-use Rattle.tree_laws.proofs.Maps.{and_true}
-use Rattle.tree_laws.specs.Moves.{Walk, Step}
-use Rattle.tree_laws.specs.Moves.Move.{Look}
-use Rattle.inode_machine.specs.World.{Note, World, Mark, EntryResult, InPlace, NoBlock, NoSlot}
-use Rattle.inode_machine.specs.World.Op.{Enter}
-use Rattle.inode_machine.specs.World.Mark.{Mends}
-use Rattle.inode_machine.specs.Exec.{with_entry}
-use Rattle.inode_machine.specs.Marks.{Made, made_by, look_made, looked, new_id}
-use Rattle.inode_machine.specs.Opening.{file_for}
-use Rattle.inode_machine.specs.Rules.{Own, Held, own_of, Inv, machine, IsName}
-use Rattle.inode_machine.specs.Parts.{makes}
-use Rattle.inode_machine.proofs.Frame.{fair, fair_then}
-use Rattle.inode_machine.proofs.Rules.{has_node, my_refs}
-use Rattle.inode_machine.proofs.Walking.{refs_walk, stage_walk}
-use Rattle.inode_machine.proofs.Claiming.{Mendable, mended_own}
-use Rattle.inode_machine.proofs.Acting.{acts_gone, act_good, no_walk, told_step}
+use Rattle.inode_machine.proofs.Vocabulary.{◌≡◌, ◌≢◌, inl, ℕ, ◌+◌, ◌<◌, ◌≤◌, Bool, true, false, ◌&&◌, nat_lt, List, [], ◌∷◌, Option, Some, None, refl, sym, ◌∙◌, ap, subst, arith, if◌then◌else◌, nat_tests, Do, P, Safe, Descriptors, Node, Open, Opened, NoRoom, hart_count, descriptor_count, Name, Tree, put, look, live_directory, settle, is_directory, node_or, with_nodes, new_file, IsNewNode, creates, has_room, lowest, refusal_with, effect_with, answer_with, is_absent, place_of, IsInPlace, key_is, IsWellFormed, look_same, well_file, absent_slot, and_true, Walk, Step, Look, Note, World, Mark, EntryResult, InPlace, NoBlock, NoSlot, Enter, Mends, with_entry, Made, made_by, look_made, looked, new_id, file_for, Own, Held, own_of, Inv, machine, IsName, makes}
+use Rattle.inode_machine.proofs.Basics.{fair, fair_then, has_node, my_refs, refs_walk, stage_walk, Mendable, mended_own, acts_gone, act_good, no_walk, told_step, lowest_same, not_at, Fresh, fresh_id, Opening, opened_row, opened_tree, opened_world, opening}
 use Rattle.inode_machine.proofs.Addings.{Adding, added_nodes, added_world, adding}
 use Rattle.inode_machine.proofs.Enters.{EnterFine, s-enter-with}
 use Rattle.inode_machine.proofs.Opens.{dirties, moves_full}
-use Rattle.inode_machine.proofs.Tables.{lowest_same}
-use Rattle.inode_machine.proofs.Dups.{not_at}
-use Rattle.inode_machine.proofs.Openings.{Fresh, fresh_id, Opening, opened_row, opened_tree, opened_world, opening}
 
 open_goes : (t : Tree) (h d flags : ℕ) (e : Name) (path : List ℕ) → creates flags ≡ true → look t.nodes d e ≡ None → refusal_with t h (Open path flags) None (Some (d, e)) ≡ None
 unfolding refusal_with

@@ -1,13 +1,5 @@
 -- A reference is dropped, and its inode freed where it was the last one.
-use Rattle.std.proofs.Common.{◌≡◌, ◌⊎◌, inl, inr, ℕ, ◌+◌, ◌-◌, ◌<◌, ◌≤◌, true, false, List, Some, None, sym, ◌∙◌, ap, arith}
-use Rattle.atomic_programs.specs.Logic.{Safe}
-use Rattle.plain_tree.specs.Widths.{hart_count}
-use Rattle.plain_tree.specs.Tree.{put}
-use Rattle.tree_laws.proofs.Maps.{same_or, put_same, put_other}
-use Rattle.tree_laws.specs.Moves.{Step}
-use Rattle.inode_machine.specs.World.{World}
-use Rattle.inode_machine.specs.Parts.{P as ThisP, drop}
-use Rattle.inode_machine.specs.Rules.{Own, own_names, own_of, machine}
+use Rattle.inode_machine.proofs.Vocabulary.{◌≡◌, ◌⊎◌, inl, inr, ℕ, ◌+◌, ◌-◌, ◌<◌, ◌≤◌, true, false, List, Some, None, sym, ◌∙◌, ap, arith, Safe, hart_count, put, same_or, put_same, put_other, Step, World, ThisP, drop, Own, own_names, own_of, machine}
 use Rattle.inode_machine.proofs.Counting.{s-down}
 use Rattle.inode_machine.proofs.Freeing.{s-free-all}
 

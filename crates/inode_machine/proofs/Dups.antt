@@ -1,38 +1,11 @@
 -- A descriptor's open file, a refused step, want of room, and one more descriptor.
-use Rattle.std.proofs.Common.{◌≡◌, ◌≢◌, ◌⊎◌, inl, inr, ℕ, ◌+◌, ◌<◌, Bool, true, false, ◌==◌, ◌&&◌, ◌||◌, nat_lt, List, [], ◌∷◌, Option, Some, None, refl, sym, ◌∙◌, ap, subst, arith, if◌then◌else◌}
-use Rattle.std.proofs.lemmas.Bool.Decides.{nat_tests}
-use Rattle.atomic_programs.specs.Prog.{Do, unmarked}
-use Rattle.atomic_programs.specs.Logic.{P, own, onto, Good, Fine, Safe, Wp}
-use Rattle.plain_tree.specs.declared.answer.Cause.{Cause}
-use Rattle.plain_tree.specs.declared.answer.Cause.TheVariants.{BadDescriptor}
-use Rattle.plain_tree.specs.declared.tree.OpenFile.{OpenFile}
-use Rattle.plain_tree.specs.declared.step.Action.{Action}
-use Rattle.plain_tree.specs.declared.step.Action.TheVariants.{Dup, Inherit}
-use Rattle.plain_tree.specs.declared.step.StepAnswer.TheVariants.{Fd as NewFd, Failed}
-use Rattle.plain_tree.specs.Widths.{hart_count, descriptor_count}
-use Rattle.plain_tree.specs.Tree.{Name, Tree, put, fd_names, and_then, settle, resolve, parent, hold_names}
-use Rattle.plain_tree.specs.Steps.{is_nothing, path_of, follows_path, file_at, lowest, has_room, refusal_with, effect_with, answer_with, makes_node, place_of, refused, IsInPlace, holds_raised}
-use Rattle.plain_tree.specs.HartRow.{Row, key_at, row_of, key_names}
-use Rattle.plain_tree.proofs.Settling.{with_open, NamesLess, settle_less, file_settled}
-use Rattle.tree_laws.specs.WellFormed.{sum_below, one_if, IsWellFormed}
-use Rattle.tree_laws.proofs.Maps.{eq_self, eq_not, same_or, put_same, put_other}
-use Rattle.tree_laws.proofs.Sums.{sum_same, one_no, one_yes}
-use Rattle.tree_laws.proofs.Opened.{well_dup}
-use Rattle.tree_laws.specs.Moves.{Stage, Step}
-use Rattle.tree_laws.specs.Moves.Move.{Own as OwnMove}
-use Rattle.inode_machine.specs.Exec.{is_at, file_count, with_walk, slot_at, entry_at, doubled, double_at, double_if, with_joined, child_of}
-use Rattle.inode_machine.specs.Marks.{places, with_mark, with_made, made_by, found_by, refused_all, new_id}
-use Rattle.inode_machine.specs.World.{Mine, Entry, Desk, World, Note}
-use Rattle.inode_machine.specs.Descriptors.{dups}
-use Rattle.inode_machine.specs.World.Op.{Double, Join, Leave, Say}
-use Rattle.inode_machine.specs.Rules.{Own, shop_of, Shop, IsTied, id_at, number_is, users, own_names, own_of, Inv, machine, Held, key_in, Stands, view, IsReached, HasType, KeepsFiles}
+use Rattle.inode_machine.proofs.Vocabulary.{◌≡◌, ◌≢◌, ◌⊎◌, inl, inr, ℕ, ◌+◌, ◌<◌, Bool, true, false, ◌==◌, ◌&&◌, ◌||◌, nat_lt, List, [], ◌∷◌, Option, Some, None, refl, sym, ◌∙◌, ap, subst, arith, if◌then◌else◌, nat_tests, Do, unmarked, P, own, onto, Good, Fine, Safe, Wp, Cause, BadDescriptor, OpenFile, Action, Dup, Inherit, NewFd, Failed, hart_count, descriptor_count, Name, Tree, put, fd_names, and_then, settle, resolve, parent, hold_names, no_fd as is_nothing, path_of, follows_path, file_at, lowest, has_room, refusal_with, effect_with, answer_with, makes_node, place_of, refused, IsInPlace, holds_raised, Row, key_at, row_of, key_names, with_open, NamesLess, settle_less, file_settled, sum_below, one_if, IsWellFormed, eq_self, eq_not, same_or, put_same, put_other, sum_same, one_no, one_yes, well_dup, Stage, Step, OwnMove, is_at, file_count, with_walk, slot_at, entry_at, doubled, double_at, double_if, with_joined, child_of, places, with_mark, with_made, made_by, found_by, refused_all, new_id, Mine, Entry, Desk, World, Note, dups, Double, Join, Leave, Say, Own, shop_of, Shop, IsTied, id_at, number_is, users, own_names, own_of, Inv, machine, Held, key_in, Stands, view, IsReached, HasType, KeepsFiles, Sort, sort_of}
 use Rattle.inode_machine.proofs.Frame.{bond_of, put_elim, stands_on, Fair, fair, fair_same, kept_here}
 use Rattle.inode_machine.proofs.Rules.{s-owned, quiet, UnlocksAll, locks_none, s-owned-from}
 use Rattle.inode_machine.proofs.Rows.{below_is}
 use Rattle.inode_machine.proofs.Walking.{refs_walk, walk_did, own_walk, stage_walk, moves_good}
 use Rattle.inode_machine.proofs.Tables.{with_fd, users_put, lowest_same, lowest_free, changes}
 use Rattle.inode_machine.proofs.Shops.{Sells, sells_did, own_takes, names_less}
-use Rattle.inode_machine.specs.Inodes.{Sort, sort_of}
 
 -- What stands behind a descriptor.
 pub record Behind (h fd s : ℕ) (e : Entry) (v : World) : Type 0 where

@@ -1,36 +1,6 @@
 -- A file that the hart keeps is emptied, behind a descriptor of its own.
-use Rattle.std.proofs.Common.{◌≡◌, ℕ, ◌+◌, ◌<◌, true, List, [], ◌∷◌, Option, Some, None, refl, sym, ◌∙◌, ap, subst}
-use Rattle.atomic_programs.specs.Prog.{Do}
-use Rattle.atomic_programs.specs.Logic.{P, own, onto, Fine, Safe, Wp}
-use Rattle.plain_tree.specs.declared.node.Node.{Node}
-use Rattle.plain_tree.specs.declared.node.Kind.{Kind}
-use Rattle.plain_tree.specs.declared.node.Kind.TheVariants.{Directory, File, Device}
-use Rattle.plain_tree.specs.declared.tree.OpenFile.{OpenFile}
-use Rattle.plain_tree.specs.declared.step.Action.TheVariants.{Truncate}
-use Rattle.plain_tree.specs.declared.step.StepAnswer.TheVariants.{Done}
-use Rattle.plain_tree.specs.Widths.{hart_count}
-use Rattle.plain_tree.specs.Tree.{Name, Tree, put, is_live, settle, resolve, parent}
-use Rattle.plain_tree.specs.Steps.{answer_with, effect_with, emptied, file_at, is_file, node_at, node_or, place_of, refusal_with, with_nodes, IsInPlace, StepWith}
-use Rattle.plain_tree.specs.HartRow.{Key}
-use Rattle.plain_tree.proofs.RowLemmas.{Behind, behind}
-use Rattle.plain_tree.proofs.Settling.{settle_again}
-use Rattle.plain_tree.proofs.SettledSteps.{settled_step}
-use Rattle.tree_laws.specs.WellFormed.{IsWellFormed}
-use Rattle.tree_laws.proofs.Kept.{effect_well}
-use Rattle.tree_laws.specs.Moves.{Stage, Step}
-use Rattle.tree_laws.specs.Moves.Move.{Own as OwnMove}
-use Rattle.inode_machine.specs.World.{World}
-use Rattle.inode_machine.specs.World.Op.{Empty}
-use Rattle.inode_machine.specs.Inodes.{sort_of, sort_of_kind}
-use Rattle.inode_machine.specs.Exec.{changed_record, with_no_bytes, with_walk}
-use Rattle.inode_machine.specs.Marks.{acts, made_by, own_made, marked, new_id, places}
-use Rattle.inode_machine.specs.Rules.{Own, own_of, Inv, machine}
-use Rattle.inode_machine.specs.Parts.{own_step}
-use Rattle.inode_machine.proofs.Frame.{fair, fair_then}
-use Rattle.inode_machine.proofs.Rules.{s-owned, has_disk, has_node, locked_held, locks_it}
-use Rattle.inode_machine.proofs.Rows.{below_is}
-use Rattle.inode_machine.proofs.Walking.{moves_good, own_walk, stage_walk, walk_did}
-use Rattle.inode_machine.proofs.Shops.{own_takes}
+use Rattle.inode_machine.proofs.Vocabulary.{◌≡◌, ℕ, ◌+◌, ◌<◌, true, List, [], ◌∷◌, Option, Some, None, refl, sym, ◌∙◌, ap, subst, Do, P, own, onto, Fine, Safe, Wp, Node, Kind, Directory, File, Device, OpenFile, Truncate, Done, hart_count, Name, Tree, put, is_live, settle, resolve, parent, answer_with, effect_with, emptied, file_at, is_file, node_at, node_or, place_of, refusal_with, with_nodes, IsInPlace, StepWith, Key, Behind, behind, settle_again, settled_step, IsWellFormed, effect_well, Stage, Step, OwnMove, World, Empty, sort_of, sort_of_kind, changed_record, with_no_bytes, with_walk, acts, made_by, own_made, marked, new_id, places, Own, own_of, Inv, machine, own_step}
+use Rattle.inode_machine.proofs.Basics.{fair, fair_then, s-owned, has_disk, has_node, locked_held, locks_it, below_is, moves_good, own_walk, stage_walk, walk_did, own_takes}
 use Rattle.inode_machine.proofs.Writings.{Changing, changed_world, changing}
 
 abbrev pub emptied_node : Node → Node

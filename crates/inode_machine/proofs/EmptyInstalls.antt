@@ -1,35 +1,6 @@
 -- The descriptor of a file that an open made: where the file is to be emptied, it is empty.
-use Rattle.std.proofs.Common.{◌≡◌, ◌≢◌, ◌⊎◌, inl, inr, ℕ, ◌+◌, ◌-◌, ◌<◌, true, false, List, [], ◌∷◌, Option, Some, None, refl, sym, ◌∙◌, ap, subst}
-use Rattle.atomic_programs.specs.Prog.{Do, Did as Came, Ran}
-use Rattle.atomic_programs.specs.Logic.{P, own, onto, Good, Fine, Safe, Wp}
-use Rattle.plain_tree.specs.declared.node.Node.{Node}
-use Rattle.plain_tree.specs.declared.node.Kind.{Kind}
-use Rattle.plain_tree.specs.declared.node.Kind.TheVariants.{Directory, File, Device}
-use Rattle.plain_tree.specs.declared.tree.OpenFile.{OpenFile}
-use Rattle.plain_tree.specs.declared.step.Action.TheVariants.{Truncate}
-use Rattle.plain_tree.specs.declared.step.StepAnswer.TheVariants.{Done}
-use Rattle.plain_tree.specs.Widths.{hart_count}
-use Rattle.plain_tree.specs.Tree.{Tree, put, settle, resolve, parent}
-use Rattle.plain_tree.specs.Steps.{effect_with, is_file, lowest, has_room, place_of, with_nodes, StepWith}
-use Rattle.plain_tree.specs.HartRow.{Key, key_is}
-use Rattle.plain_tree.proofs.RowLemmas.{Behind, behind}
-use Rattle.plain_tree.proofs.Settling.{settle_again}
-use Rattle.tree_laws.proofs.Nodes.{put_self}
-use Rattle.tree_laws.specs.Moves.{Stage, Step}
-use Rattle.tree_laws.specs.Moves.Move.{Own as OwnMove}
-use Rattle.inode_machine.specs.World.{Mark, World}
-use Rattle.inode_machine.specs.World.Op.{Install}
-use Rattle.inode_machine.specs.Inodes.{Sort, OfDirectory, sort_of, sort_of_kind}
-use Rattle.inode_machine.specs.Exec.{install_if, installed, with_walk}
-use Rattle.inode_machine.specs.Marks.{made_by, marked, new_id, places, with_mark}
-use Rattle.inode_machine.specs.Rules.{own_names, own_of, Own, Inv, machine}
-use Rattle.inode_machine.specs.Parts.{own_step}
-use Rattle.inode_machine.proofs.Frame.{fair, fair_then}
-use Rattle.inode_machine.proofs.Rules.{s-owned, has_node, locked_held, walks_refs}
-use Rattle.inode_machine.proofs.Counting.{not_home, spares}
-use Rattle.inode_machine.proofs.Rows.{below_is}
-use Rattle.inode_machine.proofs.Walking.{moves_good, own_walk, stage_walk, walk_did}
-use Rattle.inode_machine.proofs.Shops.{own_takes}
+use Rattle.inode_machine.proofs.Vocabulary.{◌≡◌, ◌≢◌, ◌⊎◌, inl, inr, ℕ, ◌+◌, ◌-◌, ◌<◌, true, false, List, [], ◌∷◌, Option, Some, None, refl, sym, ◌∙◌, ap, subst, Do, Came, Ran, P, own, onto, Good, Fine, Safe, Wp, Node, Kind, Directory, File, Device, OpenFile, Truncate, Done, hart_count, Tree, put, settle, resolve, parent, effect_with, is_file, lowest, has_room, place_of, with_nodes, StepWith, Key, key_is, Behind, behind, settle_again, put_self, Stage, Step, OwnMove, Mark, World, Install, Sort, OfDirectory, sort_of, sort_of_kind, install_if, installed, with_walk, made_by, marked, new_id, places, with_mark, own_names, own_of, Own, Inv, machine, own_step}
+use Rattle.inode_machine.proofs.Basics.{fair, fair_then, s-owned, has_node, locked_held, walks_refs, not_home, spares, below_is, moves_good, own_walk, stage_walk, walk_did, own_takes}
 use Rattle.inode_machine.proofs.Empties.{empty_step, emptied_node, trunc_effect, trunc_made, trunc_place, trunc_settled}
 use Rattle.inode_machine.proofs.Installs.{own_installed, installing, Installing}
 

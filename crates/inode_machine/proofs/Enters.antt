@@ -1,31 +1,6 @@
 -- A name is entered: without room for it nothing is; and mkdir's act, which is at that moment.
-use Rattle.std.proofs.Common.{◌≡◌, ◌≢◌, ℕ, ◌+◌, ◌<◌, ◌≤◌, Bool, true, false, nat_lt, List, [], ◌∷◌, Option, Some, None, refl, sym, ◌∙◌, ap, subst, arith}
-use Rattle.std.proofs.lemmas.Bool.Decides.{nat_tests}
-use Rattle.atomic_programs.specs.Prog.{Do, Ran, Did as Came}
-use Rattle.atomic_programs.specs.Logic.{P, own, onto, Good, Fine, Safe, Wp}
-use Rattle.plain_tree.specs.declared.node.Node.{Node}
-use Rattle.plain_tree.specs.declared.step.Action.TheVariants.{Mkdir}
-use Rattle.plain_tree.specs.declared.step.StepAnswer.TheVariants.{Done}
-use Rattle.plain_tree.specs.Widths.{hart_count, count_limit}
-use Rattle.plain_tree.specs.Tree.{Name, Tree, put, look, is_directory, live_directory, settle}
-use Rattle.plain_tree.specs.Steps.{node_or, node_at, with_nodes, raised, new_directory, IsNewNode, refusal_with, effect_with, answer_with, place_of, IsInPlace}
-use Rattle.tree_laws.specs.WellFormed.{IsWellFormed}
-use Rattle.tree_laws.proofs.Maps.{and_true, put_same, put_other}
-use Rattle.tree_laws.proofs.Walks.{look_same}
-use Rattle.tree_laws.proofs.Kept.{effect_well}
-use Rattle.tree_laws.specs.Moves.{Step}
-use Rattle.tree_laws.specs.Moves.Move.{Look}
-use Rattle.inode_machine.specs.World.{Note, World, Mark, Outside, Room, RoomFor, Picks, EntryResult, InPlace, NoBlock, NoSlot}
-use Rattle.inode_machine.specs.World.Op.{Enter}
-use Rattle.inode_machine.specs.World.Mark.{Mends}
-use Rattle.inode_machine.specs.Exec.{with_entry, enter_if, enter_in, is_full_directory}
-use Rattle.inode_machine.specs.Marks.{Made, new_id, marked, places, with_mark}
-use Rattle.inode_machine.specs.Rules.{Own, Held, own_of, Inv, machine, IsName}
-use Rattle.inode_machine.specs.Parts.{makes}
-use Rattle.inode_machine.proofs.Rules.{s-owned, locks_it, has_disk, has_node}
-use Rattle.inode_machine.proofs.Walking.{stage_walk}
-use Rattle.inode_machine.proofs.Claiming.{Mendable, mended_own, mend_fine}
-use Rattle.inode_machine.proofs.Acting.{acts_gone, act_good, no_walk, told_step, two_put}
+use Rattle.inode_machine.proofs.Vocabulary.{◌≡◌, ◌≢◌, ℕ, ◌+◌, ◌<◌, ◌≤◌, Bool, true, false, nat_lt, List, [], ◌∷◌, Option, Some, None, refl, sym, ◌∙◌, ap, subst, arith, nat_tests, Do, Ran, Came, P, own, onto, Good, Fine, Safe, Wp, Node, Mkdir, Done, hart_count, count_limit, Name, Tree, put, look, is_directory, live_directory, settle, node_or, node_at, with_nodes, raised, new_directory, IsNewNode, refusal_with, effect_with, answer_with, place_of, IsInPlace, IsWellFormed, and_true, put_same, put_other, look_same, effect_well, Step, Look, Note, World, Mark, Outside, Room, RoomFor, Picks, EntryResult, InPlace, NoBlock, NoSlot, Enter, Mends, with_entry, enter_if, enter_in, is_full_directory, Made, new_id, marked, places, with_mark, Own, Held, own_of, Inv, machine, IsName, makes}
+use Rattle.inode_machine.proofs.Basics.{s-owned, locks_it, has_disk, has_node, stage_walk, Mendable, mended_own, mend_fine, acts_gone, act_good, no_walk, told_step, two_put}
 use Rattle.inode_machine.proofs.Addings.{Adding, added_world, adding}
 
 -- an entry's put, with its mark

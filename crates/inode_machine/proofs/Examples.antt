@@ -1,10 +1,5 @@
 -- Computed runs.
-use Rattle.std.proofs.Common.{refl}
-use Rattle.plain_tree.specs.Tree.{pieces, put, any_below, same_name, first_slot, look, follow, parent_from, parent_of, file_in, is_named, settle}
-use Rattle.plain_tree.specs.Steps.{entries, any_used, lowest_from, refusal_with, place_of, first_free, cleared, has_fd, effect_with, answer_with}
-use Rattle.tree_laws.specs.WellFormed.{sum_below, one_if}
-use Rattle.inode_machine.specs.Exec.{all_used, first_from}
-use Rattle.inode_machine.specs.Examples.{NoSlotForDirectory, NoSlotForFile, NoSlotForName, doubled_to, doubles, steps, OpenFinishes, StatFinishes, ReadFinishes, DupFinishes, CloseFinishes, MkdirFinishes, ChdirFinishes, UnlinkFinishes, CreateFinishes, WriteFinishes, WalkerFails, NoInodeLeft, NoBlockLeft, LinkFinishes, LinkToTaken, LinkBelowNothing, LinkToNoName, LinkOfNothing, LinkOfDirectory, NoBlockForName, NoInodeForFile, NoBlockForFile, NoBlockForDirectory, NoBlockForPart, NoDescriptorToDouble, NoDescriptorToOpen, LinkOfMany, InheritFinishes, InheritMoves, InheritFrees, StartsRefused}
+use Rattle.inode_machine.proofs.Vocabulary.{refl, pieces, put, any_below, same_name, first_slot, look, follow, parent_from, parent_of, file_in, is_named, settle, entries, any_used, lowest_from, refusal_with, place_of, first_free, cleared, has_fd, effect_with, answer_with, sum_below, one_if, all_used, first_from, NoSlotForDirectory, NoSlotForFile, NoSlotForName, doubled_to, doubles, steps, OpenFinishes, StatFinishes, ReadFinishes, DupFinishes, CloseFinishes, MkdirFinishes, ChdirFinishes, UnlinkFinishes, CreateFinishes, WriteFinishes, WalkerFails, NoInodeLeft, NoBlockLeft, LinkFinishes, LinkToTaken, LinkBelowNothing, LinkToNoName, LinkOfNothing, LinkOfDirectory, NoBlockForName, NoInodeForFile, NoBlockForFile, NoBlockForDirectory, NoBlockForPart, NoDescriptorToDouble, NoDescriptorToOpen, LinkOfMany, InheritFinishes, InheritMoves, InheritFrees, StartsRefused}
 
 pub open_finishes : OpenFinishes
 unfolding pieces put any_below same_name first_slot look follow parent_from parent_of file_in is_named settle entries any_used lowest_from refusal_with place_of first_free cleared has_fd effect_with answer_with sum_below one_if all_used first_from steps

@@ -1,25 +1,6 @@
 -- Link's first step: what its old path leads to is found and held; and what is taken back of that where the call finds no room.
-use Rattle.std.proofs.Common.{◌≡◌, ℕ, ◌<◌, true, false, not, Option, Some, None, List, refl, sym, ◌∙◌, ap, subst}
-use Rattle.plain_tree.specs.declared.answer.Cause.TheVariants.{IsDirectory, NoEntry}
-use Rattle.plain_tree.specs.declared.tree.Hold.{Hold}
-use Rattle.plain_tree.specs.declared.step.Action.TheVariants.{Find}
-use Rattle.plain_tree.specs.declared.step.StepAnswer.TheVariants.{Done, Failed}
-use Rattle.plain_tree.specs.Widths.{hart_count}
-use Rattle.plain_tree.specs.Tree.{Name, Tree, is_directory, settle}
-use Rattle.plain_tree.specs.Steps.{answer_with, effect_with, holds_raised, node_at, place_of, refusal_with, IsInPlace, StepWith}
-use Rattle.tree_laws.specs.WellFormed.{raised_at}
-use Rattle.tree_laws.proofs.Maps.{put_same}
-use Rattle.tree_laws.proofs.Formed.{not_raised}
-use Rattle.tree_laws.proofs.Opened.{well_hold}
-use Rattle.inode_machine.specs.World.{World}
-use Rattle.inode_machine.specs.Marks.{acts, mended, unheld, unmoved, unopened}
-use Rattle.inode_machine.specs.Rules.{Own, own_names, own_of, Inv}
-use Rattle.inode_machine.proofs.Frame.{fair_then}
-use Rattle.inode_machine.proofs.Rows.{below_is}
-use Rattle.inode_machine.proofs.Looks.{MendingOf, mends}
-use Rattle.inode_machine.proofs.Walks.{Mending}
-use Rattle.inode_machine.proofs.Acts.{Finder}
-use Rattle.inode_machine.proofs.Holds.{Rehold, held_tree, held_world, low, reholds}
+use Rattle.inode_machine.proofs.Vocabulary.{◌≡◌, ℕ, ◌<◌, true, false, not, Option, Some, None, List, refl, sym, ◌∙◌, ap, subst, IsDirectory, NoEntry, Hold, Find, Done, Failed, hart_count, Name, Tree, is_directory, settle, answer_with, effect_with, holds_raised, node_at, place_of, refusal_with, IsInPlace, StepWith, raised_at, put_same, not_raised, well_hold, World, acts, mended, unheld, unmoved, unopened, Own, own_names, own_of, Inv}
+use Rattle.inode_machine.proofs.Basics.{fair_then, below_is, MendingOf, mends, Mending, Finder, Rehold, held_tree, held_world, low, reholds}
 
 pub find_goes : (t : Tree) (h j : ℕ) (path : List ℕ) (par : Option (ℕ × Name)) → is_directory (node_at t j).kind ≡ false → refusal_with t h (Find path) (Some j) par ≡ None
 unfolding refusal_with

@@ -1,21 +1,5 @@
 -- One lemma for all operations: what a step of one hart leaves to the others, and what still holds.
-use Rattle.std.proofs.Common.{◌≡◌, ◌≢◌, ◌⊎◌, inl, inr, ℕ, zero, suc, ◌+◌, ◌<◌, ◌≤◌, Bool, true, false, ◌==◌, ◌||◌, Option, Some, None, refl, sym, ◌∙◌, ap, subst, arith, if◌then◌else◌}
-use Rattle.plain_tree.specs.declared.tree.OpenFile.{OpenFile}
-use Rattle.plain_tree.specs.Widths.{hart_count, descriptor_count}
-use Rattle.plain_tree.specs.declared.node.Node.{Node}
-use Rattle.plain_tree.specs.Tree.{put, hold_names}
-use Rattle.plain_tree.specs.HartRow.{Row, key_names, row_of}
-use Rattle.plain_tree.specs.Steps.{holds_raised}
-use Rattle.tree_laws.specs.WellFormed.{sum_below, IsWellFormed}
-use Rattle.tree_laws.proofs.Maps.{either, or_left, or_right, eq_self, eq_is, eq_not, same_or, put_same, put_other}
-use Rattle.tree_laws.proofs.Walks.{look_same}
-use Rattle.tree_laws.proofs.Facts.{look_live}
-use Rattle.tree_laws.proofs.Sums.{sum_part, sum_two}
-use Rattle.inode_machine.specs.Inodes.{sort_of}
-use Rattle.tree_laws.specs.Moves.{Walk}
-use Rattle.inode_machine.specs.World.{Mine, Entry, Note, Desk, World}
-use Rattle.inode_machine.specs.Exec.{is_at, child_of, given_of}
-use Rattle.inode_machine.specs.Rules.{key_in, Own, Rests, left_or, Stands, shop_of, Shop, IsTied, own_names, Held, view, is_hart, if_kept, own_of, Found, IsReferredTo, IsReached, reference_limit, References, IsAlone, Has, KeepsFiles, HasType, Lends, Inv}
+use Rattle.inode_machine.proofs.Vocabulary.{◌≡◌, ◌≢◌, ◌⊎◌, inl, inr, ℕ, zero, suc, ◌+◌, ◌<◌, ◌≤◌, Bool, true, false, ◌==◌, ◌||◌, Option, Some, None, refl, sym, ◌∙◌, ap, subst, arith, if◌then◌else◌, OpenFile, hart_count, descriptor_count, Node, put, hold_names, Row, key_names, row_of, holds_raised, sum_below, IsWellFormed, either, or_left, or_right, eq_self, eq_is, eq_not, same_or, put_same, put_other, look_same, look_live, sum_part, sum_two, sort_of, Walk, Mine, Entry, Note, Desk, World, is_at, child_of, given_of, key_in, Own, Rests, left_or, Stands, shop_of, Shop, IsTied, own_names, Held, view, is_hart, if_kept, own_of, Found, IsReferredTo, IsReached, reference_limit, References, IsAlone, Has, KeepsFiles, HasType, Lends, Inv}
 
 -- Functions changed at one place, and what is kept.
 

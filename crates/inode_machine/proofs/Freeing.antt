@@ -1,32 +1,9 @@
 -- Inodes that one hart keeps alone: locked, freed, and anybody's again.
-use Rattle.std.proofs.Common.{◌≡◌, ◌≢◌, ◌⊎◌, inl, inr, ℕ, ◌+◌, ◌-◌, ◌<◌, Bool, true, false, ◌==◌, List, [], Option, Some, None, refl, sym, ◌∙◌, ap, subst, arith}
-use Rattle.atomic_programs.specs.Prog.{Do, unmarked}
-use Rattle.atomic_programs.specs.Logic.{P, Good, Fine, Safe, Wp}
-use Rattle.plain_tree.specs.declared.node.Node.{Node}
-use Rattle.plain_tree.specs.Widths.{hart_count}
-use Rattle.plain_tree.specs.Tree.{Tree, put, is_live, is_named, settle}
-use Rattle.plain_tree.specs.HartRow.{row_of}
-use Rattle.plain_tree.proofs.Settling.{settle_nodes}
-use Rattle.tree_laws.specs.WellFormed.{sum_below, folder, links_of, folders_of, links_in, raises, Folders, IsForest, IsWellFormed}
-use Rattle.tree_laws.proofs.Maps.{either, same_or, put_same, put_other, none_any}
-use Rattle.tree_laws.proofs.Nodes.{folder_dead, dead_links, no_node, cwd_named, hold_named, file_named, folders_put, put_self, map_put}
-use Rattle.tree_laws.proofs.Facts.{look_live}
-use Rattle.tree_laws.specs.Moves.{Step, Walk}
-use Rattle.inode_machine.specs.World.{Mine, World, Entry}
-use Rattle.inode_machine.specs.Marks.{with_mark}
-use Rattle.inode_machine.specs.Exec.{lock_if, blank, counted_down, file_count, locked, unlocked}
-use Rattle.inode_machine.specs.World.Mark.{Frees}
-use Rattle.inode_machine.specs.World.Op.{Take, Give, Free, Forget}
-use Rattle.inode_machine.specs.Rules.{shop_of, own_names, Held, view, is_hart, if_kept, own_of, IsReferredTo, IsReached, IsAlone, Inv, IsOut, machine, looking_cost, number_is, Sought}
-use Rattle.tree_laws.proofs.Sums.{sum_part, one_yes}
-use Rattle.tree_laws.specs.WellFormed.{one_if}
-use Rattle.tree_laws.proofs.Maps.{eq_self}
-use Rattle.inode_machine.specs.Rules.{Own}
+use Rattle.inode_machine.proofs.Vocabulary.{◌≡◌, ◌≢◌, ◌⊎◌, inl, inr, ℕ, ◌+◌, ◌-◌, ◌<◌, Bool, true, false, ◌==◌, List, [], Option, Some, None, refl, sym, ◌∙◌, ap, subst, arith, Do, unmarked, P, Good, Fine, Safe, Wp, Node, hart_count, Tree, put, is_live, is_named, settle, row_of, settle_nodes, sum_below, folder, links_of, folders_of, links_in, raises, Folders, IsForest, IsWellFormed, either, same_or, put_same, put_other, none_any, folder_dead, dead_links, no_node, cwd_named, hold_named, file_named, folders_put, put_self, map_put, look_live, Step, Walk, Mine, World, Entry, with_mark, lock_if, blank, counted_down, file_count, locked, unlocked, Frees, Take, Give, Free, Forget, shop_of, own_names, Held, view, is_hart, if_kept, own_of, IsReferredTo, IsReached, IsAlone, Inv, IsOut, machine, looking_cost, number_is, Sought, sum_part, one_yes, one_if, eq_self, Own, Query, Sight, seen_in, sort_of}
 use Rattle.inode_machine.proofs.Frame.{child_directory, shop_same, put_elim, ours_none, ours_some, kept_here, Did, Fair, fair, fair_then, own_inodes, has_inode, found_more, one_refs, two_refs, stands_in, directory_named, refers_put, resting_names, type_on}
 use Rattle.inode_machine.proofs.Rules.{s-owned, quiet, each_refs, here_refs, walks_refs, total_same, total_changed, my_refs, is_me, has_disk, has_node, locks_it}
 use Rattle.inode_machine.proofs.Counting.{Writes, writes, spares, not_home}
 use Rattle.inode_machine.proofs.Rows.{hart_not}
-use Rattle.inode_machine.specs.Inodes.{Query, Sight, seen_in, sort_of}
 
 -- The lock of an inode that the hart keeps already is free.
 pub record LockingKept (h i : ℕ) (x : Held) (v : World) (O : Own) : Type 0 where

@@ -1,13 +1,5 @@
 -- The open-file table where a hart hands its descriptors to the one that it serves.
-use Rattle.std.proofs.Common.{◌≡◌, ◌≢◌, ◌⊎◌, inl, inr, ℕ, ◌+◌, ◌-◌, ◌<◌, ◌≤◌, true, false, ◌==◌, not, Option, Some, None, refl, sym, ◌∙◌, ap, arith}
-use Rattle.plain_tree.specs.Widths.{hart_count, descriptor_count}
-use Rattle.plain_tree.specs.Tree.{put}
-use Rattle.tree_laws.specs.WellFormed.{sum_below, one_if}
-use Rattle.tree_laws.proofs.Maps.{eq_self, either, same_or, put_same, put_other}
-use Rattle.tree_laws.proofs.Sums.{sum_changed, sum_same, sum_none, one_yes, one_no}
-use Rattle.inode_machine.specs.World.{Entry, Desk}
-use Rattle.inode_machine.specs.Exec.{is_at, is_nothing, next_used}
-use Rattle.inode_machine.specs.Rules.{id_at, uses, users, Shop, IsTied}
+use Rattle.inode_machine.proofs.Vocabulary.{◌≡◌, ◌≢◌, ◌⊎◌, inl, inr, ℕ, ◌+◌, ◌-◌, ◌<◌, ◌≤◌, true, false, ◌==◌, not, Option, Some, None, refl, sym, ◌∙◌, ap, arith, hart_count, descriptor_count, put, sum_below, one_if, eq_self, either, same_or, put_same, put_other, sum_changed, sum_same, sum_none, one_yes, one_no, Entry, Desk, is_at, is_nothing, next_used, id_at, uses, users, Shop, IsTied}
 use Rattle.inode_machine.proofs.Frame.{put_elim}
 use Rattle.inode_machine.proofs.Dups.{Renews, renewed, renewed_slots, not_one}
 use Rattle.inode_machine.proofs.Openings.{first_is, first_some}

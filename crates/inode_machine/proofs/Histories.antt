@@ -1,21 +1,7 @@
 -- All calls of a run as one list of tree steps.
-use Rattle.std.proofs.Common.{◌≡◌, ◌⊎◌, inl, inr, ℕ, List, [], ◌∷◌, Option, Some, None, refl, subst}
-use Rattle.plain_tree.specs.declared.call.Call.{Call}
-use Rattle.plain_tree.specs.TreeData.{TreeData}
-use Rattle.plain_tree.specs.Tree.{Tree}
-use Rattle.tree_laws.specs.WellFormed.{IsWellFormed}
-use Rattle.tree_laws.proofs.Nodes.{settled_well}
-use Rattle.tree_laws.specs.Moves.{Step as MoveStep}
-use Rattle.atomic_programs.specs.Calls.{Event}
-use Rattle.inode_machine.specs.World.{Op, Answer, Mark, Outside, World}
-use Rattle.inode_machine.specs.World.Mark.{Makes, Frees, Orphans, Fills, Mends, Spoils}
-use Rattle.inode_machine.specs.Marks.{places}
-use Rattle.inode_machine.specs.MoveCalls.{IsMoving, RunsFrom}
-use Rattle.inode_machine.specs.Theory.{is_covered}
-use Rattle.inode_machine.specs.Histories.{covered, CallsHaveOneHistory, OneHartHasOneHistory, Runs}
+use Rattle.inode_machine.proofs.Vocabulary.{◌≡◌, ◌⊎◌, inl, inr, ℕ, List, [], ◌∷◌, Option, Some, None, refl, subst, Call, TreeData, Tree, IsWellFormed, settled_well, Step as MoveStep, Event, Op, Answer, Mark, Outside, World, Makes, Frees, Orphans, Fills, Mends, Spoils, places, IsMoving, RunsFrom, is_covered, covered, CallsHaveOneHistory, OneHartHasOneHistory, Runs}
 use Rattle.inode_machine.proofs.Covered.{lawful}
-use Rattle.inode_machine.proofs.MoveCalls.{moves_history, moves_alone}
-use Rattle.inode_machine.proofs.Starts.{start_is}
+use Rattle.inode_machine.proofs.Basics.{moves_history, moves_alone, start_is}
 
 -- an operation places nothing, or one move of its hart
 pub places_one : (h : ℕ) (op : Op) (a : Answer op) (m : Option Mark) (w : World) → (places h op a m w ≡ []) ⊎ ((e : MoveStep) × (places h op a m w ≡ (h, e) ∷ []))

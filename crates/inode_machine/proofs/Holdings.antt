@@ -1,20 +1,5 @@
 -- What a call keeps once its walk is through: its list, and the inodes that it works on.
-use Rattle.std.proofs.Common.{◌≡◌, ◌≢◌, ◌⊎◌, inl, inr, ℕ, ◌+◌, ◌-◌, ◌*◌, ◌<◌, ◌≤◌, true, false, ◌==◌, List, length, Option, Some, None, refl, sym, ◌∙◌, ap, subst, arith}
-use Rattle.atomic_programs.specs.Logic.{oldest_first, Safe}
-use Rattle.atomic_programs.specs.Calls.{Begun, Ends}
-use Rattle.plain_tree.specs.declared.answer.Reply.{Reply}
-use Rattle.plain_tree.specs.declared.call.Call.{Call}
-use Rattle.plain_tree.specs.Widths.{hart_count}
-use Rattle.plain_tree.specs.HartRow.{Row}
-use Rattle.plain_tree.specs.Tree.{Name, put}
-use Rattle.plain_tree.specs.declared.step.Action.{Action}
-use Rattle.tree_laws.specs.WellFormed.{one_if}
-use Rattle.tree_laws.proofs.Maps.{either, same_or, put_same, put_other}
-use Rattle.tree_laws.specs.Moves.{Step, IsWholeCall}
-use Rattle.inode_machine.specs.World.{Desk, World}
-use Rattle.inode_machine.specs.Rules.{Held, Own, own_names, own_of, nothing, machine}
-use Rattle.inode_machine.specs.Parts.{P, give_up, tail}
-use Rattle.inode_machine.specs.Theory.{covered_calls}
+use Rattle.inode_machine.proofs.Vocabulary.{◌≡◌, ◌≢◌, ◌⊎◌, inl, inr, ℕ, ◌+◌, ◌-◌, ◌*◌, ◌<◌, ◌≤◌, true, false, ◌==◌, List, length, Option, Some, None, refl, sym, ◌∙◌, ap, subst, arith, oldest_first, Safe, Begun, Ends, Reply, Call, hart_count, Row, Name, put, Action, one_if, either, same_or, put_same, put_other, Step, IsWholeCall, Desk, World, Held, Own, own_names, own_of, nothing, machine, ThisP as P, give_up, tail, covered_calls}
 use Rattle.inode_machine.proofs.Counting.{s-give}
 use Rattle.inode_machine.proofs.Claiming.{Mendable}
 use Rattle.inode_machine.proofs.Looks.{KeepsHold}

@@ -1,30 +1,5 @@
 -- A hart's hold changes in the tree, alone or with an inode that it keeps: what that leaves, and the steps of link that it makes.
-use Rattle.std.proofs.Common.{◌≡◌, ◌⊎◌, inl, inr, ℕ, ◌<◌, Bool, true, false, ◌==◌, ◌||◌, nat_lt, [], Option, Some, None, refl, sym, ◌∙◌, ap, subst, if◌then◌else◌}
-use Rattle.plain_tree.specs.declared.answer.Cause.TheVariants.{TooManyLinks}
-use Rattle.plain_tree.specs.declared.node.Node.{Node}
-use Rattle.plain_tree.specs.declared.tree.Hold.{Hold}
-use Rattle.plain_tree.specs.declared.step.Action.{Action}
-use Rattle.plain_tree.specs.declared.step.Action.TheVariants.{Bump, Unbump}
-use Rattle.plain_tree.specs.declared.step.StepAnswer.{StepAnswer}
-use Rattle.plain_tree.specs.declared.step.StepAnswer.TheVariants.{Done, Failed}
-use Rattle.plain_tree.specs.Laws.{AsksForWhatStays}
-use Rattle.plain_tree.specs.Widths.{count_limit, hart_count}
-use Rattle.plain_tree.specs.Tree.{Name, Tree, put, hold_names, is_live, settle, resolve, parent}
-use Rattle.plain_tree.specs.Steps.{answer_with, at_hold, bump_refusal, drop_hold, effect_with, holds_raised, lowered, makes_node, node_or, opens_one, place_of, raise_hold, raised, refusal_with, IsInPlace, StepWith}
-use Rattle.plain_tree.specs.HartRow.{key_names, row_of}
-use Rattle.plain_tree.proofs.Settling.{settle_again}
-use Rattle.plain_tree.proofs.SettledSteps.{settled_step}
-use Rattle.tree_laws.specs.WellFormed.{IsWellFormed, raised_at}
-use Rattle.tree_laws.proofs.Maps.{either, put_same, put_other}
-use Rattle.tree_laws.proofs.Formed.{not_raised}
-use Rattle.tree_laws.proofs.Opened.{well_hold}
-use Rattle.tree_laws.proofs.Kept.{effect_well}
-use Rattle.tree_laws.specs.Moves.Move.{Own as OwnMove}
-use Rattle.inode_machine.specs.World.{World}
-use Rattle.inode_machine.specs.Inodes.{sort_of}
-use Rattle.inode_machine.specs.Exec.{is_at}
-use Rattle.inode_machine.specs.Marks.{act_left, acts, found_by, made_by, new_id, own_made}
-use Rattle.inode_machine.specs.Rules.{Own, Held, key_in, own_of, shop_of, view, is_hart, Found, IsReached, Inv}
+use Rattle.inode_machine.proofs.Vocabulary.{◌≡◌, ◌⊎◌, inl, inr, ℕ, ◌<◌, Bool, true, false, ◌==◌, ◌||◌, nat_lt, [], Option, Some, None, refl, sym, ◌∙◌, ap, subst, if◌then◌else◌, TooManyLinks, Node, Hold, Action, Bump, Unbump, StepAnswer, Done, Failed, AsksForWhatStays, count_limit, hart_count, Name, Tree, put, hold_names, is_live, settle, resolve, parent, answer_with, at_hold, bump_refusal, drop_hold, effect_with, holds_raised, lowered, makes_node, node_or, opens_one, place_of, raise_hold, raised, refusal_with, IsInPlace, StepWith, key_names, row_of, settle_again, settled_step, IsWellFormed, raised_at, either, put_same, put_other, not_raised, well_hold, effect_well, OwnMove, World, sort_of, is_at, act_left, acts, found_by, made_by, new_id, own_made, Own, Held, key_in, own_of, shop_of, view, is_hart, Found, IsReached, Inv}
 use Rattle.inode_machine.proofs.Frame.{shop_same, put_elim, ours_some, kept_here, Did, Fair, fair, own_inodes, has_inode, stands_in, type_on}
 use Rattle.inode_machine.proofs.Rows.{below_is}
 use Rattle.inode_machine.proofs.Acting.{acts_gone}

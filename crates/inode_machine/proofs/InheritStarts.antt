@@ -1,19 +1,7 @@
 -- The start of an inherit: the child is reserved, and what else holds does so still.
-use Rattle.std.proofs.Common.{◌≡◌, ◌≢◌, inl, inr, ℕ, ◌<◌, Bool, false, ◌==◌, [], Option, Some, None, refl, sym, ◌∙◌, ap, subst}
-use Rattle.atomic_programs.specs.Calls.{Begins, Right}
+use Rattle.inode_machine.proofs.Vocabulary.{◌≡◌, ◌≢◌, inl, inr, ℕ, ◌<◌, Bool, false, ◌==◌, [], Option, Some, None, refl, sym, ◌∙◌, ap, subst, Begins, Right, hart_count, descriptor_count, put, row_of, one_if, same_or, put_same, put_other, Desk, World, child_of, given_of, serving, sort_of, Own, Idle, Rests, Others, shop_of, own_names, own_of, Has, Lends, Inv, left_or, begin_call, covered_calls, serving_world}
 use Rattle.plain_tree.specs.declared.call.Call.TheVariants as calls
-use Rattle.plain_tree.specs.Widths.{hart_count, descriptor_count}
-use Rattle.plain_tree.specs.Tree.{put}
-use Rattle.plain_tree.specs.HartRow.{row_of}
-use Rattle.tree_laws.specs.WellFormed.{one_if}
-use Rattle.tree_laws.proofs.Maps.{same_or, put_same, put_other}
-use Rattle.inode_machine.specs.World.{Desk, World}
-use Rattle.inode_machine.specs.Exec.{child_of, given_of, serving}
-use Rattle.inode_machine.specs.Inodes.{sort_of}
-use Rattle.inode_machine.specs.Rules.{Own, Idle, Rests, Others, shop_of, own_names, own_of, Has, Lends, Inv, left_or}
-use Rattle.inode_machine.specs.Theory.{begin_call, covered_calls, serving_world}
-use Rattle.inode_machine.proofs.Starts.{Inherits, inherit_begins}
-use Rattle.inode_machine.proofs.Handings.{SameTied, same_tied, tied_as}
+use Rattle.inode_machine.proofs.Basics.{Inherits, inherit_begins, SameTied, same_tied, tied_as}
 use Rattle.inode_machine.proofs.Turnings.{serving_child, serving_given, serving_none}
 use Rattle.inode_machine.proofs.Inherits.{begun_own, inherit_begins_with, inherit_ok}
 

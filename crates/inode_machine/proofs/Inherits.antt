@@ -1,38 +1,7 @@
 -- Inherit is right, whatever the other harts do.
-use Rattle.std.proofs.Common.{◌≡◌, ◌≢◌, ◌⊎◌, inl, inr, ℕ, zero, suc, ◌+◌, ◌-◌, ◌<◌, ◌≤◌, Bool, true, false, nat_lt, not, ◌==◌, List, [], ◌∷◌, Option, Some, None, refl, sym, ◌∙◌, ap, subst, arith}
-use Rattle.std.proofs.lemmas.Bool.Decides.{nat_tests}
-use Rattle.atomic_programs.specs.Prog.{Do, Ran, unmarked}
-use Rattle.atomic_programs.specs.Logic.{P, own, onto, Good, Safe, Wp}
-use Rattle.atomic_programs.specs.Calls.{Begun, Ends, IsBeginning}
-use Rattle.plain_tree.specs.declared.answer.Reply.{Reply}
+use Rattle.inode_machine.proofs.Vocabulary.{◌≡◌, ◌≢◌, ◌⊎◌, inl, inr, ℕ, zero, suc, ◌+◌, ◌-◌, ◌<◌, ◌≤◌, Bool, true, false, nat_lt, not, ◌==◌, List, [], ◌∷◌, Option, Some, None, refl, sym, ◌∙◌, ap, subst, arith, nat_tests, Do, Ran, unmarked, P, own, onto, Good, Safe, Wp, Begun, Ends, IsBeginning, Reply, Inherit, next_of, reply_of, had_room, hart_count, descriptor_count, put, Hold, holds_raised, either, same_or, put_same, put_other, one_yes, Step, IsWholeCall, OwnMove, Entry, World, LoanResult, Lent, Moved, Lend, LendDirectory, Release, is_nothing, next_used, with_lent, handed, moved_in, lend_last, lend_if, released, given_of, serving, with_mark, made_by, new_id, places, lends, lend_from, lent_directory, inherit_end, inherit_program, done, limit, rest_cost, Held, Own, Rests, own_names, own_of, Has, Inv, machine, nothing, covered_calls}
 use Rattle.plain_tree.specs.declared.call.Call.TheVariants as calls
-use Rattle.plain_tree.specs.declared.step.Action.TheVariants.{Inherit}
-use Rattle.plain_tree.specs.Calls.{next_of, reply_of, had_room}
-use Rattle.plain_tree.specs.Widths.{hart_count, descriptor_count}
-use Rattle.plain_tree.specs.Tree.{put}
-use Rattle.plain_tree.specs.declared.tree.Hold.{Hold}
-use Rattle.plain_tree.specs.Steps.{holds_raised}
-use Rattle.tree_laws.proofs.Maps.{either, same_or, put_same, put_other}
-use Rattle.tree_laws.proofs.Sums.{one_yes}
-use Rattle.tree_laws.specs.Moves.{Step, IsWholeCall}
-use Rattle.tree_laws.specs.Moves.Move.{Own as OwnMove}
-use Rattle.inode_machine.specs.World.{Entry, World, LoanResult, Lent, Moved}
-use Rattle.inode_machine.specs.World.Op.{Lend, LendDirectory, Release}
-use Rattle.inode_machine.specs.Exec.{is_nothing, next_used, with_lent, handed, moved_in, lend_last, lend_if, released, given_of, serving}
-use Rattle.inode_machine.specs.Marks.{with_mark, made_by, new_id, places}
-use Rattle.inode_machine.specs.Moving.{lends, lend_from, lent_directory, inherit_end, inherit_program}
-use Rattle.inode_machine.specs.Parts.{done}
-use Rattle.inode_machine.specs.Programs.{limit, rest_cost}
-use Rattle.inode_machine.specs.Rules.{Held, Own, Rests, own_names, own_of, Has, Inv, machine, nothing}
-use Rattle.inode_machine.specs.Theory.{covered_calls}
-use Rattle.inode_machine.proofs.Walking.{moves_to}
-use Rattle.inode_machine.proofs.Rules.{quiet_to, s-owned, quiet}
-use Rattle.inode_machine.proofs.Counting.{one_most}
-use Rattle.inode_machine.proofs.Dups.{less_is, s-join, s-leave}
-use Rattle.inode_machine.proofs.Drops.{s-drop}
-use Rattle.inode_machine.proofs.Resting.{idle_as, unlocks_nothing}
-use Rattle.inode_machine.proofs.Endings.{names_plain}
-use Rattle.inode_machine.proofs.Handings.{NextUsed, next_is, next_none, next_past}
+use Rattle.inode_machine.proofs.Basics.{moves_to, quiet_to, s-owned, quiet, one_most, less_is, s-join, s-leave, s-drop, idle_as, unlocks_nothing, names_plain, NextUsed, next_is, next_none, next_past}
 use Rattle.inode_machine.proofs.Turnings.{Server, kid, serving_child, serving_given, serving_none}
 use Rattle.inode_machine.proofs.Lendings.{inherited, inherited_made, made_is, lent_world, lent_is, lends_one, all_lent, all_lent_fair, all_lent_own, all_lent_takes}
 use Rattle.inode_machine.proofs.Movings.{moved_own, moved_fair, moved_owns, moved_stage, given_world, given_fair, given_owns, given_takes}

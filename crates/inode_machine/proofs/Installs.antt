@@ -1,30 +1,7 @@
 -- The descriptor of an open: the slot in hand gets the open file, which the tree has had since the step, and the hart's reference.
-use Rattle.std.proofs.Common.{◌≡◌, ◌≢◌, ◌⊎◌, inl, inr, ℕ, ◌+◌, ◌-◌, ◌<◌, Bool, true, false, ◌==◌, nat_lt, List, Option, Some, None, refl, sym, ◌∙◌, ap, subst, arith}
-use Rattle.atomic_programs.specs.Prog.{Do, Did as Came, Ran}
-use Rattle.atomic_programs.specs.Logic.{P, own, onto, Good, Fine, Safe, Wp}
-use Rattle.plain_tree.specs.declared.node.Node.{Node}
-use Rattle.plain_tree.specs.declared.tree.OpenFile.{OpenFile}
-use Rattle.plain_tree.specs.Widths.{hart_count, descriptor_count}
-use Rattle.plain_tree.specs.Tree.{put, hold_names, settle}
-use Rattle.plain_tree.specs.Steps.{lowest, has_room}
-use Rattle.plain_tree.specs.HartRow.{key_is, key_names, row_of}
-use Rattle.plain_tree.proofs.RowLemmas.{key_from}
-use Rattle.tree_laws.specs.WellFormed.{sum_below, one_if}
-use Rattle.tree_laws.proofs.Maps.{eq_self, eq_not, either, same_or, put_same, put_other}
-use Rattle.tree_laws.proofs.Sums.{sum_same, sum_changed, one_yes, one_no}
-use Rattle.tree_laws.specs.Moves.{Step}
-use Rattle.inode_machine.specs.World.{Mine, Entry, Desk, Mark, World}
-use Rattle.inode_machine.specs.World.Op.{Install}
-use Rattle.inode_machine.specs.Inodes.{Sort, sort_of, OfDirectory}
-use Rattle.inode_machine.specs.Exec.{file_count, install_if, installed, is_at, opening_id, or_zero}
-use Rattle.inode_machine.specs.Marks.{marked, places, with_mark}
-use Rattle.inode_machine.specs.Rules.{id_at, key_in, number_is, own_names, own_of, shop_of, uses, users, Held, IsOpening, Own, Inv, Opens, IsReached, Shop, IsTied, machine, HasType}
-use Rattle.inode_machine.proofs.Frame.{bond_of, put_elim, stands_on, has_inode, one_refs, Did, Fair, fair, refers_put}
-use Rattle.inode_machine.proofs.Rules.{s-owned, quiet, each_refs, has_node, here_refs, my_refs, total_changed, total_same, walks_refs}
-use Rattle.inode_machine.proofs.Counting.{not_home, spares}
-use Rattle.inode_machine.proofs.Rows.{is_at_some}
-use Rattle.inode_machine.proofs.Tables.{less_is, less_not, users_put, users_some, with_fd}
-use Rattle.inode_machine.proofs.Dups.{not_one}
+use Rattle.inode_machine.proofs.Vocabulary.{◌≡◌, ◌≢◌, ◌⊎◌, inl, inr, ℕ, ◌+◌, ◌-◌, ◌<◌, Bool, true, false, ◌==◌, nat_lt, List, Option, Some, None, refl, sym, ◌∙◌, ap, subst, arith, Do, Came, Ran, P, own, onto, Good, Fine, Safe, Wp, Node, OpenFile, hart_count, descriptor_count, put, hold_names, settle, lowest, has_room, key_is, key_names, row_of, key_from, sum_below, one_if, eq_self, eq_not, either, same_or, put_same, put_other, sum_same, sum_changed, one_yes, one_no, Step, Mine, Entry, Desk, Mark, World, Install, Sort, sort_of, OfDirectory, file_count, install_if, installed, is_at, opening_id, or_zero, marked, places, with_mark, id_at, key_in, number_is, own_names, own_of, shop_of, uses, users, Held, IsOpening, Own, Inv, Opens, IsReached, Shop, IsTied, machine, HasType}
+use Rattle.inode_machine.proofs.Basics.{bond_of, put_elim, stands_on, has_inode, one_refs, Did, Fair, fair, refers_put, s-owned, quiet, each_refs, has_node, here_refs, my_refs, total_changed, total_same, walks_refs, not_home, spares, is_at_some, less_not, users_put, users_some, with_fd, not_one}
+use Rattle.inode_machine.proofs.Tables.{less_is}
 use Rattle.inode_machine.proofs.Unopens.{key_more}
 
 -- the slot s in hand, and the descriptor that the tree has

@@ -1,34 +1,7 @@
 -- The list that is kept beside a run is the one that explains it.
-use Rattle.std.proofs.Common.{◌≡◌, ◌≢◌, ◌⊎◌, inl, inr, ℕ, suc, ◌<◌, ◌≤◌, Bool, true, false, List, [], ◌∷◌, ◌++◌, map, length, Option, Some, None, refl, sym, ◌∙◌, ap, subst, arith, append_assoc}
-use Rattle.plain_tree.specs.declared.answer.Reply.{Reply}
-use Rattle.plain_tree.specs.declared.call.Call.{Call}
-use Rattle.plain_tree.specs.Calls.{Act}
-use Rattle.plain_tree.specs.Explains.{Shown, Chain, Explains, trace_of}
-use Rattle.plain_tree.specs.TreeData.{TreeData}
-use Rattle.plain_tree.specs.declared.trace.Placed.{Placed}
-use Rattle.plain_tree.specs.Tree.{Tree, put, tree_of}
-use Rattle.plain_tree.specs.Widths.{hart_count}
-use Rattle.tree_laws.proofs.Maps.{eq_self, eq_not, put_same, put_other}
-use Rattle.tree_laws.specs.Moves.{Deed, Move, Stage, Step as MoveStep, IsNext, MayEnd, Takes, IsWholeCall, after, begins, told_by}
-use Rattle.tree_laws.specs.History.{History, starts, passes}
-use Rattle.tree_laws.specs.History.HartStanding.{Free, Busy}
-use Rattle.tree_laws.specs.Runs.{World as Told, Event as Turn, Happens, BeginsNext, PlaysAny, Runs as Goings, NoneClimbs as Calm, Alone as Lone, IsStartBy, climbing, finishes, moves_on, opened, shown_of, stepped}
-use Rattle.tree_laws.specs.Runs.Event.{Starts, Steps, Nothing}
-use Rattle.tree_laws.specs.MoveLaws.{Tells}
-use Rattle.tree_laws.proofs.Appended.{runs_more, runs_none}
-use Rattle.tree_laws.proofs.Cut.{grows}
-use Rattle.tree_laws.specs.MoveLaws.{before}
-use Rattle.tree_laws.proofs.History.{NeverClimbs, IsHart, apart_alone, apart_calm, opened_ok, run_explained, run_ok, starts_alone, starts_calm, AllMayStart, Apart}
-use Rattle.tree_laws.proofs.Told.{event_tells, played_end, played_next, told_more}
-use Rattle.atomic_programs.specs.Prog.{Prog, Ret, Do, Did, Waits, Ran, Stops, asks, OfNext}
-use Rattle.atomic_programs.specs.Logic.{OpWithAnswer, Goes, Good, Grown, PlacesOne, Wp, onto, oldest_first, own}
-use Rattle.atomic_programs.specs.Calls.{Theory, Began, Begins, Begun, Came, Refuses, busy_in, Ends, Event, Start, Step, HonestStep, IsHonest, Run, Sound, State, AllHonest, all_told, begun, fresh, makes, moved, next, run, start_run, step_prog, step_run, step_unless, told, tried, unchanged}
-use Rattle.atomic_programs.proofs.Beginnings.{append_nil, oldest_first_more}
-use Rattle.atomic_programs.proofs.Explains.{Keeps, changed_tells, inv_of, sound_keeps}
-use Rattle.atomic_programs.proofs.Leading.{leads}
-use Rattle.atomic_programs.proofs.Reached.{sound_fresh, sound_run}
-use Rattle.inode_machine.specs.MoveCalls.{MoveMachine, IsMoving, RunsFrom, Alone, NoneClimbs, StartsBy, climbs_at, machine_of, shown_by, shows, theory_of}
-use Rattle.inode_machine.specs.Kept.{IsTheHistory, history_of, kept, kept_by, kept_on, nothing_yet, placed, placed_prog, placed_run, placed_tried, placed_unless, told_of}
+use Rattle.inode_machine.proofs.Vocabulary.{◌≡◌, ◌≢◌, ◌⊎◌, inl, inr, ℕ, suc, ◌<◌, ◌≤◌, Bool, true, false, List, [], ◌∷◌, ◌++◌, map, length, Option, Some, None, refl, sym, ◌∙◌, ap, subst, arith, append_assoc, Reply, Call, Act, Shown, Chain, Explains, trace_of, TreeData, Placed, Tree, put, tree_of, hart_count, eq_self, eq_not, put_same, put_other, Deed, Move, Stage, Step as MoveStep, IsNext, MayEnd, Takes, IsWholeCall, after, begins, told_by, History, starts, passes, Busy, Told, Turn, Happens, BeginsNext, PlaysAny, Goings, Calm, Lone, IsStartBy, climbing, finishes, moves_on, opened, shown_of, stepped, Starts, Steps, Nothing, Tells, runs_more, runs_none, grows, before, NeverClimbs, IsHart, apart_alone, apart_calm, opened_ok, run_explained, run_ok, starts_alone, starts_calm, AllMayStart, Apart, event_tells, played_end, played_next, told_more, Prog, Ret, Do, Came as Did, Waits, Ran, Stops, asks, OfNext, OpWithAnswer, Goes, Good, Grown, PlacesOne, Wp, onto, oldest_first, own, Theory, Began, Begins, Begun, CameOf as Came, Refuses, busy_in, Ends, Event, Start, StepOf as Step, HonestStep, IsHonest, Run, Sound, State, AllHonest, all_told, fresh, moved, next, run, start_run, step_prog, step_run, step_unless, told, tried, unchanged, append_nil, oldest_first_more, Keeps, changed_tells, inv_of, sound_keeps, leads, sound_fresh, sound_run, MoveMachine, IsMoving, RunsFrom, Alone, NoneClimbs, StartsBy, climbs_at, machine_of, shown_by, shows, theory_of, IsTheHistory, history_of, kept, kept_by, kept_on, nothing_yet, placed, placed_prog, placed_run, placed_tried, placed_unless, told_of}
+use Rattle.tree_laws.specs.History.HartStanding.{Free}
+use Rattle.atomic_programs.specs.Calls.{begun, makes}
 
 module _ (N : MoveMachine) (moving : IsMoving N) where
   abbrev pub L : Theory

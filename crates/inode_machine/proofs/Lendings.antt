@@ -1,32 +1,6 @@
 -- The rules of an inherit: each descriptor is handed on, then the directory, and then the child starts again.
-use Rattle.std.proofs.Common.{◌≡◌, ◌≢◌, inl, ℕ, ◌+◌, ◌<◌, not, ◌==◌, [], Option, Some, None, refl, sym, ◌∙◌, ap, subst, arith}
-use Rattle.plain_tree.specs.declared.step.Action.TheVariants.{Inherit}
-use Rattle.plain_tree.specs.declared.step.StepAnswer.TheVariants.{Done}
-use Rattle.plain_tree.specs.Laws.{AsksForWhatStays}
-use Rattle.plain_tree.specs.Widths.{hart_count, descriptor_count}
-use Rattle.plain_tree.specs.Tree.{Name, Tree, put, settle, resolve, parent}
-use Rattle.plain_tree.specs.Steps.{is_nothing as no_fd, refusal_with, effect_with, answer_with, place_of, IsInPlace, MayChoose, StepWith}
-use Rattle.plain_tree.proofs.Settling.{settle_again}
-use Rattle.plain_tree.proofs.SettledSteps.{settled_step}
-use Rattle.tree_laws.specs.WellFormed.{one_if}
-use Rattle.tree_laws.proofs.Maps.{eq_not, none_any, put_same, put_other}
-use Rattle.tree_laws.proofs.Sums.{sum_same}
-use Rattle.tree_laws.proofs.Opened.{well_inherit}
-use Rattle.tree_laws.specs.Moves.{Walk, Stage, Step, Takes}
-use Rattle.tree_laws.specs.Moves.Move.{Own as OwnMove}
-use Rattle.inode_machine.specs.World.{Mine, Entry, Desk, World, stage_of}
-use Rattle.inode_machine.specs.Exec.{is_at, with_walk, slot_or, more_users, with_lent, serving}
-use Rattle.inode_machine.specs.Inodes.{sort_of}
-use Rattle.inode_machine.specs.Marks.{Made, made_by, new_id}
-use Rattle.inode_machine.specs.Rules.{Own, Rests, own_names, own_of, shop_of, id_at, Has, Inv, left_or}
-use Rattle.inode_machine.proofs.Rules.{FairTo}
-use Rattle.inode_machine.proofs.Frame.{bond_of, stands_on, Fair, fair, has_none}
-use Rattle.inode_machine.proofs.Rows.{below_is}
-use Rattle.inode_machine.proofs.Walking.{refs_walk, stage_walk}
-use Rattle.inode_machine.proofs.Shops.{sells_did}
-use Rattle.inode_machine.proofs.Dups.{renewed_same, renewed_sorts}
-use Rattle.inode_machine.proofs.Handings.{lent_desks, counted_more, tied_lent, HandsAll, tied_handed}
-use Rattle.inode_machine.proofs.Both.{both_world}
+use Rattle.inode_machine.proofs.Vocabulary.{◌≡◌, ◌≢◌, inl, ℕ, ◌+◌, ◌<◌, not, ◌==◌, [], Option, Some, None, refl, sym, ◌∙◌, ap, subst, arith, Inherit, Done, AsksForWhatStays, hart_count, descriptor_count, Name, Tree, put, settle, resolve, parent, no_fd, refusal_with, effect_with, answer_with, place_of, IsInPlace, MayChoose, StepWith, settle_again, settled_step, one_if, eq_not, none_any, put_same, put_other, sum_same, well_inherit, Walk, Stage, Step, Takes, OwnMove, Mine, Entry, Desk, World, stage_of, is_at, with_walk, slot_or, more_users, with_lent, serving, sort_of, Made, made_by, new_id, Own, Rests, own_names, own_of, shop_of, id_at, Has, Inv, left_or}
+use Rattle.inode_machine.proofs.Basics.{FairTo, bond_of, stands_on, Fair, fair, has_none, below_is, refs_walk, stage_walk, sells_did, renewed_same, renewed_sorts, lent_desks, counted_more, tied_lent, HandsAll, tied_handed, both_world}
 use Rattle.inode_machine.proofs.Turnings.{Server, Kid, kid, Turns, turned_fair, turned_own, serving_child, serving_given, serving_none}
 
 -- The step of the tree.

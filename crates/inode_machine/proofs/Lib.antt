@@ -1,3 +1,6 @@
+pub mod Basics
+pub mod Lemmas
+pub mod Vocabulary
 pub mod Frame
 pub mod Rules
 pub mod Rows

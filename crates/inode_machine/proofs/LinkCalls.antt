@@ -1,61 +1,11 @@
 -- Link is right, whatever the other harts do.
-use Rattle.std.proofs.Common.{◌≡◌, ◌≢◌, ◌⊎◌, inl, inr, ℕ, ◌+◌, ◌*◌, ◌<◌, ◌≤◌, Bool, true, false, ◌==◌, ◌||◌, nat_lt, List, [], ◌∷◌, length, Option, Some, None, refl, sym, ◌∙◌, ap, subst, arith, if◌then◌else◌}
-use Rattle.atomic_programs.specs.Logic.{own, onto, Fine, Safe, Wp}
-use Rattle.atomic_programs.specs.Calls.{Begun, Ends, IsBeginning}
-use Rattle.plain_tree.specs.declared.answer.Cause.TheVariants.{IsDirectory, NoEntry, TooManyLinks}
-use Rattle.plain_tree.specs.declared.answer.Reply.{Reply}
-use Rattle.plain_tree.specs.declared.call.Call.{Call}
+use Rattle.inode_machine.proofs.Vocabulary.{◌≡◌, ◌≢◌, ◌⊎◌, inl, inr, ℕ, ◌+◌, ◌*◌, ◌<◌, ◌≤◌, Bool, true, false, ◌==◌, ◌||◌, nat_lt, List, [], ◌∷◌, length, Option, Some, None, refl, sym, ◌∙◌, ap, subst, arith, if◌then◌else◌, own, onto, Fine, Safe, Wp, Begun, Ends, IsBeginning, IsDirectory, NoEntry, TooManyLinks, Reply, Call, Node, Kind, Directory, File, Device, Hold, Action, Inherit, StepAnswer, Done, Failed, Act, next_of, reply_of, had_room, first_cause, count_limit, hart_count, root, Name, Tree, put, elements, hold_names, is_absolute, is_directory, is_live, live_directory, look, settle, start_of, IsInPlace, node_at, node_or, raised, Row, key_names, row_of, settle_again, settled_row, IsThere, raised_at, either, eq_is, same_or, put_same, put_other, look_live, not_raised, live_some, well_hold, look_same, Deed, Walk, Stage, Step, MayEnd, Begin, Look, Desk, Mark, Note, World, stage_of, Take, UpStart, OfDirectory, AtNothing, face_of, face_or, is_directory_sort, seen_in, sort_of, sort_of_kind, counted_up, is_at, with_walk, Made, acts, begun, made_by, marked, new_id, places, Held, Own, key_in, own_names, own_of, Idle, Inv, machine, ThisP as P, Stop, NoMemory, failed, give_up, makes, own_step, start, stopped, tail, walk, walk_step, bump_refused, bumps_if, is_refused, link_at, link_program, link_raise, limit, covered_calls}
 use Rattle.plain_tree.specs.declared.call.Call.TheVariants as calls
-use Rattle.plain_tree.specs.declared.node.Node.{Node}
-use Rattle.plain_tree.specs.declared.node.Kind.{Kind}
-use Rattle.plain_tree.specs.declared.node.Kind.TheVariants.{Directory, File, Device}
-use Rattle.plain_tree.specs.declared.tree.Hold.{Hold}
-use Rattle.plain_tree.specs.declared.step.Action.{Action}
 use Rattle.plain_tree.specs.declared.step.Action.TheVariants as steps
-use Rattle.plain_tree.specs.declared.step.Action.TheVariants.{Inherit}
-use Rattle.plain_tree.specs.declared.step.StepAnswer.{StepAnswer}
-use Rattle.plain_tree.specs.declared.step.StepAnswer.TheVariants.{Done, Failed}
-use Rattle.plain_tree.specs.Calls.{Act, next_of, reply_of, had_room, first_cause}
-use Rattle.plain_tree.specs.Widths.{count_limit, hart_count, root}
-use Rattle.plain_tree.specs.Tree.{Name, Tree, put, elements, hold_names, is_absolute, is_directory, is_live, live_directory, look, settle, start_of}
-use Rattle.plain_tree.specs.Steps.{IsInPlace, node_at, node_or, raised}
-use Rattle.plain_tree.specs.HartRow.{Row, key_names, row_of}
-use Rattle.plain_tree.proofs.Settling.{settle_again, settled_row}
-use Rattle.tree_laws.specs.WellFormed.{IsThere, raised_at}
-use Rattle.tree_laws.proofs.Maps.{either, eq_is, same_or, put_same, put_other}
-use Rattle.tree_laws.proofs.Facts.{look_live}
-use Rattle.tree_laws.proofs.Formed.{not_raised}
-use Rattle.tree_laws.proofs.Nodes.{live_some}
-use Rattle.tree_laws.proofs.Opened.{well_hold}
-use Rattle.tree_laws.proofs.Walks.{look_same}
-use Rattle.tree_laws.specs.Moves.{Deed, Walk, Stage, Step, MayEnd}
-use Rattle.tree_laws.specs.Moves.Move.{Begin, Look}
-use Rattle.inode_machine.proofs.Names.{AllNames}
-use Rattle.inode_machine.specs.World.{Desk, Mark, Note, World, stage_of}
-use Rattle.inode_machine.specs.World.Op.{Take, UpStart}
-use Rattle.inode_machine.specs.Inodes.{OfDirectory, AtNothing, face_of, face_or, is_directory_sort, seen_in, sort_of, sort_of_kind}
-use Rattle.inode_machine.specs.Exec.{counted_up, is_at, with_walk}
-use Rattle.inode_machine.specs.Marks.{Made, acts, begun, made_by, marked, new_id, places}
-use Rattle.inode_machine.specs.Rules.{Held, Own, key_in, own_names, own_of, Idle, Inv, machine}
-use Rattle.inode_machine.specs.Parts.{P, Stop, NoMemory, failed, give_up, makes, own_step, start, stopped, tail, walk, walk_step}
-use Rattle.inode_machine.specs.Naming.{bump_refused, bumps_if, is_refused, link_at, link_program, link_raise}
-use Rattle.inode_machine.specs.Programs.{limit}
-use Rattle.inode_machine.specs.Theory.{covered_calls}
-use Rattle.inode_machine.proofs.Frame.{Fair, fair, fair_same, fair_then, has_inode}
-use Rattle.inode_machine.proofs.Rules.{quiet, has_node, locked_held, my_refs, noted_sort, sort_there}
-use Rattle.inode_machine.proofs.Walking.{moves_good, own_walk, stage_walk, walk_did}
-use Rattle.inode_machine.proofs.Dups.{fails, less_is, s-join}
-use Rattle.inode_machine.proofs.Looks.{KeepsHold, MoveFine, mends, note_of, s-take-then}
-use Rattle.inode_machine.proofs.Listing.{one_at, listed_among, listed_beside}
-use Rattle.inode_machine.proofs.Rest.{directory_sort}
-use Rattle.inode_machine.proofs.Walks.{At, Gone, Lost, On, Ready, Stays, names_stay, stays_same, s-arrive, s-walk}
+use Rattle.inode_machine.proofs.Basics.{AllNames, Fair, fair, fair_same, fair_then, has_inode, quiet, has_node, locked_held, my_refs, noted_sort, sort_there, moves_good, own_walk, stage_walk, walk_did, fails, less_is, s-join, KeepsHold, MoveFine, mends, note_of, s-take-then, one_at, listed_among, listed_beside, directory_sort, At, Gone, Lost, On, Ready, Stays, names_stay, stays_same, s-arrive, s-walk, Finding, finding, found_world, last_made, last_takes, refused_made, start_made, start_takes, MayRest, Walked, follows_begin, follows_look, follows_lost, follows_quit, gone_at, home, joined_own, looks, may_rest, may_stay, missed, ready_at, s-lost, s-refuse, tells, walked_begun, walked_tells, Joins, begun_walking, written_by, Rehold, bumps, held_tree, held_world, high, low, reholds}
 use Rattle.inode_machine.proofs.Beginnings.{Begun as StartsAt, root_sort, s-begin, s-start}
-use Rattle.inode_machine.proofs.Acts.{Finding, finding, found_world, last_made, last_takes, refused_made, start_made, start_takes}
 use Rattle.inode_machine.proofs.Chdirs.{kind_directory}
-use Rattle.inode_machine.proofs.Endings.{Follows, MayRest, Walked, follows_begin, follows_look, follows_lost, follows_quit, gone_at, home, joined_own, looks, may_rest, may_stay, missed, ready_at, s-lost, s-refuse, tells, walked_begun, walked_tells}
-use Rattle.inode_machine.proofs.Holdings.{Joins}
-use Rattle.inode_machine.proofs.Paths.{begun_walking, written_by}
-use Rattle.inode_machine.proofs.Holds.{Rehold, bumps, held_tree, held_world, high, low, reholds}
+use Rattle.inode_machine.proofs.Endings.{Follows}
 use Rattle.inode_machine.proofs.Finds.{find_finder, find_made, find_missing, find_place, find_refused, find_refused_step, find_step, mends_held}
 use Rattle.inode_machine.proofs.Raises.{Plain, bump_stopped, done_step, s-store-move}
 use Rattle.inode_machine.proofs.LinkNames.{bumped, enter_follows, follows, found, more_base, names_but, names_fewer}

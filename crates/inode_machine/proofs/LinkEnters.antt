@@ -1,41 +1,10 @@
 -- Link's name is entered: at this moment its hold goes, and the link stands.
-use Rattle.std.proofs.Common.{◌≡◌, ℕ, ◌+◌, ◌<◌, ◌≤◌, true, false, List, [], ◌∷◌, Option, Some, None, refl, sym, ◌∙◌, ap, subst}
-use Rattle.atomic_programs.specs.Prog.{Do}
-use Rattle.atomic_programs.specs.Logic.{P, Safe}
-use Rattle.plain_tree.specs.declared.answer.Cause.TheVariants.{Exists, NoEntry}
-use Rattle.plain_tree.specs.declared.node.Node.{Node}
-use Rattle.plain_tree.specs.declared.step.Action.TheVariants.{Enter as EnterStep}
-use Rattle.plain_tree.specs.declared.step.StepAnswer.TheVariants.{Done}
-use Rattle.plain_tree.specs.Widths.{hart_count}
-use Rattle.plain_tree.specs.Tree.{Name, Tree, put, is_directory, live_directory, look, settle}
-use Rattle.plain_tree.specs.Steps.{answer_with, drop_hold, effect_with, enter_hold, holds_raised, name_taken, node_or, place_of, refusal_with, IsInPlace}
-use Rattle.plain_tree.specs.HartRow.{Row}
-use Rattle.tree_laws.specs.WellFormed.{IsWellFormed}
-use Rattle.tree_laws.proofs.Maps.{and_true, put_same}
-use Rattle.tree_laws.proofs.Walks.{look_same}
-use Rattle.tree_laws.proofs.Kept.{effect_well}
-use Rattle.tree_laws.specs.Moves.{Step}
-use Rattle.tree_laws.specs.Moves.Move.{Look}
-use Rattle.inode_machine.specs.World.{World, EntryResult, InPlace, NoBlock, NoSlot}
-use Rattle.inode_machine.specs.World.Op.{Enter}
-use Rattle.inode_machine.specs.Inodes.{Sort, sort_of}
-use Rattle.inode_machine.specs.Exec.{with_entry, with_walk}
-use Rattle.inode_machine.specs.Marks.{Made, new_id}
-use Rattle.inode_machine.specs.Rules.{Own, Held, own_of, Inv, machine, IsName}
-use Rattle.inode_machine.specs.Parts.{makes}
-use Rattle.inode_machine.specs.Naming.{enters}
-use Rattle.inode_machine.proofs.Frame.{Fair, fair, fair_then}
-use Rattle.inode_machine.proofs.Rules.{has_node}
-use Rattle.inode_machine.proofs.Rows.{below_is}
-use Rattle.inode_machine.proofs.Counting.{Writes, writes}
-use Rattle.inode_machine.proofs.Walking.{own_walk, stage_walk, walk_did}
+use Rattle.inode_machine.proofs.Vocabulary.{◌≡◌, ℕ, ◌+◌, ◌<◌, ◌≤◌, true, false, List, [], ◌∷◌, Option, Some, None, refl, sym, ◌∙◌, ap, subst, Do, P, Safe, Exists, NoEntry, Node, EnterStep, Done, hart_count, Name, Tree, put, is_directory, live_directory, look, settle, answer_with, drop_hold, effect_with, enter_hold, holds_raised, name_taken, node_or, place_of, refusal_with, IsInPlace, Row, IsWellFormed, and_true, put_same, look_same, effect_well, Step, Look, World, EntryResult, InPlace, NoBlock, NoSlot, Enter, Sort, sort_of, with_entry, with_walk, Made, new_id, Own, Held, own_of, Inv, machine, IsName, makes, enters}
+use Rattle.inode_machine.proofs.Basics.{Fair, fair, fair_then, has_node, below_is, Writes, writes, own_walk, stage_walk, walk_did, Mendable, mended_own, act_good, told_step, Turned, gone_made, held_tree, held_world, high, turned}
 use Rattle.inode_machine.proofs.Writings.{put_twice}
-use Rattle.inode_machine.proofs.Claiming.{Mendable, mended_own}
-use Rattle.inode_machine.proofs.Acting.{act_good, told_step}
 use Rattle.inode_machine.proofs.Removes.{directory_sort}
 use Rattle.inode_machine.proofs.Enters.{EnterFine, s-enter-with}
 use Rattle.inode_machine.proofs.Namings.{Leads}
-use Rattle.inode_machine.proofs.Holds.{Turned, gone_made, held_tree, held_world, high, turned}
 
 enter_goes : (t : Tree) (h d : ℕ) (e : Name) (path : List ℕ) (res : Option ℕ) → look t.nodes d e ≡ None → refusal_with t h (EnterStep path) res (Some (d, e)) ≡ None
 unfolding refusal_with

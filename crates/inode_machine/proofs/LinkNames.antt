@@ -1,54 +1,11 @@
 -- Link once its count is raised: the new name's directory is walked to, and the name entered; or the count is lowered again.
-use Rattle.std.proofs.Common.{◌≡◌, ◌≢◌, ◌⊎◌, inl, inr, ℕ, ◌+◌, ◌-◌, ◌*◌, ◌<◌, ◌≤◌, Bool, true, false, ◌==◌, ◌||◌, List, [], ◌∷◌, length, Option, Some, None, refl, sym, ◌∙◌, ap, subst, arith, if◌then◌else◌}
-use Rattle.atomic_programs.specs.Prog.{Do}
-use Rattle.atomic_programs.specs.Logic.{own, onto, oldest_first, Fine, Safe, Wp}
+use Rattle.inode_machine.proofs.Vocabulary.{◌≡◌, ◌≢◌, ◌⊎◌, inl, inr, ℕ, ◌+◌, ◌-◌, ◌*◌, ◌<◌, ◌≤◌, Bool, true, false, ◌==◌, ◌||◌, List, [], ◌∷◌, length, Option, Some, None, refl, sym, ◌∙◌, ap, subst, arith, if◌then◌else◌, Do, own, onto, oldest_first, Fine, Safe, Wp, Begun, Ends, Cause, NoEntry, Exists, Blocks, DirectoryFull as Directory, Reply, Node, Hold, Action, Done, Failed, Act, next_of, reply_of, had_room, first_cause, Row, key_names, lowered, path_of, Name, put, look, elements, hold_names, live_directory, hart_count, IsThere, one_if, either, same_or, put_same, put_other, one_yes, Step, MayEnd, IsWholeCall, Begin, Desk, Note, World, Give, Store, face_of, face_or, is_at, unlocked, with_entry, marked, places, Held, Own, key_in, own_names, own_of, nothing, Inv, machine, ThisP as P, Stop, NotThere, NoMemory, done, drop, failed, full, give_up, is_some, is_there, makes, own_step, start, stopped, tail, walk_parent, link_found, link_in, link_name, lower, covered_calls}
 use Rattle.atomic_programs.specs.Logic as logic
-use Rattle.atomic_programs.specs.Calls.{Begun, Ends}
-use Rattle.plain_tree.specs.declared.answer.Cause.{Cause}
-use Rattle.plain_tree.specs.declared.answer.Cause.TheVariants.{NoEntry, Exists}
-use Rattle.plain_tree.specs.declared.answer.Full.TheVariants.{Blocks, Directory}
-use Rattle.plain_tree.specs.declared.answer.Reply.{Reply}
 use Rattle.plain_tree.specs.declared.call.Call.TheVariants as calls
-use Rattle.plain_tree.specs.declared.node.Node.{Node}
-use Rattle.plain_tree.specs.declared.tree.Hold.{Hold}
-use Rattle.plain_tree.specs.declared.step.Action.{Action}
 use Rattle.plain_tree.specs.declared.step.Action.TheVariants as steps
-use Rattle.plain_tree.specs.declared.step.StepAnswer.TheVariants.{Done, Failed}
-use Rattle.plain_tree.specs.Calls.{Act, next_of, reply_of, had_room, first_cause}
-use Rattle.plain_tree.specs.HartRow.{Row, key_names}
-use Rattle.plain_tree.specs.Steps.{lowered, path_of}
-use Rattle.plain_tree.specs.Tree.{Name, put, look, elements, hold_names, live_directory}
-use Rattle.plain_tree.specs.Widths.{hart_count}
-use Rattle.tree_laws.specs.WellFormed.{IsThere, one_if}
-use Rattle.tree_laws.proofs.Maps.{either, same_or, put_same, put_other}
-use Rattle.tree_laws.proofs.Sums.{one_yes}
-use Rattle.tree_laws.specs.Moves.{Step, MayEnd, IsWholeCall}
-use Rattle.tree_laws.specs.Moves.Move.{Begin}
-use Rattle.inode_machine.proofs.Names.{AllNames}
-use Rattle.inode_machine.specs.World.{Desk, Note, World}
-use Rattle.inode_machine.specs.World.Op.{Give, Store}
-use Rattle.inode_machine.specs.Inodes.{face_of, face_or}
-use Rattle.inode_machine.specs.Exec.{is_at, unlocked, with_entry}
-use Rattle.inode_machine.specs.Marks.{marked, places}
-use Rattle.inode_machine.specs.Rules.{Held, Own, key_in, own_names, own_of, nothing, Inv, machine}
-use Rattle.inode_machine.specs.Parts.{P, Stop, NotThere, NoMemory, done, drop, failed, full, give_up, is_some, is_there, makes, own_step, start, stopped, tail, walk_parent}
-use Rattle.inode_machine.specs.Naming.{link_found, link_in, link_name, lower}
-use Rattle.inode_machine.specs.Theory.{covered_calls}
-use Rattle.inode_machine.proofs.Frame.{has_inode}
-use Rattle.inode_machine.proofs.Rules.{fine_after, s-owned, s-take, locked_held, locks_it, has_node}
-use Rattle.inode_machine.proofs.Counting.{gives, one_most, s-give}
-use Rattle.inode_machine.proofs.Drops.{s-drop}
-use Rattle.inode_machine.proofs.Looks.{live_face}
-use Rattle.inode_machine.proofs.Listing.{Listed, times, one_at, one_else}
-use Rattle.inode_machine.proofs.Walks.{Lost, On, Ready, Stays, names_stay, stays_same}
-use Rattle.inode_machine.proofs.Endings.{Walked}
+use Rattle.inode_machine.proofs.Basics.{AllNames, has_inode, fine_after, s-owned, s-take, locked_held, locks_it, has_node, gives, one_most, s-give, s-drop, live_face, Listed, times, one_at, one_else, Lost, On, Ready, Stays, names_stay, stays_same, Walked, mended_own, told_step, Holding, Joins, holding_on, holding_same, holding_set, holding_to, mendable, stays_mended, unlisted, unlisted_refs, s-end, s-give-end, s-give-up, Follows, agrees_look, begun_by, begun_refused, quit_step, s-see, walking_quit, walking_told, written_by, high, unbumps}
 use Rattle.inode_machine.proofs.Writings.{put_twice}
-use Rattle.inode_machine.proofs.Claiming.{mended_own}
-use Rattle.inode_machine.proofs.Acting.{told_step}
-use Rattle.inode_machine.proofs.Holdings.{Holding, Joins, holding_on, holding_same, holding_set, holding_to, mendable, stays_mended, unlisted, unlisted_refs, s-end, s-give-end, s-give-up}
-use Rattle.inode_machine.proofs.Paths.{Follows, agrees_look, begun_by, begun_refused, quit_step, s-see, walking_quit, walking_told, written_by}
 use Rattle.inode_machine.proofs.Namings.{Leads, begin_good, begin_refused, s-follow}
-use Rattle.inode_machine.proofs.Holds.{high, unbumps}
 use Rattle.inode_machine.proofs.Raises.{Plain, done_step, s-store-move}
 use Rattle.inode_machine.proofs.LinkEnters.{enter_leads, enter_place, enter_taken, s-enter-name}
 

@@ -1,21 +1,5 @@
 -- The inodes that a call has still to free: its list, and the end of the call, which frees them.
-use Rattle.std.proofs.Common.{◌≡◌, ◌≢◌, ◌⊎◌, inl, inr, ℕ, ◌+◌, ◌-◌, ◌*◌, ◌<◌, ◌≤◌, true, false, ◌==◌, List, [], ◌∷◌, ◌++◌, length, Option, Some, None, refl, sym, ◌∙◌, ap, subst, arith}
-use Rattle.atomic_programs.specs.Prog.{Do, Ret, unmarked}
-use Rattle.atomic_programs.specs.Logic.{Safe}
-use Rattle.plain_tree.specs.declared.answer.Reply.{Reply}
-use Rattle.plain_tree.specs.declared.node.Node.{Node}
-use Rattle.plain_tree.specs.Widths.{hart_count}
-use Rattle.plain_tree.specs.Tree.{put, is_live}
-use Rattle.plain_tree.specs.Steps.{holds_raised}
-use Rattle.plain_tree.specs.HartRow.{Row}
-use Rattle.tree_laws.specs.WellFormed.{one_if}
-use Rattle.tree_laws.proofs.Maps.{eq_self, eq_not, same_or, put_same, put_other}
-use Rattle.tree_laws.proofs.Sums.{one_no, one_yes}
-use Rattle.tree_laws.specs.Moves.{Step}
-use Rattle.inode_machine.specs.World.{Desk, World}
-use Rattle.inode_machine.specs.World.Op.{Say}
-use Rattle.inode_machine.specs.Rules.{Own, Held, own_names, own_of, nothing, machine}
-use Rattle.inode_machine.specs.Parts.{P, free_listed, free_all, tail}
+use Rattle.inode_machine.proofs.Vocabulary.{◌≡◌, ◌≢◌, ◌⊎◌, inl, inr, ℕ, ◌+◌, ◌-◌, ◌*◌, ◌<◌, ◌≤◌, true, false, ◌==◌, List, [], ◌∷◌, ◌++◌, length, Option, Some, None, refl, sym, ◌∙◌, ap, subst, arith, Do, Ret, unmarked, Safe, Reply, Node, hart_count, put, is_live, holds_raised, Row, one_if, eq_self, eq_not, same_or, put_same, put_other, one_no, one_yes, Step, Desk, World, Say, Own, Held, own_names, own_of, nothing, machine, ThisP as P, free_listed, free_all, tail}
 use Rattle.inode_machine.proofs.Rules.{UnlocksAll}
 use Rattle.inode_machine.proofs.Freeing.{s-take-kept, s-free-all}
 use Rattle.inode_machine.proofs.Dups.{s-join, s-leave, s-say}

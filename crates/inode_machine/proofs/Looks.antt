@@ -1,33 +1,5 @@
 -- The moves of a walk: it begins, looks on, is refused at its last lookup, is given up; and a call that finds no room.
-use Rattle.std.proofs.Common.{◌≡◌, ◌≢◌, inl, inr, ℕ, ◌+◌, ◌-◌, ◌<◌, Bool, true, false, List, [], ◌∷◌, Option, Some, None, refl, sym, ◌∙◌, ap, subst, arith, nat_lt, ◌&&◌}
-use Rattle.atomic_programs.specs.Prog.{Do}
-use Rattle.atomic_programs.specs.Logic.{P, own, onto, Good, Fine, Safe, Wp}
-use Rattle.plain_tree.specs.declared.node.Node.{Node}
-use Rattle.plain_tree.specs.declared.node.Kind.{Kind}
-use Rattle.plain_tree.specs.declared.node.Kind.TheVariants.{Directory, File, Device}
-use Rattle.plain_tree.specs.declared.tree.Hold.{Hold}
-use Rattle.plain_tree.specs.declared.step.Action.{Action}
-use Rattle.plain_tree.specs.declared.step.Action.TheVariants.{Inherit}
-use Rattle.plain_tree.specs.declared.answer.Cause.{Cause}
-use Rattle.plain_tree.specs.declared.step.StepAnswer.TheVariants.{Failed}
-use Rattle.plain_tree.specs.Widths.{hart_count}
-use Rattle.plain_tree.specs.Tree.{Name, Tree, put, look, is_live, live_directory, settle}
-use Rattle.plain_tree.specs.Steps.{refusal_with, refused, IsInPlace}
-use Rattle.plain_tree.specs.HartRow.{row_of}
-use Rattle.plain_tree.proofs.Settling.{settle_live, settle_dead, settled_row}
-use Rattle.tree_laws.proofs.Maps.{put_same}
-use Rattle.tree_laws.proofs.Facts.{look_live}
-use Rattle.tree_laws.proofs.Nodes.{settle_at}
-use Rattle.tree_laws.proofs.Walks.{look_same}
-use Rattle.tree_laws.specs.Moves.{Walk, Deed, Stage, Step, Move, Acts, Looks, fail}
-use Rattle.tree_laws.specs.Moves.Move.{Look, Quit}
-use Rattle.inode_machine.specs.World.{Desk, Note, World, Mark, stage_of}
-use Rattle.inode_machine.specs.World.Mark.{Makes, Frees, Orphans, Fills, Mends, Spoils}
-use Rattle.inode_machine.specs.World.Op.{Take}
-use Rattle.inode_machine.specs.Inodes.{Query, Sight, sort_of, seen_in, face_of, is_live_face, is_directory_face}
-use Rattle.inode_machine.specs.Exec.{locked, lock_if, with_walk}
-use Rattle.inode_machine.specs.Marks.{marked, with_mark, with_made, mended, made_by, look_made, looked, acts, found_by, places, new_id, unopened, unmoved, unheld}
-use Rattle.inode_machine.specs.Rules.{Own, Held, own_of, Inv, IsOut, looking_cost, machine, own_names, Sought}
+use Rattle.inode_machine.proofs.Vocabulary.{◌≡◌, ◌≢◌, inl, inr, ℕ, ◌+◌, ◌-◌, ◌<◌, Bool, true, false, List, [], ◌∷◌, Option, Some, None, refl, sym, ◌∙◌, ap, subst, arith, nat_lt, ◌&&◌, Do, P, own, onto, Good, Fine, Safe, Wp, Node, Kind, Directory, File, Device, Hold, Action, Inherit, Cause, Failed, hart_count, Name, Tree, put, look, is_live, live_directory, settle, refusal_with, refused, IsInPlace, row_of, settle_live, settle_dead, settled_row, put_same, look_live, settle_at, look_same, Walk, Deed, Stage, Step, Move, Acts, Looks, fail, Look, Quit, Desk, Note, World, Mark, stage_of, Makes, Frees, Orphans, Fills, Mends, Spoils, Take, Query, Sight, sort_of, seen_in, face_of, is_live_face, is_directory_face, locked, lock_if, with_walk, marked, with_mark, with_made, mended, made_by, look_made, looked, acts, found_by, places, new_id, unopened, unmoved, unheld, Own, Held, own_of, Inv, IsOut, looking_cost, machine, own_names, Sought}
 use Rattle.inode_machine.proofs.Frame.{Fair, fair, fair_then, has_inode}
 use Rattle.inode_machine.proofs.Rules.{s-owned, others, fine_after, locking, is_out, live_typed, locks_not, locked_held, my_refs, has_node}
 use Rattle.inode_machine.proofs.Walking.{walk_named_did, walk_did, own_walk, stage_walk, moves_good}

@@ -1,46 +1,10 @@
 -- A file that an open makes: from the claim of its number to the call's end.
-use Rattle.std.proofs.Common.{◌≡◌, ◌≢◌, ◌⊎◌, inl, inr, ℕ, ◌+◌, ◌-◌, ◌*◌, ◌<◌, ◌≤◌, Bool, true, false, ◌==◌, ◌&&◌, ◌||◌, List, [], ◌∷◌, length, Option, Some, None, refl, sym, ◌∙◌, ap, subst, arith, if◌then◌else◌}
-use Rattle.atomic_programs.specs.Prog.{Do, unmarked}
-use Rattle.atomic_programs.specs.Logic.{oldest_first, Safe}
-use Rattle.atomic_programs.specs.Calls.{Begun, Ends}
-use Rattle.plain_tree.specs.declared.answer.Full.{Full}
-use Rattle.plain_tree.specs.declared.answer.Full.TheVariants.{Blocks, Descriptors, MemInodes, Directory as DirectoryFull, OpenFiles}
-use Rattle.plain_tree.specs.declared.answer.Reply.{Reply}
+use Rattle.inode_machine.proofs.Vocabulary.{◌≡◌, ◌≢◌, ◌⊎◌, inl, inr, ℕ, ◌+◌, ◌-◌, ◌*◌, ◌<◌, ◌≤◌, Bool, true, false, ◌==◌, ◌&&◌, ◌||◌, List, [], ◌∷◌, length, Option, Some, None, refl, sym, ◌∙◌, ap, subst, arith, if◌then◌else◌, Do, unmarked, oldest_first, Safe, Begun, Ends, Full, Blocks, Descriptors, MemInodes, DirectoryFull, OpenFiles, Reply, Node, Opened, Done, NoRoom, Act, Key, Row, key_is, key_names, creates, empty_it, has, has_room, lowest, new_file, Name, put, look, hold_names, live_directory, hart_count, one_if, either, eq_not, or_none, same_or, put_same, put_other, Step, IsWholeCall, OwnMove, Desk, Note, World, New, Forget, Install, OfFile, blank, is_at, with_entry, Held, Own, key_in, own_names, own_of, machine, IsName, ThisP as P, full, give_up, own_step, tail, file_for, installed_on, installs, make_other, make_with, open_end, open_made, opened_reply, truncates, unmake, covered_calls}
 use Rattle.plain_tree.specs.declared.call.Call.TheVariants as calls
-use Rattle.plain_tree.specs.declared.node.Node.{Node}
 use Rattle.plain_tree.specs.declared.step.Action.TheVariants as steps
-use Rattle.plain_tree.specs.declared.step.StepAnswer.TheVariants.{Opened, Done, Full as NoRoom}
-use Rattle.plain_tree.specs.Calls.{Act}
-use Rattle.plain_tree.specs.HartRow.{Key, Row, key_is, key_names}
-use Rattle.plain_tree.specs.Steps.{creates, empty_it, has, has_room, lowest, new_file}
-use Rattle.plain_tree.specs.Tree.{Name, put, look, hold_names, live_directory}
-use Rattle.plain_tree.specs.Widths.{hart_count}
-use Rattle.tree_laws.specs.WellFormed.{one_if}
-use Rattle.tree_laws.proofs.Maps.{either, eq_not, or_none, same_or, put_same, put_other}
-use Rattle.tree_laws.specs.Moves.{Step, IsWholeCall}
-use Rattle.tree_laws.specs.Moves.Move.{Own as OwnMove}
-use Rattle.inode_machine.specs.World.{Desk, Note, World, New}
-use Rattle.inode_machine.specs.World.Op.{Forget, Install}
-use Rattle.inode_machine.specs.Inodes.{OfFile}
-use Rattle.inode_machine.specs.Exec.{blank, is_at, with_entry}
-use Rattle.inode_machine.specs.Rules.{Held, Own, key_in, own_names, own_of, machine, IsName}
-use Rattle.inode_machine.specs.Parts.{P, full, give_up, own_step, tail}
-use Rattle.inode_machine.specs.Opening.{file_for, installed_on, installs, make_other, make_with, open_end, open_made, opened_reply, truncates, unmake}
-use Rattle.inode_machine.specs.Theory.{covered_calls}
-use Rattle.inode_machine.proofs.Rules.{locked_held}
-use Rattle.inode_machine.proofs.Counting.{s-give}
-use Rattle.inode_machine.proofs.Freeing.{s-take-kept}
-use Rattle.inode_machine.proofs.Looks.{KeepsHold, mends}
-use Rattle.inode_machine.proofs.Listing.{times, one_at, one_else, Listed}
-use Rattle.inode_machine.proofs.Walks.{Stays, names_stay}
-use Rattle.inode_machine.proofs.Endings.{Walked, names_plain, s-ends, walked_tells}
-use Rattle.inode_machine.proofs.Claiming.{Mendable, claimed_held, mended_own, s-store}
-use Rattle.inode_machine.proofs.Acting.{told_step}
+use Rattle.inode_machine.proofs.Basics.{locked_held, s-give, s-take-kept, KeepsHold, mends, times, one_at, one_else, Listed, Stays, names_stay, Walked, names_plain, s-ends, walked_tells, Mendable, claimed_held, mended_own, s-store, told_step, Holding, IsWhole, Joins, holding_same, holding_to, mendable, stays_mended, unlisted_refs, s-give-end, s-give-up-in, begun_by, walking_told, written_by, opened_row, row_back, unopened_row}
 use Rattle.inode_machine.proofs.Creates.{created_inodes, s-enter-file}
-use Rattle.inode_machine.proofs.Holdings.{Holding, IsWhole, Joins, holding_same, holding_to, mendable, stays_mended, unlisted_refs, s-give-end, s-give-up-in}
 use Rattle.inode_machine.proofs.Pairs.{Pair, pair_same, pair_set, pair_set_first, s-unmake}
-use Rattle.inode_machine.proofs.Paths.{begun_by, walking_told, written_by}
-use Rattle.inode_machine.proofs.Openings.{opened_row, row_back, unopened_row}
 use Rattle.inode_machine.proofs.Unopens.{mends_opened}
 use Rattle.inode_machine.proofs.Installs.{own_installed, s-install}
 use Rattle.inode_machine.proofs.Slots.{s-install-full, s-slot}

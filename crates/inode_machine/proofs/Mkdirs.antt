@@ -1,47 +1,10 @@
 -- Mkdir is right, whatever the other harts do.
-use Rattle.std.proofs.Common.{◌≡◌, ◌≢◌, inl, inr, ℕ, ◌+◌, ◌*◌, ◌<◌, ◌≤◌, Bool, true, false, ◌==◌, nat_lt, List, [], ◌∷◌, length, Option, Some, None, refl, sym, ◌∙◌, ap, subst, arith, if◌then◌else◌}
-use Rattle.atomic_programs.specs.Prog.{Do, unmarked}
-use Rattle.atomic_programs.specs.Logic.{Safe}
-use Rattle.atomic_programs.specs.Calls.{Begun, Ends, IsBeginning}
-use Rattle.plain_tree.specs.declared.answer.Cause.{Cause}
-use Rattle.plain_tree.specs.declared.answer.Cause.TheVariants.{NoEntry, TooManyLinks}
-use Rattle.plain_tree.specs.declared.answer.Full.TheVariants.{Blocks, DiskInodes, MemInodes, Directory as DirectoryFull}
-use Rattle.plain_tree.specs.declared.answer.Reply.{Reply}
+use Rattle.inode_machine.proofs.Vocabulary.{◌≡◌, ◌≢◌, inl, inr, ℕ, ◌+◌, ◌*◌, ◌<◌, ◌≤◌, Bool, true, false, ◌==◌, nat_lt, List, [], ◌∷◌, length, Option, Some, None, refl, sym, ◌∙◌, ap, subst, arith, if◌then◌else◌, Do, unmarked, Safe, Begun, Ends, IsBeginning, Cause, NoEntry, TooManyLinks, Blocks, DiskInodes, MemInodes, DirectoryFull, Reply, Node, Mkdir, Done, Failed, hart_count, count_limit, Name, Tree, put, look, live_directory, elements, node_or, name_taken, new_directory, or_else, raised, refusal_with, Act, next_of, reply_of, had_room, one_if, eq_not, put_same, put_other, Step, MayEnd, Note, World, New, InPlace, Enter, Forget, OfDirectory, Face, face_of, face_or, blank, with_count, with_dots, with_entry, Held, Own, own_of, nothing, Idle, Inv, machine, IsName, ThisP as P, done, failed, full, give_up, tail, entered_file, unmake, is_refused, mkdir_in, mkdir_on, mkdir_other, mkdir_program, mkdir_refused, mkdir_with, name_directory, path_cost, rest_cost, covered_calls}
 use Rattle.plain_tree.specs.declared.call.Call.TheVariants as calls
-use Rattle.plain_tree.specs.declared.node.Node.{Node}
-use Rattle.plain_tree.specs.declared.step.Action.TheVariants.{Mkdir}
-use Rattle.plain_tree.specs.declared.step.StepAnswer.TheVariants.{Done, Failed}
-use Rattle.plain_tree.specs.Widths.{hart_count, count_limit}
-use Rattle.plain_tree.specs.Tree.{Name, Tree, put, look, live_directory, elements}
-use Rattle.plain_tree.specs.Steps.{node_or, name_taken, new_directory, or_else, raised, refusal_with}
-use Rattle.plain_tree.specs.Calls.{Act, next_of, reply_of, had_room}
-use Rattle.tree_laws.specs.WellFormed.{one_if}
-use Rattle.tree_laws.proofs.Maps.{eq_not, put_same, put_other}
-use Rattle.tree_laws.specs.Moves.{Step, MayEnd}
-use Rattle.inode_machine.proofs.Names.{AllNames}
-use Rattle.inode_machine.specs.World.{Note, World, New, InPlace}
-use Rattle.inode_machine.specs.World.Op.{Enter, Forget}
-use Rattle.inode_machine.specs.Inodes.{OfDirectory, Face, face_of, face_or}
-use Rattle.inode_machine.specs.Exec.{blank, with_count, with_dots, with_entry}
-use Rattle.inode_machine.specs.Rules.{Held, Own, own_of, nothing, Idle, Inv, machine, IsName}
-use Rattle.inode_machine.specs.Parts.{P, done, failed, full, give_up, tail}
-use Rattle.inode_machine.specs.Opening.{entered_file, unmake}
-use Rattle.inode_machine.specs.Naming.{is_refused, mkdir_in, mkdir_on, mkdir_other, mkdir_program, mkdir_refused, mkdir_with, name_directory}
-use Rattle.inode_machine.specs.Programs.{path_cost, rest_cost}
-use Rattle.inode_machine.specs.Theory.{covered_calls}
-use Rattle.inode_machine.proofs.Rules.{locked_held}
-use Rattle.inode_machine.proofs.Looks.{live_face, Agrees}
-use Rattle.inode_machine.proofs.Freeing.{s-take-kept}
-use Rattle.inode_machine.proofs.Listing.{one_at}
-use Rattle.inode_machine.proofs.Walks.{On, stays_same}
+use Rattle.inode_machine.proofs.Basics.{AllNames, locked_held, live_face, Agrees, s-take-kept, one_at, On, stays_same, claimed_held, mended_own, s-claim, s-fill, s-store, told_step, Walked, joined_own, Holding, Joins, Told, holding_on, holding_same, holding_set, mendable, stays_mended, unlisted, s-give-end, Follows, agrees_look, begun_by, quit_step, s-see, walking_quit, walking_told, written_by}
 use Rattle.inode_machine.proofs.Tables.{less_is}
-use Rattle.inode_machine.proofs.Claiming.{claimed_held, mended_own, s-claim, s-fill, s-store}
-use Rattle.inode_machine.proofs.Acting.{told_step}
 use Rattle.inode_machine.proofs.Enters.{mkdir_place, s-enter-directory}
-use Rattle.inode_machine.proofs.Endings.{Walked, joined_own}
-use Rattle.inode_machine.proofs.Holdings.{Holding, Joins, Told, holding_on, holding_same, holding_set, mendable, stays_mended, unlisted, s-give-end}
 use Rattle.inode_machine.proofs.Pairs.{Pair, pair_new, pair_same, pair_set, pair_set_first, s-end-pair, s-unmake}
-use Rattle.inode_machine.proofs.Paths.{Follows, agrees_look, begun_by, quit_step, s-see, walking_quit, walking_told, written_by}
 use Rattle.inode_machine.proofs.Namings.{Leads, s-naming}
 
 -- What is written.

@@ -1,10 +1,8 @@
 -- The calls over whole inodes make moves.
-use Rattle.inode_machine.specs.Theory.{is_covered}
-use Rattle.inode_machine.specs.Histories.{covered}
-use Rattle.inode_machine.specs.MoveCalls.{IsMoving}
+use Rattle.inode_machine.proofs.Vocabulary.{is_covered, covered, IsMoving}
 use Rattle.inode_machine.proofs.Covered.{lawful}
 use Rattle.inode_machine.proofs.Histories.{places_one}
-use Rattle.inode_machine.proofs.Starts.{start_is}
+use Rattle.inode_machine.proofs.Basics.{start_is}
 
 pub moving : IsMoving covered
 moving = record {

@@ -1,20 +1,6 @@
 -- The directory is handed on: the child refers to it, and the hart to what was the child's.
-use Rattle.std.proofs.Common.{◌≡◌, ◌≢◌, inl, ℕ, ◌+◌, ◌<◌, ◌≤◌, ◌==◌, Option, Some, None, refl, sym, ◌∙◌, ap, subst, arith}
-use Rattle.plain_tree.specs.Widths.{descriptor_count}
-use Rattle.plain_tree.specs.Tree.{put, settle}
-use Rattle.tree_laws.specs.WellFormed.{one_if, IsWellFormed}
-use Rattle.tree_laws.proofs.Maps.{put_same, put_other}
-use Rattle.tree_laws.proofs.Opened.{well_inherit}
-use Rattle.tree_laws.specs.Moves.{Stage, Takes}
-use Rattle.inode_machine.specs.World.{Mine, Desk, World, stage_of}
-use Rattle.inode_machine.specs.Exec.{with_walk, moved_in, serving}
-use Rattle.inode_machine.specs.Rules.{Own, Rests, own_of, shop_of, IsTied, Has, Inv}
-use Rattle.inode_machine.proofs.Frame.{put_elim, has_none}
-use Rattle.inode_machine.proofs.Rules.{FairTo, my_refs}
-use Rattle.inode_machine.proofs.Walking.{refs_walk, stage_walk}
-use Rattle.inode_machine.proofs.Counting.{one_most}
-use Rattle.inode_machine.proofs.Handings.{SameTied, same_tied, tied_as, HandsAll, tied_handed}
-use Rattle.inode_machine.proofs.Both.{both_world}
+use Rattle.inode_machine.proofs.Vocabulary.{◌≡◌, ◌≢◌, inl, ℕ, ◌+◌, ◌<◌, ◌≤◌, ◌==◌, Option, Some, None, refl, sym, ◌∙◌, ap, subst, arith, descriptor_count, put, settle, one_if, IsWellFormed, put_same, put_other, well_inherit, Stage, Takes, Mine, Desk, World, stage_of, with_walk, moved_in, serving, Own, Rests, own_of, shop_of, IsTied, Has, Inv}
+use Rattle.inode_machine.proofs.Basics.{put_elim, has_none, FairTo, my_refs, refs_walk, stage_walk, one_most, SameTied, same_tied, tied_as, HandsAll, tied_handed, both_world}
 use Rattle.inode_machine.proofs.Turnings.{Server, Kid, kid, Turns, turned_fair, turned_own, moved_refs, moved_hart, moved_child, moved_child_walk, moved_child_pending, moved_mine, moved_others, moved_walks, moved_counts, moved_apart, serving_child, serving_given, serving_none}
 use Rattle.inode_machine.proofs.Lendings.{at_home, inherited, inherit_takes, tree_empty}
 

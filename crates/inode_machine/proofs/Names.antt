@@ -1,12 +1,5 @@
 -- The names of a path that a call may have are such as entries can have.
-use Rattle.std.proofs.Common.{◌≡◌, ◌≢◌, inl, inr, ℕ, zero, suc, ◌<◌, Bool, true, false, ◌==◌, not, nat_lt, List, [], ◌∷◌, ◌++◌, Option, Some, None, filter, length, map, take, refl, arith, if◌then◌else◌}
-use Rattle.std.proofs.lemmas.List.{length-take}
-use Rattle.plain_tree.specs.Tree.{Name, elements, is_empty, pieces}
-use Rattle.plain_tree.specs.Widths.{name_len}
-use Rattle.tree_laws.proofs.Maps.{and_true, either, eq_isnt, or_none}
-use Rattle.inode_machine.specs.Exec.{is_nothing}
-use Rattle.inode_machine.specs.Rules.{IsName, IsText}
-use Rattle.inode_machine.specs.Theory.{Refusal, PathTooLong, ZeroInPath, NotCovered, are_bytes, first_wrong, has_zero, path_limit, path_wrong}
+use Rattle.inode_machine.proofs.Vocabulary.{◌≡◌, ◌≢◌, inl, inr, ℕ, zero, suc, ◌<◌, Bool, true, false, ◌==◌, not, nat_lt, List, [], ◌∷◌, ◌++◌, Option, Some, None, filter, length, map, take, refl, arith, if◌then◌else◌, length-take, Name, elements, is_empty, pieces, name_len, and_true, either, eq_isnt, or_none, is_nothing, IsName, IsText, Refusal, PathTooLong, ZeroInPath, NotCovered, are_bytes, first_wrong, has_zero, path_limit, path_wrong}
 use Rattle.inode_machine.proofs.Dups.{less_is}
 
 abbrev pub AllNames : List Name → Type 0

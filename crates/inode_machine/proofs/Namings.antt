@@ -1,43 +1,9 @@
 -- A call follows its path to the last name's directory, or loses its walk, or has no elements to follow.
-use Rattle.std.proofs.Common.{◌≡◌, inl, inr, ℕ, ◌+◌, ◌*◌, ◌<◌, ◌≤◌, true, false, List, [], ◌∷◌, ◌++◌, length, Option, Some, None, refl, sym, ◌∙◌, ap, subst, arith}
-use Rattle.atomic_programs.specs.Prog.{Do}
-use Rattle.atomic_programs.specs.Logic.{own, onto, Fine, Safe, Wp}
+use Rattle.inode_machine.proofs.Vocabulary.{◌≡◌, inl, inr, ℕ, ◌+◌, ◌*◌, ◌<◌, ◌≤◌, true, false, List, [], ◌∷◌, ◌++◌, length, Option, Some, None, refl, sym, ◌∙◌, ap, subst, arith, Do, own, onto, Fine, Safe, Wp, Begun, Ends, NoEntry, Reply, Call, Action, Inherit, Failed, hart_count, Name, Tree, elements, start_of, settle, path_of, follows_path, refusal_with, refused, IsInPlace, Act, row_of, settled_row, Stage, Step, MayEnd, fail, Begin, Look, Note, World, stage_of, Join, with_joined, with_walk, begun, found_by, new_id, Held, Own, own_of, nothing, Idle, Inv, machine, ThisP as P, Stop, NotThere, NoMemory, makes, failed, stopped, start, tail, walk_parent, in_parent, covered_calls}
 use Rattle.atomic_programs.specs.Logic as logic
-use Rattle.atomic_programs.specs.Calls.{Begun, Ends}
-use Rattle.plain_tree.specs.declared.answer.Cause.TheVariants.{NoEntry}
-use Rattle.plain_tree.specs.declared.answer.Reply.{Reply}
-use Rattle.plain_tree.specs.declared.call.Call.{Call}
-use Rattle.plain_tree.specs.declared.step.Action.{Action}
-use Rattle.plain_tree.specs.declared.step.Action.TheVariants.{Inherit}
-use Rattle.plain_tree.specs.declared.step.StepAnswer.TheVariants.{Failed}
-use Rattle.plain_tree.specs.Widths.{hart_count}
-use Rattle.plain_tree.specs.Tree.{Name, Tree, elements, start_of, settle}
-use Rattle.plain_tree.specs.Steps.{path_of, follows_path, refusal_with, refused, IsInPlace}
-use Rattle.plain_tree.specs.Calls.{Act}
-use Rattle.plain_tree.specs.HartRow.{row_of}
-use Rattle.plain_tree.proofs.Settling.{settled_row}
-use Rattle.tree_laws.specs.Moves.{Stage, Step, Begins, MayEnd, fail}
-use Rattle.tree_laws.specs.Moves.Move.{Begin, Look}
-use Rattle.inode_machine.proofs.Names.{AllNames}
-use Rattle.inode_machine.specs.World.{Note, World, stage_of}
-use Rattle.inode_machine.specs.World.Op.{Join}
-use Rattle.inode_machine.specs.Exec.{with_joined, with_walk}
-use Rattle.inode_machine.specs.Marks.{begun, found_by, new_id}
-use Rattle.inode_machine.specs.Rules.{Held, Own, own_of, nothing, Idle, Inv, machine}
-use Rattle.inode_machine.specs.Parts.{P, Stop, NotThere, NoMemory, makes, failed, stopped, start, tail, walk_parent}
-use Rattle.inode_machine.specs.Naming.{in_parent}
-use Rattle.inode_machine.specs.Theory.{covered_calls}
-use Rattle.inode_machine.proofs.Frame.{fair}
-use Rattle.inode_machine.proofs.Rules.{s-owned, fine_after, locks_none, UnlocksAll}
-use Rattle.inode_machine.proofs.Walking.{walk_did, own_walk, stage_walk, moves_good}
-use Rattle.inode_machine.proofs.Dups.{s-join, flagging}
-use Rattle.inode_machine.proofs.Looks.{MoveFine}
-use Rattle.inode_machine.proofs.Walks.{On, Gone, Ready, Lost, s-walk-parent}
+use Rattle.tree_laws.specs.Moves.{Begins}
+use Rattle.inode_machine.proofs.Basics.{AllNames, fair, s-owned, fine_after, locks_none, UnlocksAll, walk_did, own_walk, stage_walk, moves_good, s-join, flagging, MoveFine, On, Gone, Ready, Lost, s-walk-parent, Follows, walking_begun, walking_on, walking_told, walking_quit, begun_refused, begun_walking, written_by, quit_step, told_step, Walked, gone_at, home, joined_own, may_rest, ready_at, Joins, Told, s-end}
 use Rattle.inode_machine.proofs.Beginnings.{s-start}
-use Rattle.inode_machine.proofs.Paths.{Follows, walking_begun, walking_on, walking_told, walking_quit, begun_refused, begun_walking, written_by, quit_step}
-use Rattle.inode_machine.proofs.Acting.{told_step}
-use Rattle.inode_machine.proofs.Endings.{Walked, gone_at, home, joined_own, may_rest, ready_at}
-use Rattle.inode_machine.proofs.Holdings.{Joins, Told, s-end}
 
 -- What a step that is made at a path's last name is like.
 pub record Leads (h : ℕ) (s : Action) (O0 : Own) : Type 0 where

@@ -1,18 +1,6 @@
 -- What stands of an inode that is counted up, for the layer below: its number is one, and its count has room.
-use Rattle.std.proofs.Common.{◌≡◌, inl, inr, ℕ, zero, suc, ◌+◌, ◌*◌, ◌^◌, ◌<◌, ◌≤◌, Bool, true, false, ◌==◌, Option, Some, None, refl, ◌∙◌, ap, arith}
-use Rattle.std.proofs.lemmas.Bool.Decides.{nat_tests}
-use Rattle.plain_tree.specs.declared.node.Node.{Node}
-use Rattle.plain_tree.specs.Widths.{hart_count, root}
-use Rattle.plain_tree.specs.Tree.{is_live}
-use Rattle.tree_laws.specs.WellFormed.{sum_below}
-use Rattle.tree_laws.proofs.Facts.{look_live}
-use Rattle.inode_machine.specs.World.{Entry, World}
-use Rattle.inode_machine.specs.Inodes.{OfDirectory, sort_of}
-use Rattle.inode_machine.specs.Exec.{file_count, is_dead, start_number}
-use Rattle.inode_machine.specs.Rules.{number_is, Found, Inv}
-use Rattle.inode_machine.proofs.Frame.{one_refs}
-use Rattle.inode_machine.proofs.Rules.{opens_slots, root_live}
-use Rattle.inode_machine.proofs.Counting.{one_most}
+use Rattle.inode_machine.proofs.Vocabulary.{◌≡◌, inl, inr, ℕ, zero, suc, ◌+◌, ◌*◌, ◌^◌, ◌<◌, ◌≤◌, Bool, true, false, ◌==◌, Option, Some, None, refl, ◌∙◌, ap, arith, nat_tests, Node, hart_count, root, is_live, sum_below, look_live, Entry, World, OfDirectory, sort_of, file_count, is_dead, start_number, number_is, Found, Inv}
+use Rattle.inode_machine.proofs.Basics.{one_refs, opens_slots, root_live, one_most}
 
 sum_most : (n c : ℕ) (f : ℕ → ℕ) → ((k : ℕ) → k < n → f k ≤ c) → sum_below n f ≤ n * c
 unfolding sum_below

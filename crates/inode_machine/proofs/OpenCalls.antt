@@ -1,52 +1,9 @@
 -- An open without CREATE is right, whatever the other harts do.
-use Rattle.std.proofs.Common.{◌≡◌, ◌⊎◌, inl, inr, ℕ, ◌+◌, ◌*◌, ◌<◌, ◌≤◌, Bool, true, false, ◌==◌, ◌||◌, nat_lt, List, [], ◌∷◌, length, Option, Some, None, refl, sym, ◌∙◌, ap, subst, arith, if◌then◌else◌}
-use Rattle.atomic_programs.specs.Logic.{own, onto, Fine, Safe, Wp}
-use Rattle.atomic_programs.specs.Calls.{Begun, Ends}
-use Rattle.plain_tree.specs.declared.answer.Cause.{Cause}
-use Rattle.plain_tree.specs.declared.answer.Full.TheVariants.{Descriptors}
-use Rattle.plain_tree.specs.declared.answer.Reply.{Reply}
-use Rattle.plain_tree.specs.declared.call.Call.{Call}
+use Rattle.inode_machine.proofs.Vocabulary.{◌≡◌, ◌⊎◌, inl, inr, ℕ, ◌+◌, ◌*◌, ◌<◌, ◌≤◌, Bool, true, false, ◌==◌, ◌||◌, nat_lt, List, [], ◌∷◌, length, Option, Some, None, refl, sym, ◌∙◌, ap, subst, arith, if◌then◌else◌, own, onto, Fine, Safe, Wp, Begun, Ends, Cause, Descriptors, Reply, Call, Node, Action, StepAnswer, Failed, Opened, NoRoom, hart_count, descriptor_count, root, Name, Tree, put, elements, hold_names, is_absolute, is_live, live_directory, look, settle, start_of, creates, has_room, is_file, lowest, node_at, node_or, open_kind, IsInPlace, Key, Row, key_is, key_names, row_of, settle_again, look_live, either, eq_is, put_same, put_other, live_some, look_same, Deed, Walk, Move, Stage, Step, IsNext, begins, Begin, Look, Desk, Note, World, stage_of, UpStart, Sort, OfDirectory, open_refusal, sort_of, sort_of_kind, counted_up, is_at, with_walk, Made, acts, begun, made_by, marked, new_id, places, Held, Own, key_in, own_names, own_of, Idle, Inv, machine, ThisP as P, Stop, NoMemory, failed, makes, start, stopped, tail, walk, walk_step, file_for, open_at, open_new, open_old, open_program, limit, covered_calls}
 use Rattle.plain_tree.specs.declared.call.Call.TheVariants as calls
-use Rattle.plain_tree.specs.declared.node.Node.{Node}
-use Rattle.plain_tree.specs.declared.step.Action.{Action}
 use Rattle.plain_tree.specs.declared.step.Action.TheVariants as steps
-use Rattle.plain_tree.specs.declared.step.StepAnswer.{StepAnswer}
-use Rattle.plain_tree.specs.declared.step.StepAnswer.TheVariants.{Failed, Opened, Full as NoRoom}
-use Rattle.plain_tree.specs.Widths.{hart_count, descriptor_count, root}
-use Rattle.plain_tree.specs.Tree.{Name, Tree, put, elements, hold_names, is_absolute, is_live, live_directory, look, settle, start_of}
-use Rattle.plain_tree.specs.Steps.{creates, has_room, is_file, lowest, node_at, node_or, open_kind, IsInPlace}
-use Rattle.plain_tree.specs.HartRow.{Key, Row, key_is, key_names, row_of}
-use Rattle.plain_tree.proofs.Settling.{settle_again}
-use Rattle.tree_laws.proofs.Facts.{look_live}
-use Rattle.tree_laws.proofs.Maps.{either, eq_is, put_same, put_other}
-use Rattle.tree_laws.proofs.Nodes.{live_some}
-use Rattle.tree_laws.proofs.Walks.{look_same}
-use Rattle.tree_laws.specs.Moves.{Deed, Walk, Move, Stage, Step, IsNext, begins}
-use Rattle.tree_laws.specs.Moves.Move.{Begin, Look}
-use Rattle.inode_machine.proofs.Names.{AllNames}
-use Rattle.inode_machine.specs.World.{Desk, Note, World, stage_of}
-use Rattle.inode_machine.specs.World.Op.{UpStart}
-use Rattle.inode_machine.specs.Inodes.{Sort, OfDirectory, open_refusal, sort_of, sort_of_kind}
-use Rattle.inode_machine.specs.Exec.{counted_up, is_at, with_walk}
-use Rattle.inode_machine.specs.Marks.{Made, acts, begun, made_by, marked, new_id, places}
-use Rattle.inode_machine.specs.Rules.{Held, Own, key_in, own_names, own_of, Idle, Inv, machine}
-use Rattle.inode_machine.specs.Parts.{P, Stop, NoMemory, failed, makes, start, stopped, tail, walk, walk_step}
-use Rattle.inode_machine.specs.Opening.{file_for, open_at, open_new, open_old, open_program}
-use Rattle.inode_machine.specs.Programs.{limit}
-use Rattle.inode_machine.specs.Theory.{covered_calls}
-use Rattle.inode_machine.proofs.Frame.{Fair, fair, fair_then, has_inode}
-use Rattle.inode_machine.proofs.Rules.{has_node, locked_held, my_refs, noted_sort}
-use Rattle.inode_machine.proofs.Walking.{moves_good, own_walk, stage_walk, walk_did}
-use Rattle.inode_machine.proofs.Tables.{lowest_same}
-use Rattle.inode_machine.proofs.Dups.{Flagging, not_at, s-join}
-use Rattle.inode_machine.proofs.Looks.{KeepsHold, MoveFine, mends, note_of, noting}
-use Rattle.inode_machine.proofs.Listing.{one_at, listed_among}
-use Rattle.inode_machine.proofs.Rest.{directory_sort}
-use Rattle.inode_machine.proofs.Walks.{At, Gone, Lost, On, Ready, Stays, names_stay, stays_same, s-arrive, s-walk}
+use Rattle.inode_machine.proofs.Basics.{AllNames, Fair, fair, fair_then, has_inode, has_node, locked_held, my_refs, noted_sort, moves_good, own_walk, stage_walk, walk_did, lowest_same, Flagging, not_at, s-join, KeepsHold, MoveFine, mends, note_of, noting, one_at, listed_among, directory_sort, At, Gone, Lost, On, Ready, Stays, names_stay, stays_same, s-arrive, s-walk, Finding, finding, found_world, last_made, last_takes, refused_made, start_made, start_takes, MayRest, Walked, follows_begin, follows_look, follows_lost, follows_quit, gone_at, home, joined_own, looks, may_rest, missed, ready_at, s-lost, tells, times_none, walked_begun, walked_tells, Opening, fresh_id, opened_row, opened_tree, opened_world, opening, row_back, unopened_row}
 use Rattle.inode_machine.proofs.Beginnings.{Begun as StartsAt, root_sort, s-begin, s-start}
-use Rattle.inode_machine.proofs.Acts.{Finding, finding, found_world, last_made, last_takes, refused_made, start_made, start_takes}
-use Rattle.inode_machine.proofs.Endings.{MayRest, Walked, follows_begin, follows_look, follows_lost, follows_quit, gone_at, home, joined_own, looks, may_rest, missed, ready_at, s-lost, tells, times_none, walked_begun, walked_tells}
-use Rattle.inode_machine.proofs.Openings.{Opening, fresh_id, opened_row, opened_tree, opened_world, opening, row_back, unopened_row}
 use Rattle.inode_machine.proofs.Unopens.{mends_opened}
 use Rattle.inode_machine.proofs.Opens.{dirties, moves_full, open_finder, open_full, open_kind_is, open_made, open_missing, open_place, open_refused_step, open_step, refusal_by_sort, file_by_sort}
 use Rattle.inode_machine.proofs.OpenEnds.{open_follows, opened_begins, open_refused, opened_act, s-open-full, s-open-refused, s-opened}

@@ -1,41 +1,9 @@
 -- An open without CREATE, from what was found to its reply.
-use Rattle.std.proofs.Common.{◌≡◌, ◌≢◌, ◌⊎◌, inl, inr, ℕ, ◌+◌, ◌-◌, ◌*◌, ◌<◌, ◌≤◌, Bool, true, false, ◌&&◌, ◌==◌, ◌||◌, List, [], ◌∷◌, length, Option, Some, None, refl, sym, ◌∙◌, ap, subst, arith, if◌then◌else◌}
-use Rattle.atomic_programs.specs.Prog.{Do}
-use Rattle.atomic_programs.specs.Logic.{oldest_first, Safe}
-use Rattle.atomic_programs.specs.Calls.{Begun, Ends, IsBeginning}
-use Rattle.plain_tree.specs.declared.answer.Cause.{Cause}
-use Rattle.plain_tree.specs.declared.answer.Cause.TheVariants.{NoEntry}
-use Rattle.plain_tree.specs.declared.answer.Full.TheVariants.{Descriptors, OpenFiles}
-use Rattle.plain_tree.specs.declared.answer.Reply.{Reply}
-use Rattle.plain_tree.specs.declared.call.Call.{Call}
+use Rattle.inode_machine.proofs.Vocabulary.{◌≡◌, ◌≢◌, ◌⊎◌, inl, inr, ℕ, ◌+◌, ◌-◌, ◌*◌, ◌<◌, ◌≤◌, Bool, true, false, ◌&&◌, ◌==◌, ◌||◌, List, [], ◌∷◌, length, Option, Some, None, refl, sym, ◌∙◌, ap, subst, arith, if◌then◌else◌, Do, oldest_first, Safe, Begun, Ends, IsBeginning, Cause, NoEntry, Descriptors, OpenFiles, Reply, Call, Node, Done, Failed, Opened, Act, next_of, reply_of, had_room, hart_count, put, hold_names, empty_it, has, has_room, lowest, node_or, Key, Row, key_is, key_names, one_if, and_true, either, eq_is, or_none, same_or, put_same, put_other, Step, MayEnd, IsWholeCall, Begin, OwnMove, Desk, Note, World, Empty, is_file_sort, OfDirectory, Sort, open_refusal, sort_of, is_at, Own, key_in, own_names, own_of, Idle, Inv, machine, failed, full, own_step, empties, file_for, open_at, open_end, open_face, opened_reply, covered_calls}
 use Rattle.plain_tree.specs.declared.call.Call.TheVariants as calls
-use Rattle.plain_tree.specs.declared.node.Node.{Node}
 use Rattle.plain_tree.specs.declared.step.Action.TheVariants as steps
-use Rattle.plain_tree.specs.declared.step.StepAnswer.TheVariants.{Done, Failed, Opened}
-use Rattle.plain_tree.specs.Calls.{Act, next_of, reply_of, had_room}
-use Rattle.plain_tree.specs.Widths.{hart_count}
-use Rattle.plain_tree.specs.Tree.{put, hold_names}
-use Rattle.plain_tree.specs.Steps.{empty_it, has, has_room, lowest, node_or}
-use Rattle.plain_tree.specs.HartRow.{Key, Row, key_is, key_names}
-use Rattle.tree_laws.specs.WellFormed.{one_if}
-use Rattle.tree_laws.proofs.Maps.{and_true, either, eq_is, or_none, same_or, put_same, put_other}
-use Rattle.tree_laws.specs.Moves.{Step, MayEnd, IsWholeCall}
-use Rattle.tree_laws.specs.Moves.Move.{Begin, Own as OwnMove}
-use Rattle.inode_machine.specs.World.{Desk, Note, World}
-use Rattle.inode_machine.specs.World.Op.{Empty}
-use Rattle.inode_machine.specs.Inodes.{is_file_sort, OfDirectory, Sort, open_refusal, sort_of}
-use Rattle.inode_machine.specs.Exec.{is_at}
-use Rattle.inode_machine.specs.Rules.{Own, key_in, own_names, own_of, Idle, Inv, machine}
-use Rattle.inode_machine.specs.Parts.{failed, full, own_step}
-use Rattle.inode_machine.specs.Opening.{empties, file_for, open_at, open_end, open_face, opened_reply}
-use Rattle.inode_machine.specs.Theory.{covered_calls}
-use Rattle.inode_machine.proofs.Rules.{locked_held, s-take, sort_there}
-use Rattle.inode_machine.proofs.Counting.{s-give}
-use Rattle.inode_machine.proofs.Looks.{KeepsHold, mends}
-use Rattle.inode_machine.proofs.Listing.{times, one_at, one_else, Listed, listed_among}
-use Rattle.inode_machine.proofs.Walks.{At, Ready}
-use Rattle.inode_machine.proofs.Endings.{Follows, MayRest, Walked, back_at, home, joined_own, missed, names_plain, ready_at, s-ends, s-refuse, tells, walked_begun, walked_tells}
-use Rattle.inode_machine.proofs.Openings.{opened_row, unopened_row}
+use Rattle.inode_machine.proofs.Basics.{locked_held, s-take, sort_there, s-give, KeepsHold, mends, times, one_at, one_else, Listed, listed_among, At, Ready, MayRest, Walked, back_at, home, joined_own, missed, names_plain, ready_at, s-ends, s-refuse, tells, walked_begun, walked_tells, opened_row, unopened_row}
+use Rattle.inode_machine.proofs.Endings.{Follows}
 use Rattle.inode_machine.proofs.Unopens.{mends_opened}
 use Rattle.inode_machine.proofs.Installs.{own_installed, s-install}
 use Rattle.inode_machine.proofs.Slots.{s-slot, s-install-full}

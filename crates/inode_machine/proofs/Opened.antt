@@ -1,24 +1,6 @@
 -- A world at rest with one open file meets the invariant.
-use Rattle.std.proofs.Common.{◌≡◌, ◌≢◌, ◌⊎◌, inl, inr, ℕ, ◌<◌, true, false, ◌==◌, ◌||◌, Option, Some, None, refl, sym, ◌∙◌, ap, subst, arith}
-use Rattle.plain_tree.specs.declared.node.Node.{Node}
-use Rattle.plain_tree.specs.declared.tree.OpenFile.{OpenFile}
-use Rattle.plain_tree.specs.Widths.{hart_count, descriptor_count}
-use Rattle.plain_tree.specs.Tree.{Tree, put, hold_names}
-use Rattle.plain_tree.specs.HartRow.{key_names, row_of}
-use Rattle.plain_tree.specs.declared.tree.Hold.{Hold}
-use Rattle.plain_tree.specs.Steps.{holds_raised}
-use Rattle.tree_laws.specs.WellFormed.{sum_below, one_if, IsWellFormed}
-use Rattle.tree_laws.proofs.Maps.{eq_self, either, same_or, put_same, put_other}
-use Rattle.tree_laws.proofs.Sums.{sum_none, sum_changed, one_yes, one_no}
-use Rattle.inode_machine.specs.World.{Desk, Entry, World}
-use Rattle.inode_machine.specs.Inodes.{sort_of, sort_of_kind}
-use Rattle.inode_machine.specs.Exec.{file_count, is_at}
-use Rattle.inode_machine.specs.Theory.{at_rest, open_at_rest, HasOneOpen}
-use Rattle.inode_machine.specs.Rules.{number_is, users, id_at, key_in, left_or, own_names, Inv, Idle, HasType}
-use Rattle.inode_machine.proofs.Frame.{put_elim}
-use Rattle.inode_machine.proofs.Rest.{directory_sort}
-use Rattle.inode_machine.proofs.Tables.{users_put}
-use Rattle.inode_machine.proofs.Counting.{one_most}
+use Rattle.inode_machine.proofs.Vocabulary.{◌≡◌, ◌≢◌, ◌⊎◌, inl, inr, ℕ, ◌<◌, true, false, ◌==◌, ◌||◌, Option, Some, None, refl, sym, ◌∙◌, ap, subst, arith, Node, OpenFile, hart_count, descriptor_count, Tree, put, hold_names, key_names, row_of, Hold, holds_raised, sum_below, one_if, IsWellFormed, eq_self, either, same_or, put_same, put_other, sum_none, sum_changed, one_yes, one_no, Desk, Entry, World, sort_of, sort_of_kind, file_count, is_at, at_rest, open_at_rest, HasOneOpen, number_is, users, id_at, key_in, left_or, own_names, Inv, Idle, HasType}
+use Rattle.inode_machine.proofs.Basics.{put_elim, directory_sort, users_put, one_most}
 
 module _ (t : Tree) (f : OpenFile) (v : Node) (well : IsWellFormed t) (has : HasOneOpen t f v) where
   abbrev entry : Entry

@@ -1,21 +1,5 @@
 -- The tree's step of an open, on the table's side: the tree has a new descriptor and a new open file, and the table has neither yet.
-use Rattle.std.proofs.Common.{◌≡◌, ◌≢◌, ◌⊎◌, inl, inr, ℕ, zero, suc, ◌+◌, ◌<◌, ◌≤◌, Bool, true, false, ◌==◌, ◌&&◌, ◌||◌, nat_lt, Option, Some, None, refl, sym, ◌∙◌, ap, subst, arith, if◌then◌else◌}
-use Rattle.plain_tree.specs.declared.node.Node.{Node}
-use Rattle.plain_tree.specs.declared.tree.OpenFile.{OpenFile}
-use Rattle.plain_tree.specs.Widths.{hart_count, descriptor_count}
-use Rattle.plain_tree.specs.Tree.{Tree, put, hold_names}
-use Rattle.plain_tree.specs.Steps.{IsLeastUnused, has_room, lowest}
-use Rattle.plain_tree.specs.HartRow.{Key, Row, key_at, key_is, key_names, key_of, row_of}
-use Rattle.plain_tree.proofs.RowLemmas.{key_from}
-use Rattle.tree_laws.specs.WellFormed.{sum_below, one_if, IsWellFormed}
-use Rattle.tree_laws.proofs.Maps.{either, eq_self, eq_is, same_or, put_same, put_other}
-use Rattle.tree_laws.proofs.Sums.{sum_same}
-use Rattle.tree_laws.proofs.Opened.{well_opened}
-use Rattle.inode_machine.specs.World.{Desk, World}
-use Rattle.inode_machine.specs.Exec.{first_from, is_at, is_nothing, or_zero}
-use Rattle.inode_machine.specs.Marks.{new_id}
-use Rattle.inode_machine.specs.Opening.{file_for}
-use Rattle.inode_machine.specs.Rules.{id_at, key_in, own_names, own_of, shop_of, users, Own, Inv, IsReached, Shop, IsTied}
+use Rattle.inode_machine.proofs.Vocabulary.{◌≡◌, ◌≢◌, ◌⊎◌, inl, inr, ℕ, zero, suc, ◌+◌, ◌<◌, ◌≤◌, Bool, true, false, ◌==◌, ◌&&◌, ◌||◌, nat_lt, Option, Some, None, refl, sym, ◌∙◌, ap, subst, arith, if◌then◌else◌, Node, OpenFile, hart_count, descriptor_count, Tree, put, hold_names, IsLeastUnused, has_room, lowest, Key, Row, key_at, key_is, key_names, key_of, row_of, key_from, sum_below, one_if, IsWellFormed, either, eq_self, eq_is, same_or, put_same, put_other, sum_same, well_opened, Desk, World, first_from, is_at, is_nothing, or_zero, new_id, file_for, id_at, key_in, own_names, own_of, shop_of, users, Own, Inv, IsReached, Shop, IsTied}
 use Rattle.inode_machine.proofs.Frame.{bond_of, put_elim, is_put, stands_on, Did, refers_on}
 use Rattle.inode_machine.proofs.Tables.{less_is, lowest_free, lowest_same}
 use Rattle.inode_machine.proofs.Dups.{not_at}

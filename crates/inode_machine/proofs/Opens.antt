@@ -1,28 +1,6 @@
 -- The tree's step of an open without CREATE, and what it leaves where it acts.
-use Rattle.std.proofs.Common.{◌≡◌, inl, ℕ, ◌+◌, ◌-◌, ◌<◌, true, false, ◌==◌, List, [], ◌∷◌, Option, Some, None, refl, sym, ◌∙◌, ap, subst, arith}
-use Rattle.atomic_programs.specs.Logic.{P, own, onto, Fine, Wp}
-use Rattle.plain_tree.specs.declared.answer.Cause.{Cause}
-use Rattle.plain_tree.specs.declared.answer.Cause.TheVariants.{NoEntry}
-use Rattle.plain_tree.specs.declared.answer.Full.TheVariants.{Descriptors}
-use Rattle.plain_tree.specs.declared.node.Node.{Node}
-use Rattle.plain_tree.specs.declared.node.Kind.{Kind}
-use Rattle.plain_tree.specs.declared.node.Kind.TheVariants.{Directory, File, Device}
-use Rattle.plain_tree.specs.declared.step.Action.TheVariants.{Open}
-use Rattle.plain_tree.specs.declared.step.StepAnswer.TheVariants.{Failed, Opened, Full as NoRoom}
-use Rattle.plain_tree.specs.Widths.{hart_count}
-use Rattle.plain_tree.specs.Tree.{Name, Tree, settle}
-use Rattle.plain_tree.specs.Steps.{IsLeastUnused, answer_with, creates, effect_with, has_room, is_file, lowest, makes_node, node_at, node_or, open_kind, place_of, refusal_with, IsInPlace, StepWith}
-use Rattle.tree_laws.proofs.Maps.{eq_not, eq_self}
-use Rattle.tree_laws.specs.Moves.{Step, Move}
-use Rattle.inode_machine.specs.World.{World}
-use Rattle.inode_machine.specs.Inodes.{Sort, face_of, face_or, is_file_sort, open_refusal, sort_of, sort_of_kind}
-use Rattle.inode_machine.specs.Marks.{Made, acts, with_made}
-use Rattle.inode_machine.specs.Rules.{Inv, Others, IsTied, shop_of, machine}
-use Rattle.inode_machine.proofs.Frame.{Fair, fair}
-use Rattle.inode_machine.proofs.Rules.{others}
-use Rattle.inode_machine.proofs.Rows.{below_is}
-use Rattle.inode_machine.proofs.Acts.{Finder}
-use Rattle.inode_machine.proofs.Openings.{opened_tree}
+use Rattle.inode_machine.proofs.Vocabulary.{◌≡◌, inl, ℕ, ◌+◌, ◌-◌, ◌<◌, true, false, ◌==◌, List, [], ◌∷◌, Option, Some, None, refl, sym, ◌∙◌, ap, subst, arith, P, own, onto, Fine, Wp, Cause, NoEntry, Descriptors, Node, Kind, Directory, File, Device, Open, Failed, Opened, NoRoom, hart_count, Name, Tree, settle, IsLeastUnused, answer_with, creates, effect_with, has_room, is_file, lowest, makes_node, node_at, node_or, open_kind, place_of, refusal_with, IsInPlace, StepWith, eq_not, eq_self, Step, Move, World, Sort, face_of, face_or, is_file_sort, open_refusal, sort_of, sort_of_kind, Made, acts, with_made, Inv, Others, IsTied, shop_of, machine}
+use Rattle.inode_machine.proofs.Basics.{Fair, fair, others, below_is, Finder, opened_tree}
 
 pub open_finder : (path : List ℕ) (flags : ℕ) → creates flags ≡ false → Finder (Open path flags)
 open_finder path flags plain = record { follows = refl; makes = λ t q. rw plain refl; inherits = λ g q. absurd cc }

@@ -1,27 +1,6 @@
 -- A new inode that gets no name: from then on it is a dead node of the tree before that settles, as any other.
-use Rattle.std.proofs.Common.{◌≡◌, ◌≢◌, inl, inr, ℕ, ◌+◌, ◌<◌, ◌≤◌, true, false, List, [], Option, Some, None, refl, sym, ◌∙◌, ap, subst, arith}
-use Rattle.atomic_programs.specs.Prog.{Do}
-use Rattle.atomic_programs.specs.Logic.{P, Fine, Safe, Wp}
-use Rattle.plain_tree.specs.declared.node.Node.{Node}
-use Rattle.plain_tree.specs.Widths.{hart_count}
-use Rattle.plain_tree.specs.Tree.{Tree, put, is_live, is_named, settle}
-use Rattle.plain_tree.specs.HartRow.{row_of}
-use Rattle.plain_tree.specs.Steps.{node_or}
-use Rattle.plain_tree.proofs.Settling.{settle_nodes}
-use Rattle.tree_laws.specs.WellFormed.{links_of, folders_of, links_in, raises, Folders, IsForest, IsWellFormed}
-use Rattle.tree_laws.proofs.Maps.{same_or, put_same, put_other}
-use Rattle.tree_laws.proofs.Nodes.{folder_dead, dead_links, no_node, cwd_named, hold_named, file_named, folders_put, put_self, map_put}
-use Rattle.tree_laws.specs.Moves.{Step}
-use Rattle.inode_machine.specs.Exec.{with_count}
-use Rattle.inode_machine.specs.Inodes.{sort_of}
-use Rattle.inode_machine.specs.World.{Note, World}
-use Rattle.inode_machine.specs.World.Mark.{Orphans}
-use Rattle.inode_machine.specs.World.Op.{Store}
-use Rattle.inode_machine.specs.Rules.{Own, shop_of, own_names, Held, view, is_hart, own_of, Inv, machine}
-use Rattle.inode_machine.proofs.Frame.{shop_same, ours_some, kept_here, Did, fair, fair_then, own_inodes, has_inode, stands_in, directory_named, type_on}
-use Rattle.inode_machine.proofs.Rules.{s-owned, quiet, has_disk, has_node, locks_it, locked_held}
-use Rattle.inode_machine.proofs.Counting.{Writes, writes}
-use Rattle.inode_machine.proofs.Freeing.{lone_file, unnamed}
+use Rattle.inode_machine.proofs.Vocabulary.{◌≡◌, ◌≢◌, inl, inr, ℕ, ◌+◌, ◌<◌, ◌≤◌, true, false, List, [], Option, Some, None, refl, sym, ◌∙◌, ap, subst, arith, Do, P, Fine, Safe, Wp, Node, hart_count, Tree, put, is_live, is_named, settle, row_of, node_or, settle_nodes, links_of, folders_of, links_in, raises, Folders, IsForest, IsWellFormed, same_or, put_same, put_other, folder_dead, dead_links, no_node, cwd_named, hold_named, file_named, folders_put, put_self, map_put, Step, with_count, sort_of, Note, World, Orphans, Store, Own, shop_of, own_names, Held, view, is_hart, own_of, Inv, machine}
+use Rattle.inode_machine.proofs.Basics.{shop_same, ours_some, kept_here, Did, fair, fair_then, own_inodes, has_inode, stands_in, directory_named, type_on, s-owned, quiet, has_disk, has_node, locks_it, locked_held, Writes, writes, lone_file, unnamed}
 
 -- A dead node that nothing names may stand in the tree before it settles.
 well_orphan : (t : Tree) (i : ℕ) (v : Node) → IsWellFormed t → t.nodes i ≡ None → is_live (Some v) ≡ false → 1 ≤ i → i < t.ninodes → is_named t i ≡ false → IsWellFormed (record t { nodes = put t.nodes i (Some v) })

@@ -1,26 +1,7 @@
 -- A call that works on a directory and one inode more: they change, and are given up; what is new and gets no name is freed.
-use Rattle.std.proofs.Common.{◌≡◌, ◌≢◌, inl, inr, ℕ, ◌+◌, ◌*◌, ◌<◌, ◌≤◌, true, false, ◌==◌, List, length, Option, Some, None, refl, sym, ◌∙◌, ap, arith}
-use Rattle.atomic_programs.specs.Logic.{Safe}
-use Rattle.atomic_programs.specs.Calls.{Begun, Ends}
-use Rattle.plain_tree.specs.declared.answer.Reply.{Reply}
-use Rattle.plain_tree.specs.declared.call.Call.{Call}
-use Rattle.plain_tree.specs.declared.node.Node.{Node}
-use Rattle.plain_tree.specs.Widths.{hart_count}
-use Rattle.plain_tree.specs.Tree.{put}
-use Rattle.tree_laws.specs.WellFormed.{one_if}
-use Rattle.tree_laws.proofs.Maps.{either, same_or, put_same, put_other}
-use Rattle.tree_laws.specs.Moves.{Step}
-use Rattle.inode_machine.specs.World.{Desk, Note, World}
-use Rattle.inode_machine.specs.Exec.{with_count}
-use Rattle.inode_machine.specs.Rules.{Held, Own, own_names, own_of, machine}
-use Rattle.inode_machine.specs.Parts.{give_up, tail}
-use Rattle.inode_machine.specs.Opening.{unmake}
-use Rattle.inode_machine.specs.Theory.{covered_calls}
-use Rattle.inode_machine.proofs.Rules.{locked_held}
+use Rattle.inode_machine.proofs.Vocabulary.{◌≡◌, ◌≢◌, inl, inr, ℕ, ◌+◌, ◌*◌, ◌<◌, ◌≤◌, true, false, ◌==◌, List, length, Option, Some, None, refl, sym, ◌∙◌, ap, arith, Safe, Begun, Ends, Reply, Call, Node, hart_count, put, one_if, either, same_or, put_same, put_other, Step, Desk, Note, World, with_count, Held, Own, own_names, own_of, machine, give_up, tail, unmake, covered_calls}
+use Rattle.inode_machine.proofs.Basics.{locked_held, times, one_at, one_else, Stays, names_stay, stays_same, Holding, IsWhole, Joins, Told, holding_same, holding_set, unlisted, unlisted_refs, s-give-end, s-give-up}
 use Rattle.inode_machine.proofs.Orphans.{s-orphan}
-use Rattle.inode_machine.proofs.Listing.{times, one_at, one_else}
-use Rattle.inode_machine.proofs.Walks.{Stays, names_stay, stays_same}
-use Rattle.inode_machine.proofs.Holdings.{Holding, IsWhole, Joins, Told, holding_same, holding_set, unlisted, unlisted_refs, s-give-end, s-give-up}
 
 -- The hart keeps directory d, of which it has x, and i, of which it has z, each with a reference; and its list.
 pub record Pair (base : ℕ → ℕ) (ns : List ℕ) (O0 O : Own) (d i : ℕ) (x z : Held) : Type 0 where

@@ -1,35 +1,5 @@
 -- Calls that follow a path to its last name: what their walks write, and what is seen at the name's directory.
-use Rattle.std.proofs.Common.{◌≡◌, ℕ, ◌+◌, ◌<◌, Bool, true, false, List, [], ◌∷◌, ◌++◌, Option, Some, None, refl, sym, ◌∙◌, subst, if◌then◌else◌}
-use Rattle.atomic_programs.specs.Prog.{Do}
-use Rattle.atomic_programs.specs.Logic.{P, own, onto, oldest_first, Fine, Safe, Wp}
-use Rattle.atomic_programs.specs.Calls.{Begun}
-use Rattle.atomic_programs.proofs.Beginnings.{onto_is}
-use Rattle.plain_tree.specs.declared.answer.Cause.{Cause}
-use Rattle.plain_tree.specs.declared.answer.Cause.TheVariants.{NoEntry}
-use Rattle.plain_tree.specs.declared.answer.Reply.{Reply}
-use Rattle.plain_tree.specs.declared.call.Call.{Call}
-use Rattle.plain_tree.specs.declared.node.Node.{Node}
-use Rattle.plain_tree.specs.declared.step.Action.{Action}
-use Rattle.plain_tree.specs.declared.step.Action.TheVariants.{Inherit}
-use Rattle.plain_tree.specs.declared.step.StepAnswer.{StepAnswer}
-use Rattle.plain_tree.specs.declared.step.StepAnswer.TheVariants.{Failed}
-use Rattle.plain_tree.specs.Widths.{hart_count}
-use Rattle.plain_tree.specs.Tree.{Name, Tree, put, look, live_directory}
-use Rattle.plain_tree.specs.Steps.{refusal_with, refused, IsInPlace}
-use Rattle.plain_tree.specs.Calls.{Act, next_of}
-use Rattle.plain_tree.specs.HartRow.{row_of}
-use Rattle.tree_laws.proofs.Maps.{put_same}
-use Rattle.tree_laws.proofs.Nodes.{live_is}
-use Rattle.tree_laws.proofs.Walks.{look_same}
-use Rattle.tree_laws.specs.Moves.{Walk, Step, MayEnd, IsPlayed, IsWholeCall, fail}
-use Rattle.tree_laws.specs.Moves.Move.{Begin, Look, Quit}
-use Rattle.inode_machine.specs.World.{World, Mark}
-use Rattle.inode_machine.specs.World.Op.{Take}
-use Rattle.inode_machine.specs.Inodes.{Query, Sight, seen_in}
-use Rattle.inode_machine.specs.Marks.{found_by, marked, places}
-use Rattle.inode_machine.specs.Rules.{Own, own_of, Inv, looking_cost, machine, Sought}
-use Rattle.inode_machine.specs.Parts.{looks_if, looks_where, makes}
-use Rattle.inode_machine.specs.Theory.{covered_calls}
+use Rattle.inode_machine.proofs.Vocabulary.{◌≡◌, ℕ, ◌+◌, ◌<◌, Bool, true, false, List, [], ◌∷◌, ◌++◌, Option, Some, None, refl, sym, ◌∙◌, subst, if◌then◌else◌, Do, P, own, onto, oldest_first, Fine, Safe, Wp, Begun, onto_is, Cause, NoEntry, Reply, Call, Node, Action, Inherit, StepAnswer, Failed, hart_count, Name, Tree, put, look, live_directory, refusal_with, refused, IsInPlace, Act, next_of, row_of, put_same, live_is, look_same, Walk, Step, MayEnd, IsPlayed, IsWholeCall, fail, Begin, Look, Quit, World, Mark, Take, Query, Sight, seen_in, found_by, marked, places, Own, own_of, Inv, looking_cost, machine, Sought, looks_if, looks_where, makes, covered_calls}
 use Rattle.inode_machine.proofs.Frame.{fair_same}
 use Rattle.inode_machine.proofs.Rules.{quiet, locked_held}
 use Rattle.inode_machine.proofs.Looks.{live_face, s-take-then, quit_good, look_refused_good, Agrees}

@@ -1,29 +1,8 @@
 -- Write: what a piece does to a tree, and how a descriptor's offset and its inode change.
-use Rattle.std.proofs.Common.{◌≡◌, inl, inr, ℕ, ◌+◌, ◌<◌, ◌≤◌, true, false, nat_lt, List, [], ◌∷◌, ◌++◌, take, drop, length, Option, Some, None, refl, sym, ◌∙◌, ap, subst, arith, if◌then◌else◌, Bool}
-use Rattle.std.proofs.lemmas.Bool.Decides.{nat_tests}
-use Rattle.std.proofs.lemmas.List.{append-nil, take-append-drop, length-take}
-use Rattle.plain_tree.specs.declared.answer.Cause.{Cause}
-use Rattle.plain_tree.specs.declared.answer.Cause.TheVariants.{BadDescriptor, BadMode, BadOffset, TooBig}
-use Rattle.plain_tree.specs.declared.node.Node.{Node}
-use Rattle.plain_tree.specs.declared.node.Kind.{Kind}
-use Rattle.plain_tree.specs.declared.node.Kind.TheVariants.{Directory, File, Device}
-use Rattle.plain_tree.specs.declared.tree.OpenFile.{OpenFile}
-use Rattle.plain_tree.specs.declared.step.Action.TheVariants.{WritePart}
-use Rattle.plain_tree.specs.declared.step.StepAnswer.TheVariants.{Done}
-use Rattle.plain_tree.specs.Widths.{hart_count, largest_size}
-use Rattle.plain_tree.specs.Tree.{Name, Tree, put, and_then, is_directory, is_live, settle}
-use Rattle.plain_tree.specs.Steps.{node_or, node_at, file_at, refusal_with, effect_with, answer_with, place_of, IsInPlace, with_nodes, written, written_kind, wrote, write_kind, part_refusal, moved}
-use Rattle.tree_laws.specs.WellFormed.{IsWellFormed}
-use Rattle.tree_laws.proofs.Maps.{either, same_or, put_same, put_other}
-use Rattle.tree_laws.proofs.Nodes.{put_self}
-use Rattle.tree_laws.proofs.Formed.{well_content, well_same}
-use Rattle.tree_laws.proofs.Kept.{written_sort, written_dir}
-use Rattle.inode_machine.specs.Inodes.{Sort, no_driver_for, sort_of, sort_of_kind}
-use Rattle.inode_machine.specs.Exec.{mode_refusal, with_bytes, write_refused}
-use Rattle.inode_machine.specs.World.{Entry, World}
-use Rattle.inode_machine.proofs.Rows.{below_is}
-use Rattle.plain_tree.proofs.Settling.{with_open, NamesLess, named_less, settle_nodes, settle_or, file_settled}
-use Rattle.inode_machine.proofs.Dups.{Refused}
+use Rattle.inode_machine.proofs.Vocabulary.{◌≡◌, inl, inr, ℕ, ◌+◌, ◌<◌, ◌≤◌, true, false, nat_lt, List, [], ◌∷◌, ◌++◌, take, length, Option, Some, None, refl, sym, ◌∙◌, ap, subst, arith, if◌then◌else◌, Bool, nat_tests, append-nil, take-append-drop, length-take, Cause, BadDescriptor, BadMode, BadOffset, TooBig, Node, Kind, Directory, File, Device, OpenFile, WritePart, Done, hart_count, largest_size, Name, Tree, put, and_then, is_directory, is_live, settle, node_or, node_at, file_at, refusal_with, effect_with, answer_with, place_of, IsInPlace, with_nodes, written, written_kind, wrote, write_kind, part_refusal, IsWellFormed, either, same_or, put_same, put_other, put_self, well_content, well_same, written_sort, written_dir, Sort, no_driver_for, sort_of, sort_of_kind, mode_refusal, with_bytes, write_refused, Entry, World, with_open, NamesLess, named_less, settle_nodes, settle_or, file_settled}
+use Rattle.std.proofs.Common.{drop}
+use Rattle.plain_tree.specs.Steps.{moved}
+use Rattle.inode_machine.proofs.Basics.{below_is, Refused}
 use Rattle.inode_machine.proofs.Readings.{offset_on}
 
 -- Refusals.

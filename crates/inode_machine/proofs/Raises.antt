@@ -1,36 +1,8 @@
 -- A link's count is raised at its record's put, and lowered again where its name can't be entered; or it has all the links that it may have.
-use Rattle.std.proofs.Common.{◌≡◌, ◌⊎◌, inl, inr, ℕ, ◌+◌, ◌<◌, ◌≤◌, true, false, nat_lt, List, [], ◌∷◌, Option, Some, None, refl, sym, ◌∙◌, ap, subst, arith}
-use Rattle.atomic_programs.specs.Prog.{Do}
-use Rattle.atomic_programs.specs.Logic.{P, own, onto, Fine, Safe, Wp}
-use Rattle.plain_tree.specs.declared.answer.Cause.TheVariants.{TooManyLinks}
-use Rattle.plain_tree.specs.declared.node.Node.{Node}
-use Rattle.plain_tree.specs.declared.tree.Hold.{Hold}
-use Rattle.plain_tree.specs.declared.step.Action.{Action}
-use Rattle.plain_tree.specs.declared.step.Action.TheVariants.{Bump, Inherit}
-use Rattle.plain_tree.specs.declared.step.StepAnswer.TheVariants.{Done, Failed}
-use Rattle.plain_tree.specs.Widths.{count_limit, hart_count}
-use Rattle.plain_tree.specs.Tree.{Name, Tree, put, hold_names, settle, resolve, parent}
-use Rattle.plain_tree.specs.Steps.{follows_path, makes_node, node_or, path_of}
-use Rattle.tree_laws.proofs.Maps.{put_same}
-use Rattle.tree_laws.specs.Moves.{Stage, Step, Takes}
-use Rattle.tree_laws.specs.Moves.Move.{Own as OwnMove}
-use Rattle.inode_machine.specs.World.{World, stage_of}
-use Rattle.inode_machine.specs.World.Op.{Store}
-use Rattle.inode_machine.specs.Inodes.{sort_of}
-use Rattle.inode_machine.specs.Exec.{with_count, with_walk}
-use Rattle.inode_machine.specs.Marks.{Made, made_by, marked, new_id, places}
-use Rattle.inode_machine.specs.Rules.{Own, Held, own_of, Inv, machine}
-use Rattle.inode_machine.specs.Parts.{own_step}
-use Rattle.inode_machine.proofs.Frame.{Fair, fair, fair_then}
-use Rattle.inode_machine.proofs.Rules.{s-owned, has_disk, has_node, locks_it, my_refs}
-use Rattle.inode_machine.proofs.Counting.{Writes, writes}
-use Rattle.inode_machine.proofs.Walking.{moves_good, own_walk, stage_walk, walk_did}
-use Rattle.inode_machine.proofs.Shops.{own_takes}
-use Rattle.inode_machine.proofs.Dups.{fails}
-use Rattle.inode_machine.proofs.Looks.{MoveFine}
+use Rattle.inode_machine.proofs.Vocabulary.{◌≡◌, ◌⊎◌, inl, inr, ℕ, ◌+◌, ◌<◌, ◌≤◌, true, false, nat_lt, List, [], ◌∷◌, Option, Some, None, refl, sym, ◌∙◌, ap, subst, arith, Do, P, own, onto, Fine, Safe, Wp, TooManyLinks, Node, Hold, Action, Bump, Inherit, Done, Failed, count_limit, hart_count, Name, Tree, put, hold_names, settle, resolve, parent, follows_path, makes_node, node_or, path_of, put_same, Stage, Step, Takes, OwnMove, World, stage_of, Store, sort_of, with_count, with_walk, Made, made_by, marked, new_id, places, Own, Held, own_of, Inv, machine, own_step}
+use Rattle.inode_machine.proofs.Basics.{Fair, fair, fair_then, s-owned, has_disk, has_node, locks_it, my_refs, Writes, writes, moves_good, own_walk, stage_walk, walk_did, own_takes, fails, MoveFine, Moves, Rehold, Turned, bump_stops, held_tree, held_world, low, reholds, turned}
 use Rattle.inode_machine.proofs.Writings.{put_twice}
 use Rattle.inode_machine.proofs.Opens.{moves_full}
-use Rattle.inode_machine.proofs.Holds.{Moves, Rehold, Turned, bump_stops, held_tree, held_world, low, reholds, turned}
 
 abbrev pub done_step : Action → Step
 done_step s = record { move = OwnMove s 0; told = Some (record { act = record { step = s; answer = Done }; new = 0 }) }

@@ -1,43 +1,10 @@
 -- Read: a descriptor's inode is locked, a part read at the offset, and the offset moves, with the lock given up.
-use Rattle.std.proofs.Common.{◌≡◌, inl, inr, ℕ, ◌+◌, ◌<◌, ◌≤◌, true, false, ◌==◌, ◌&&◌, nat_lt, List, [], ◌∷◌, take, drop, length, Option, Some, None, refl, sym, ◌∙◌, ap, subst, arith, if◌then◌else◌, Bool}
-use Rattle.atomic_programs.specs.Prog.{Do, Ran, Did as Came}
-use Rattle.atomic_programs.specs.Logic.{P, own, onto, Good, Fine, Safe, Wp}
-use Rattle.plain_tree.specs.declared.answer.Cause.{Cause}
-use Rattle.plain_tree.specs.declared.answer.Cause.TheVariants.{BadDescriptor, BadMode}
-use Rattle.plain_tree.specs.declared.node.Node.{Node}
-use Rattle.plain_tree.specs.declared.node.Kind.{Kind}
-use Rattle.plain_tree.specs.declared.node.Kind.TheVariants.{Directory, File, Device}
-use Rattle.inode_machine.specs.Parts.{own_step}
-use Rattle.inode_machine.specs.Inodes.{Sort, no_driver_for, sort_of, sort_of_kind}
-use Rattle.plain_tree.specs.declared.tree.OpenFile.{OpenFile}
-use Rattle.plain_tree.specs.declared.step.Action.TheVariants.{Read}
-use Rattle.plain_tree.specs.declared.step.StepAnswer.TheVariants.{Bytes}
-use Rattle.plain_tree.specs.Widths.{hart_count, descriptor_count}
-use Rattle.plain_tree.specs.Tree.{Name, Tree, put, fd_names, file_names, and_then, settle, resolve, parent}
-use Rattle.plain_tree.specs.Steps.{node_or, node_at, content, part, moved, no_driver, file_at, refusal_with, effect_with, answer_with, place_of, IsInPlace}
-use Rattle.plain_tree.specs.HartRow.{Key, key_of, Row, key_at, row_of, key_is}
-use Rattle.plain_tree.proofs.RowLemmas.{key_from}
-use Rattle.plain_tree.proofs.Settling.{with_open, NamesLess, settle_less, file_settled}
-use Rattle.tree_laws.specs.WellFormed.{IsWellFormed}
-use Rattle.tree_laws.proofs.Maps.{same_or, put_same, put_other}
-use Rattle.tree_laws.proofs.Sums.{sum_same}
-use Rattle.tree_laws.proofs.Opened.{well_moved}
-use Rattle.tree_laws.specs.Moves.{Stage, Step}
-use Rattle.tree_laws.specs.Moves.Move.{Own as OwnMove}
-use Rattle.inode_machine.specs.World.{Mine, Entry, World, LockResult as Lockup, NotLocked, LocksIt}
-use Rattle.inode_machine.specs.Marks.{places, with_mark, made_by, new_id, with_made}
-use Rattle.inode_machine.specs.Descriptors.{refused_read}
-use Rattle.inode_machine.specs.Exec.{with_walk, slot_at, entry_at, entry_moved, part_of, entry_of, lock_at, offset_of, lock_if, locked, mode_refusal, read_at, read_refused, unlocked, with_offset}
-use Rattle.inode_machine.specs.Rules.{Own, own_names, Held, own_of, Inv, machine, EntryOut, asked_limit, KeepsFiles, StandsAt}
-use Rattle.inode_machine.proofs.Frame.{Ours, Stays, ours_none, put_elim, Fair, fair, has_inode}
-use Rattle.inode_machine.proofs.Rules.{s-owned, s-owned-from, quiet, has_disk, has_node, fine_after, is_out, locked_held, locking, locks_it, locks_none}
-use Rattle.inode_machine.proofs.Counting.{after_unlock, gives}
-use Rattle.inode_machine.proofs.Rows.{below_is}
-use Rattle.inode_machine.proofs.Walking.{refs_walk, stage_walk, moves_good}
-use Rattle.inode_machine.proofs.Shops.{Sells, sells_did, own_takes}
-use Rattle.inode_machine.proofs.Dups.{Behind, behind, behind_none, Refused, renewed_slots, renewed_at, fails, refused_good, renewed_sorts}
+use Rattle.inode_machine.proofs.Vocabulary.{◌≡◌, inl, inr, ℕ, ◌+◌, ◌<◌, ◌≤◌, true, false, ◌==◌, ◌&&◌, nat_lt, List, [], ◌∷◌, take, length, Option, Some, None, refl, sym, ◌∙◌, ap, subst, arith, if◌then◌else◌, Bool, Do, Ran, Came, P, own, onto, Good, Fine, Safe, Wp, Cause, BadDescriptor, BadMode, Node, Kind, Directory, File, Device, own_step, Sort, no_driver_for, sort_of, sort_of_kind, OpenFile, Read, Bytes, hart_count, descriptor_count, Name, Tree, put, fd_names, file_names, and_then, settle, resolve, parent, node_or, node_at, content, part, no_driver, file_at, refusal_with, effect_with, answer_with, place_of, IsInPlace, Key, key_of, Row, key_at, row_of, key_is, key_from, with_open, NamesLess, settle_less, file_settled, IsWellFormed, same_or, put_same, put_other, sum_same, well_moved, Stage, Step, OwnMove, Mine, Entry, World, LockResult as Lockup, NotLocked, LocksIt, places, with_mark, made_by, new_id, with_made, refused_read, with_walk, slot_at, entry_at, entry_moved, part_of, entry_of, lock_at, offset_of, lock_if, locked, mode_refusal, read_at, read_refused, unlocked, with_offset, Own, own_names, Held, own_of, Inv, machine, EntryOut, asked_limit, KeepsFiles, StandsAt, LockFile, ReadFile}
+use Rattle.std.proofs.Common.{drop}
+use Rattle.plain_tree.specs.Steps.{moved}
+use Rattle.inode_machine.proofs.Basics.{Ours, ours_none, put_elim, Fair, fair, has_inode, s-owned, s-owned-from, quiet, has_disk, has_node, fine_after, is_out, locked_held, locking, locks_it, locks_none, after_unlock, gives, below_is, refs_walk, stage_walk, moves_good, Sells, sells_did, own_takes, Behind, behind, behind_none, Refused, renewed_slots, renewed_at, fails, refused_good, renewed_sorts}
+use Rattle.inode_machine.proofs.Frame.{Stays}
 use Rattle.inode_machine.proofs.Stats.{behind_opens, entry_is, node_settled}
-use Rattle.inode_machine.specs.World.Op.{LockFile, ReadFile}
 
 -- Refusals.
 

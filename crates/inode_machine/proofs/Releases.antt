@@ -1,14 +1,6 @@
 -- A child that has all of its lender's starts again.
-use Rattle.std.proofs.Common.{◌≡◌, ◌+◌, ℕ, inr, Option, Some, None, refl, sym, ◌∙◌, ap, subst, arith}
-use Rattle.plain_tree.specs.Widths.{descriptor_count}
-use Rattle.plain_tree.specs.Tree.{put}
-use Rattle.tree_laws.proofs.Maps.{put_same, put_other}
-use Rattle.inode_machine.specs.World.{Desk, World}
-use Rattle.inode_machine.specs.Exec.{released, serving}
-use Rattle.inode_machine.specs.Rules.{Own, own_of, shop_of, Has, Inv, nothing}
-use Rattle.inode_machine.proofs.Rules.{FairTo}
-use Rattle.inode_machine.proofs.Frame.{put_elim}
-use Rattle.inode_machine.proofs.Handings.{SameTied, same_tied, tied_as}
+use Rattle.inode_machine.proofs.Vocabulary.{◌≡◌, ◌+◌, ℕ, inr, Option, Some, None, refl, sym, ◌∙◌, ap, subst, arith, descriptor_count, put, put_same, put_other, Desk, World, released, serving, Own, own_of, shop_of, Has, Inv, nothing}
+use Rattle.inode_machine.proofs.Basics.{FairTo, put_elim, SameTied, same_tied, tied_as}
 use Rattle.inode_machine.proofs.Turnings.{Server, Kid, kid, Turns, turned_fair, turned_own, serving_given, serving_none}
 
 -- The child starts again: its directory in the tree is its own.

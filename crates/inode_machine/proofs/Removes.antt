@@ -1,37 +1,6 @@
 -- Unlink's act: a name is cleared, and what it named loses a link.
-use Rattle.std.proofs.Common.{◌≡◌, ◌≢◌, inl, inr, ℕ, ◌+◌, ◌-◌, ◌<◌, true, false, List, [], ◌∷◌, Option, Some, None, IsSome, refl, sym, ◌∙◌, ap, subst, arith, if◌then◌else◌}
-use Rattle.std.proofs.lemmas.Bool.Decides.{nat_tests}
-use Rattle.atomic_programs.specs.Prog.{Do}
-use Rattle.atomic_programs.specs.Logic.{P, own, onto, Fine, Safe, Wp}
-use Rattle.plain_tree.specs.declared.node.Node.{Node}
-use Rattle.plain_tree.specs.declared.node.Kind.{Kind}
-use Rattle.plain_tree.specs.declared.node.Kind.TheVariants.{Directory, File, Device}
-use Rattle.plain_tree.specs.declared.step.Action.TheVariants.{Unlink}
-use Rattle.plain_tree.specs.declared.step.StepAnswer.TheVariants.{Done}
-use Rattle.plain_tree.specs.Widths.{hart_count}
-use Rattle.plain_tree.specs.Tree.{Name, Tree, put, look, same_name, dot, dotdot, is_directory, slots_of, is_live, live_directory, settle}
-use Rattle.plain_tree.specs.Steps.{node_or, node_at, with_nodes, cleared, lowered, not_empty, refusal_with, effect_with, answer_with, place_of, IsInPlace}
-use Rattle.tree_laws.specs.WellFormed.{IsWellFormed}
-use Rattle.tree_laws.proofs.Maps.{same_or, put_same, put_other, and_true}
-use Rattle.tree_laws.proofs.Nodes.{live_some}
-use Rattle.tree_laws.proofs.Walks.{look_same, look_in}
-use Rattle.tree_laws.proofs.Facts.{look_live}
-use Rattle.tree_laws.proofs.Placed.{can_go}
-use Rattle.tree_laws.proofs.Kept.{effect_well}
-use Rattle.tree_laws.specs.Moves.{Step}
-use Rattle.tree_laws.specs.Moves.Move.{Look}
-use Rattle.inode_machine.specs.World.{World}
-use Rattle.inode_machine.specs.World.Op.{Clear}
-use Rattle.inode_machine.specs.Inodes.{Sort, OfDirectory, sort_of, sort_of_kind}
-use Rattle.inode_machine.specs.Exec.{with_walk, without_entry}
-use Rattle.inode_machine.specs.Marks.{Made, new_id, marked, places}
-use Rattle.inode_machine.specs.Rules.{Own, Held, view, is_hart, if_kept, own_of, shop_of, Inv, machine}
-use Rattle.inode_machine.specs.Parts.{makes}
-use Rattle.inode_machine.proofs.Frame.{shop_same, stands_in, kept_here, fair, fair_then, has_inode}
-use Rattle.inode_machine.proofs.Rules.{s-owned, locks_it, has_disk, has_node}
-use Rattle.inode_machine.proofs.Counting.{Writes, writes}
-use Rattle.inode_machine.proofs.Walking.{stage_walk}
-use Rattle.inode_machine.proofs.Acting.{Fits, acts_did, acts_gone, act_good, told_step, two_put}
+use Rattle.inode_machine.proofs.Vocabulary.{◌≡◌, ◌≢◌, inl, inr, ℕ, ◌+◌, ◌-◌, ◌<◌, true, false, List, [], ◌∷◌, Option, Some, None, IsSome, refl, sym, ◌∙◌, ap, subst, arith, if◌then◌else◌, nat_tests, Do, P, own, onto, Fine, Safe, Wp, Node, Kind, Directory, File, Device, Unlink, Done, hart_count, Name, Tree, put, look, same_name, dot, dotdot, is_directory, slots_of, is_live, live_directory, settle, node_or, node_at, with_nodes, cleared, lowered, not_empty, refusal_with, effect_with, answer_with, place_of, IsInPlace, IsWellFormed, same_or, put_same, put_other, and_true, live_some, look_same, look_in, look_live, can_go, effect_well, Step, Look, World, Clear, Sort, OfDirectory, sort_of, sort_of_kind, with_walk, without_entry, Made, new_id, marked, places, Own, Held, view, is_hart, if_kept, own_of, shop_of, Inv, machine, makes}
+use Rattle.inode_machine.proofs.Basics.{shop_same, stands_in, kept_here, fair, fair_then, has_inode, s-owned, locks_it, has_disk, has_node, Writes, writes, stage_walk, Fits, acts_did, acts_gone, act_good, told_step, two_put}
 
 -- The directory x without the name, and one link less where that was a directory's: z is what the name stood for.
 abbrev pub less : Node → Node → Name → Node

@@ -1,20 +1,5 @@
 -- A world at rest meets the invariant, also one with orphans.
-use Rattle.std.proofs.Common.{◌≡◌, inl, inr, ℕ, ◌<◌, true, false, ◌==◌, ◌||◌, Option, Some, None, refl, sym, ◌∙◌, ap, arith}
-use Rattle.plain_tree.specs.Widths.{hart_count}
-use Rattle.plain_tree.specs.declared.node.Node.{Node}
-use Rattle.plain_tree.specs.declared.node.Kind.{Kind}
-use Rattle.plain_tree.specs.declared.node.Kind.TheVariants.{Directory, File, Device}
-use Rattle.plain_tree.specs.Tree.{Tree, is_directory, hold_names}
-use Rattle.plain_tree.specs.HartRow.{row_of}
-use Rattle.plain_tree.specs.declared.tree.Hold.{Hold}
-use Rattle.plain_tree.specs.Steps.{holds_raised}
-use Rattle.tree_laws.specs.WellFormed.{one_if, IsWellFormed}
-use Rattle.tree_laws.proofs.Maps.{eq_self, either}
-use Rattle.tree_laws.proofs.Sums.{sum_none, one_yes}
-use Rattle.inode_machine.specs.Inodes.{OfDirectory, sort_of, sort_of_kind}
-use Rattle.inode_machine.specs.Exec.{file_count}
-use Rattle.inode_machine.specs.Theory.{at_rest}
-use Rattle.inode_machine.specs.Rules.{number_is, own_names, Inv, Idle}
+use Rattle.inode_machine.proofs.Vocabulary.{◌≡◌, inl, inr, ℕ, ◌<◌, true, false, ◌==◌, ◌||◌, Option, Some, None, refl, sym, ◌∙◌, ap, arith, hart_count, Node, Kind, Directory, File, Device, Tree, is_directory, hold_names, row_of, Hold, holds_raised, one_if, IsWellFormed, eq_self, either, sum_none, one_yes, OfDirectory, sort_of, sort_of_kind, file_count, at_rest, number_is, own_names, Inv, Idle}
 use Rattle.inode_machine.proofs.Counting.{one_most}
 
 -- a current directory is one

@@ -1,9 +1,5 @@
 -- What a resting hart has.
-use Rattle.std.proofs.Common.{◌≡◌, ℕ, false, Option, Some, None, refl, sym, ◌∙◌, ap, subst}
-use Rattle.plain_tree.specs.Tree.{put}
-use Rattle.tree_laws.proofs.Maps.{put_other}
-use Rattle.inode_machine.specs.World.{World}
-use Rattle.inode_machine.specs.Rules.{Held, Own, Rests, own_of, nothing, Idle}
+use Rattle.inode_machine.proofs.Vocabulary.{◌≡◌, ℕ, false, Option, Some, None, refl, sym, ◌∙◌, ap, subst, put, put_other, World, Held, Own, Rests, own_of, nothing, Idle}
 use Rattle.inode_machine.proofs.Frame.{is_put}
 
 pub idle_as : (h : ℕ) (u : World) (O : Own) → own_of h u ≡ O → Rests O → Idle h u

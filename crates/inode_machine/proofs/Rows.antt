@@ -1,15 +1,5 @@
 -- What a hart names, through its own row and through its descriptors.
-use Rattle.std.proofs.Common.{◌≡◌, inl, inr, ℕ, ◌<◌, true, false, ◌==◌, ◌||◌, nat_lt, Option, Some, None, refl, sym, ◌∙◌, ap, arith}
-use Rattle.std.proofs.lemmas.Bool.Decides.{nat_tests}
-use Rattle.plain_tree.specs.declared.node.Node.{Node}
-use Rattle.plain_tree.specs.declared.tree.OpenFile.{OpenFile}
-use Rattle.plain_tree.specs.Widths.{hart_count, descriptor_count}
-use Rattle.plain_tree.specs.Tree.{Tree, any_below, hold_names, fd_names, file_names, is_live}
-use Rattle.plain_tree.specs.HartRow.{key_of, key_at, key_names, row_of}
-use Rattle.tree_laws.proofs.Maps.{eq_is, either, or_none, none_any}
-use Rattle.inode_machine.specs.Exec.{is_at}
-use Rattle.inode_machine.specs.World.{World}
-use Rattle.inode_machine.specs.Rules.{own_names, key_in, id_at, Inv}
+use Rattle.inode_machine.proofs.Vocabulary.{◌≡◌, inl, inr, ℕ, ◌<◌, true, false, ◌==◌, ◌||◌, nat_lt, Option, Some, None, refl, sym, ◌∙◌, ap, arith, nat_tests, Node, OpenFile, hart_count, descriptor_count, Tree, any_below, hold_names, fd_names, file_names, is_live, key_of, key_at, key_names, row_of, eq_is, either, or_none, none_any, is_at, World, own_names, key_in, id_at, Inv}
 use Rattle.inode_machine.proofs.Rules.{opens_slots}
 
 -- a key names what the descriptor does

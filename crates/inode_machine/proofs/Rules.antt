@@ -1,24 +1,7 @@
 -- The rules of the operations that place nothing.
-use Rattle.std.proofs.Common.{◌≡◌, ◌≢◌, ◌⊎◌, inl, inr, ℕ, ◌+◌, ◌<◌, true, false, ◌==◌, List, [], ◌∷◌, Option, Some, None, refl, sym, ◌∙◌, ap, subst, arith, ◌-◌, Bool}
-use Rattle.atomic_programs.specs.Prog.{Do, unmarked}
-use Rattle.atomic_programs.specs.Logic.{P, own, onto, Good, Fine, Safe, Wp, Goes}
-use Rattle.plain_tree.specs.declared.node.Node.{Node}
-use Rattle.plain_tree.specs.Widths.{hart_count, root}
-use Rattle.plain_tree.specs.Tree.{Tree, put, look, is_live, settle}
-use Rattle.tree_laws.specs.WellFormed.{sum_below, one_if, folders_of, links_in, raises, IsWellFormed}
-use Rattle.tree_laws.proofs.Maps.{eq_self, eq_is, eq_not, either, same_or, put_same, put_other}
-use Rattle.tree_laws.proofs.Sums.{one_yes, sum_same, sum_changed, sum_part}
-use Rattle.tree_laws.proofs.Facts.{look_live, folder_linked}
-use Rattle.tree_laws.proofs.Nodes.{linked_live}
-use Rattle.tree_laws.proofs.Walks.{look_same}
-use Rattle.tree_laws.specs.Moves.{Walk, Step, Takes, Stage}
-use Rattle.inode_machine.specs.World.{Mine, Entry, World, Op, Answer, Mark, stage_of, Note, Outside, Take}
-use Rattle.inode_machine.specs.Exec.{file_count, with_refs, lock_if, counted_up, locked, up_if, has_place}
-use Rattle.inode_machine.specs.Marks.{marked, go, places, with_mark}
-use Rattle.inode_machine.specs.World.Op.{Up}
-use Rattle.inode_machine.specs.Rules.{Own, shop_of, Opens, number_is, Held, view, is_hart, own_of, Found, IsReferredTo, IsReached, IsAlone, reference_limit, Inv, IsOut, MayWait, machine, more, Others, LocksNone, Asks, Rests, looking_cost, Honest, KeepsFiles, Sought}
+use Rattle.inode_machine.proofs.Vocabulary.{◌≡◌, ◌≢◌, ◌⊎◌, inl, inr, ℕ, ◌+◌, ◌<◌, true, false, ◌==◌, List, [], ◌∷◌, Option, Some, None, refl, sym, ◌∙◌, ap, subst, arith, ◌-◌, Bool, Do, unmarked, P, own, onto, Good, Fine, Safe, Wp, Goes, Node, hart_count, root, Tree, put, look, is_live, settle, sum_below, one_if, folders_of, links_in, raises, IsWellFormed, eq_self, eq_is, eq_not, either, same_or, put_same, put_other, one_yes, sum_same, sum_changed, sum_part, look_live, folder_linked, linked_live, look_same, Walk, Step, Takes, Stage, Mine, Entry, World, Op, Answer, Mark, stage_of, Note, Outside, file_count, with_refs, lock_if, counted_up, locked, up_if, has_place, marked, go, places, with_mark, Up, Own, shop_of, Opens, number_is, Held, view, is_hart, own_of, Found, IsReferredTo, IsReached, IsAlone, reference_limit, Inv, IsOut, MayWait, machine, more, Others, LocksNone, Asks, Rests, looking_cost, Honest, KeepsFiles, Sought, Query, Sight, Sort, seen_in, sort_of}
+use Rattle.inode_machine.specs.World.{Take}
 use Rattle.inode_machine.proofs.Frame.{shop_same, put_elim, ours_none, ours_some, kept_here, Did, Fair, fair, files_then, own_inodes, has_inode, has_none, found_more, two_refs, refers_put}
-use Rattle.inode_machine.specs.Inodes.{Query, Sight, Sort, seen_in, sort_of}
 
 -- an operation: what the hart owns stays until it runs, and what it has open of an inode that it keeps
 pub s-owned-from : {A : Type 0} {h : ℕ} {op : Op} {m : Answer op → Option Mark} {k : Answer op → P machine A} {B : List Step → Type 0} {Q : A → List Step → World → Type 0} {n : ℕ} {es : List Step} {w : World} {O : Own}

@@ -1,23 +1,6 @@
 -- Steps on the open-file table: what they leave, and the steps of the tree that they make.
-use Rattle.std.proofs.Common.{◌≡◌, ◌≢◌, inl, inr, ℕ, ◌+◌, ◌<◌, ◌≤◌, true, false, ◌==◌, ◌||◌, [], Option, Some, None, refl, sym, ◌∙◌, ap, subst, arith}
-use Rattle.plain_tree.specs.declared.node.Node.{Node}
-use Rattle.plain_tree.specs.declared.step.Action.{Action}
-use Rattle.plain_tree.specs.declared.step.Action.TheVariants.{Inherit}
-use Rattle.plain_tree.specs.declared.step.StepAnswer.{StepAnswer}
-use Rattle.plain_tree.specs.Widths.{hart_count}
-use Rattle.plain_tree.specs.Tree.{Name, Tree, put, hold_names, is_live, settle, resolve, parent}
-use Rattle.plain_tree.specs.Steps.{path_of, follows_path, makes_node, StepWith, holds_raised}
-use Rattle.plain_tree.specs.HartRow.{row_of, Row, key_names}
-use Rattle.plain_tree.specs.declared.tree.Hold.{Hold}
-use Rattle.tree_laws.specs.WellFormed.{sum_below, IsWellFormed}
-use Rattle.tree_laws.specs.Moves.{Takes}
-use Rattle.tree_laws.specs.Moves.Move.{Own as OwnMove}
-use Rattle.inode_machine.specs.World.{Mine, Entry, Desk, World, stage_of, Note}
-use Rattle.inode_machine.specs.Rules.{shop_of, Opens, own_names, IsReferredTo, IsAlone, reference_limit, HasType, Inv, key_in, Stands}
+use Rattle.inode_machine.proofs.Vocabulary.{◌≡◌, ◌≢◌, inl, inr, ℕ, ◌+◌, ◌<◌, ◌≤◌, true, false, ◌==◌, ◌||◌, [], Option, Some, None, refl, sym, ◌∙◌, ap, subst, arith, Node, Action, Inherit, StepAnswer, hart_count, Name, Tree, put, hold_names, is_live, settle, resolve, parent, path_of, follows_path, makes_node, StepWith, holds_raised, row_of, Row, key_names, Hold, sum_below, IsWellFormed, Takes, OwnMove, Mine, Entry, Desk, World, stage_of, Note, shop_of, Opens, own_names, IsReferredTo, IsAlone, reference_limit, HasType, Inv, key_in, Stands, new_id, sort_of, is_at}
 use Rattle.inode_machine.proofs.Frame.{Kin, Did, Ours, stands_in, type_on}
-use Rattle.inode_machine.specs.Marks.{new_id}
-use Rattle.inode_machine.specs.Inodes.{sort_of}
-use Rattle.inode_machine.specs.Exec.{is_at}
 
 -- What a step on the table needs of its change.
 pub record Sells (h : ℕ) (v : World) (F : ℕ → Option Entry) (D : ℕ → Desk) (S : ℕ → ℕ) (T : Tree) (H : ℕ → Mine) : Type 0 where

@@ -1,17 +1,5 @@
 -- Computed runs that fill a table.
-use Rattle.std.proofs.Common.{◌≡◌, true, false, List, refl}
-use Rattle.plain_tree.specs.declared.answer.Reply.{Reply}
-use Rattle.plain_tree.specs.declared.call.Call.{Call}
-use Rattle.plain_tree.specs.Tree.{pieces, put, any_below, same_name, first_slot, look, follow, parent_from, parent_of, file_in, is_named, settle}
-use Rattle.plain_tree.specs.Steps.{entries, any_used, lowest_from, refusal_with, place_of, first_free, cleared, has_fd, effect_with, answer_with}
-use Rattle.plain_tree.proofs.MarkLemmas.{same_is}
-use Rattle.tree_laws.specs.WellFormed.{sum_below, one_if}
-use Rattle.atomic_programs.specs.Calls.{Event, State, run}
-use Rattle.inode_machine.specs.World.{Outside}
-use Rattle.inode_machine.specs.Exec.{all_used, first_from}
-use Rattle.inode_machine.specs.Theory.{covered_calls}
-use Rattle.inode_machine.specs.Examples.{steps, replies}
-use Rattle.inode_machine.specs.Shortages.{opens_by, opens_for, opened_by, opened_for, each, overview, all_open, opens_more, opens_no_more, all_placed, places_more, places_no_more, ChangesNothing, NoOpenFileLeft, NoOpenFileForNew, NoPlaceLeft}
+use Rattle.inode_machine.proofs.Vocabulary.{◌≡◌, true, false, List, refl, Reply, Call, pieces, put, any_below, same_name, first_slot, look, follow, parent_from, parent_of, file_in, is_named, settle, entries, any_used, lowest_from, refusal_with, place_of, first_free, cleared, has_fd, effect_with, answer_with, same_is, sum_below, one_if, Event, State, run, Outside, all_used, first_from, covered_calls, steps, replies, opens_by, opens_for, opened_by, opened_for, each, overview, all_open, opens_more, opens_no_more, all_placed, places_more, places_no_more, ChangesNothing, NoOpenFileLeft, NoOpenFileForNew, NoPlaceLeft}
 
 -- two overviews are compared number by number
 same_after :

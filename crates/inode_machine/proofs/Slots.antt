@@ -1,29 +1,6 @@
 -- A slot of the open-file table is taken in hand, and given back.
-use Rattle.std.proofs.Common.{◌≡◌, ◌≢◌, ◌⊎◌, inl, inr, ℕ, ◌+◌, ◌<◌, Bool, true, false, ◌==◌, not, List, Option, Some, None, refl, sym, ◌∙◌, ap, subst, arith}
-use Rattle.atomic_programs.specs.Prog.{Do, Did as Came}
-use Rattle.atomic_programs.specs.Logic.{P, own, onto, Good, Fine, Safe, Wp}
-use Rattle.plain_tree.specs.declared.tree.OpenFile.{OpenFile}
-use Rattle.plain_tree.specs.Widths.{hart_count, descriptor_count}
-use Rattle.plain_tree.specs.Tree.{put, any_below}
-use Rattle.plain_tree.specs.Steps.{has_room}
-use Rattle.plain_tree.specs.HartRow.{row_of}
-use Rattle.tree_laws.specs.WellFormed.{sum_below, one_if}
-use Rattle.tree_laws.proofs.Maps.{and_true, any_none, eq_self, same_or, put_same, put_other}
-use Rattle.tree_laws.proofs.Sums.{sum_same}
-use Rattle.tree_laws.specs.Moves.{Step}
-use Rattle.inode_machine.specs.World.{Desk, Mark, World}
-use Rattle.inode_machine.specs.World.Op.{Slot, Install}
-use Rattle.inode_machine.specs.World.Mark.{Mends}
-use Rattle.inode_machine.specs.Inodes.{Sort}
-use Rattle.inode_machine.specs.Exec.{file_count, first_from, install_if, is_at, is_empty_slot, is_nothing, slot_if}
-use Rattle.inode_machine.specs.Marks.{marked, mended, places, with_mark}
-use Rattle.inode_machine.specs.Rules.{id_at, own_names, own_of, shop_of, users, Own, Inv, IsTied, machine}
-use Rattle.inode_machine.proofs.Frame.{bond_of, put_elim, stands_on, Fair, fair, refers_on}
-use Rattle.inode_machine.proofs.Rules.{s-owned, fine_after, quiet}
-use Rattle.inode_machine.proofs.Dups.{with_new}
-use Rattle.inode_machine.proofs.Looks.{spoilt}
-use Rattle.inode_machine.proofs.Walks.{Mending}
-use Rattle.inode_machine.proofs.Openings.{FirstOf, first_is}
+use Rattle.inode_machine.proofs.Vocabulary.{◌≡◌, ◌≢◌, ◌⊎◌, inl, inr, ℕ, ◌+◌, ◌<◌, Bool, true, false, ◌==◌, not, List, Option, Some, None, refl, sym, ◌∙◌, ap, subst, arith, Do, Came, P, own, onto, Good, Fine, Safe, Wp, OpenFile, hart_count, descriptor_count, put, any_below, has_room, row_of, sum_below, one_if, and_true, any_none, eq_self, same_or, put_same, put_other, sum_same, Step, Desk, Mark, World, Slot, Install, Mends, Sort, file_count, first_from, install_if, is_at, is_empty_slot, is_nothing, slot_if, marked, mended, places, with_mark, id_at, own_names, own_of, shop_of, users, Own, Inv, IsTied, machine}
+use Rattle.inode_machine.proofs.Basics.{bond_of, put_elim, stands_on, Fair, fair, refers_on, s-owned, fine_after, quiet, with_new, spoilt, Mending, FirstOf, first_is}
 
 nothing_is : {A : Type 0} (o : Option A) → is_nothing o ≡ true → o ≡ None
 nothing_is None e = refl

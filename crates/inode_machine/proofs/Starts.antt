@@ -1,15 +1,6 @@
 -- What a start finds that isn't refused: the hart is one, no hart serves it, and the call may begin.
-use Rattle.std.proofs.Common.{◌≡◌, ◌≢◌, ℕ, ◌<◌, Bool, true, false, ◌&&◌, ◌==◌, not, nat_lt, Option, Some, None, refl, sym, ◌∙◌, ap, subst, arith}
-use Rattle.std.proofs.lemmas.Bool.Decides.{nat_tests}
-use Rattle.atomic_programs.specs.Calls.{Began, Begins}
-use Rattle.plain_tree.specs.declared.call.Call.{Call}
+use Rattle.inode_machine.proofs.Vocabulary.{◌≡◌, ◌≢◌, ℕ, ◌<◌, Bool, true, false, ◌&&◌, ◌==◌, not, nat_lt, Option, Some, None, refl, sym, ◌∙◌, ap, subst, arith, nat_tests, Began, Begins, Call, hart_count, descriptor_count, put, and_true, any_none, eq_isnt, put_same, put_other, Desk, World, stage_of, is_nothing, serving, begin_call, begin_inherit, has_descriptor, only_if, serving_world, begin_if, Refusal}
 use Rattle.plain_tree.specs.declared.call.Call.TheVariants as calls
-use Rattle.plain_tree.specs.Widths.{hart_count, descriptor_count}
-use Rattle.plain_tree.specs.Tree.{put}
-use Rattle.tree_laws.proofs.Maps.{and_true, any_none, eq_isnt, put_same, put_other}
-use Rattle.inode_machine.specs.World.{Desk, World, stage_of}
-use Rattle.inode_machine.specs.Exec.{is_nothing, serving}
-use Rattle.inode_machine.specs.Theory.{begin_call, begin_inherit, has_descriptor, only_if, serving_world, begin_if, Refusal}
 
 pub begun_same : (w u : World) → ◌≡◌ {A = Began Refusal World} (Begins w) (Begins u) → w ≡ u
 begun_same w u e = cc

@@ -1,33 +1,6 @@
 -- Fstat: a descriptor's inode is locked, and its state told.
-use Rattle.std.proofs.Common.{◌≡◌, inl, inr, ℕ, ◌+◌, ◌<◌, List, [], ◌∷◌, Option, Some, None, refl, sym, ◌∙◌, ap, subst, arith}
-use Rattle.std.proofs.lemmas.Bool.Decides.{nat_tests}
-use Rattle.atomic_programs.specs.Prog.{Do, Did as Came}
-use Rattle.atomic_programs.specs.Logic.{P, own, onto, Good, Safe, Wp}
-use Rattle.plain_tree.specs.declared.answer.Cause.TheVariants.{BadDescriptor}
-use Rattle.plain_tree.specs.declared.node.Node.{Node}
-use Rattle.plain_tree.specs.declared.node.Kind.{Kind}
-use Rattle.plain_tree.specs.declared.node.Kind.TheVariants.{Directory, File, Device}
-use Rattle.plain_tree.specs.declared.tree.OpenFile.{OpenFile}
-use Rattle.plain_tree.specs.declared.step.Action.TheVariants.{Fstat}
-use Rattle.plain_tree.specs.declared.step.StepAnswer.TheVariants.{Stat as Status}
-use Rattle.plain_tree.specs.Widths.{hart_count}
-use Rattle.plain_tree.specs.Tree.{Name, Tree, put, settle, resolve, parent}
-use Rattle.plain_tree.specs.Steps.{node_or, node_at, stat_of, file_at, refusal_with, effect_with, answer_with, place_of, IsInPlace}
-use Rattle.plain_tree.proofs.Settling.{file_settled, settle_or, settle_again}
-use Rattle.tree_laws.proofs.Nodes.{file_named}
-use Rattle.tree_laws.specs.Moves.{Deed, Stage, Step}
-use Rattle.tree_laws.specs.Moves.Move.{Own as OwnMove}
-use Rattle.inode_machine.specs.World.{World, Entry, Mark}
-use Rattle.inode_machine.specs.Inodes.{Face, face_of, face_or, sort_of, stat_of_face}
-use Rattle.inode_machine.specs.Rules.{Own, Opens, EntryOut, Inv, machine, own_of}
-use Rattle.inode_machine.specs.Parts.{own_step}
-use Rattle.inode_machine.proofs.Rules.{Locking, fine_after, is_out, locked_held, locking, locks_none, s-owned}
-use Rattle.inode_machine.specs.Exec.{entry_at, entry_of, lock_if, locked, slot_at, stat_at, with_walk}
-use Rattle.inode_machine.proofs.Walking.{moves_good, own_walk, stage_walk, walk_did}
-use Rattle.inode_machine.specs.Marks.{made_by, new_id, places, with_mark}
-use Rattle.inode_machine.proofs.Dups.{Behind, behind, behind_none, fails, refused_good, Refused}
-use Rattle.inode_machine.proofs.Frame.{fair}
-use Rattle.inode_machine.specs.World.Op.{StatFile}
+use Rattle.inode_machine.proofs.Vocabulary.{◌≡◌, inl, inr, ℕ, ◌+◌, ◌<◌, List, [], ◌∷◌, Option, Some, None, refl, sym, ◌∙◌, ap, subst, arith, nat_tests, Do, Came, P, own, onto, Good, Safe, Wp, BadDescriptor, Node, Kind, Directory, File, Device, OpenFile, Fstat, Status, hart_count, Name, Tree, put, settle, resolve, parent, node_or, node_at, stat_of, file_at, refusal_with, effect_with, answer_with, place_of, IsInPlace, file_settled, settle_or, settle_again, file_named, Deed, Stage, Step, OwnMove, World, Entry, Mark, Face, face_of, face_or, sort_of, stat_of_face, Own, Opens, EntryOut, Inv, machine, own_of, own_step, entry_at, entry_of, lock_if, locked, slot_at, stat_at, with_walk, made_by, new_id, places, with_mark, StatFile}
+use Rattle.inode_machine.proofs.Basics.{Locking, fine_after, is_out, locked_held, locking, locks_none, s-owned, moves_good, own_walk, stage_walk, walk_did, Behind, behind, behind_none, fails, refused_good, Refused, fair}
 
 -- an open file of the hart keeps its node where the tree settles
 pub node_settled : (h fd : ℕ) (v : World) (e : Entry) (s : ℕ) → Inv v → h < hart_count → Behind h fd s e v → (settle v.all).nodes e.file.number ≡ v.all.nodes e.file.number

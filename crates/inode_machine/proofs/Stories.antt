@@ -1,11 +1,5 @@
 -- Computed runs in which two harts meet.
-use Rattle.std.proofs.Common.{refl}
-use Rattle.plain_tree.specs.Tree.{pieces, put, any_below, same_name, first_slot, look, follow, parent_from, parent_of, file_in, is_named, settle}
-use Rattle.plain_tree.specs.Steps.{entries, any_used, lowest_from, refusal_with, place_of, first_free, cleared, has_fd, effect_with, answer_with}
-use Rattle.tree_laws.specs.WellFormed.{sum_below, one_if}
-use Rattle.inode_machine.specs.Exec.{all_used, first_from}
-use Rattle.inode_machine.specs.Examples.{steps}
-use Rattle.inode_machine.specs.Stories.{WalkFails, WalkFailsStill, StaysInTheRemoved, LinksWhileUnlinked, RaiseIsSeen, OffsetIsShared, ClimbsAcross}
+use Rattle.inode_machine.proofs.Vocabulary.{refl, pieces, put, any_below, same_name, first_slot, look, follow, parent_from, parent_of, file_in, is_named, settle, entries, any_used, lowest_from, refusal_with, place_of, first_free, cleared, has_fd, effect_with, answer_with, sum_below, one_if, all_used, first_from, steps, WalkFails, WalkFailsStill, StaysInTheRemoved, LinksWhileUnlinked, RaiseIsSeen, OffsetIsShared, ClimbsAcross}
 
 pub walk_fails : WalkFails
 unfolding pieces put any_below same_name first_slot look follow parent_from parent_of file_in is_named settle entries any_used lowest_from refusal_with place_of first_free cleared has_fd effect_with answer_with sum_below one_if all_used first_from steps

@@ -1,16 +1,5 @@
 -- The open-file table beside the tree's open files, where one descriptor changes.
-use Rattle.std.proofs.Common.{◌≡◌, ◌≢◌, inl, inr, ℕ, zero, suc, ◌+◌, ◌<◌, true, false, ◌==◌, nat_lt, Option, Some, None, refl, sym, ◌∙◌, ap, subst, arith}
-use Rattle.std.proofs.lemmas.Bool.Decides.{nat_tests}
-use Rattle.plain_tree.specs.declared.tree.OpenFile.{OpenFile}
-use Rattle.plain_tree.specs.Widths.{hart_count, descriptor_count}
-use Rattle.plain_tree.specs.Tree.{Tree, put, any_below}
-use Rattle.plain_tree.specs.Steps.{lowest, lowest_from, has_room, has_fd, closed}
-use Rattle.tree_laws.specs.WellFormed.{sum_below, one_if}
-use Rattle.tree_laws.proofs.Maps.{eq_self, either, same_or, put_same, put_other, any_at}
-use Rattle.tree_laws.proofs.Sums.{sum_changed, sum_part, one_yes, one_no}
-use Rattle.inode_machine.specs.Exec.{is_at, file_count}
-use Rattle.inode_machine.specs.World.{Entry, Desk}
-use Rattle.inode_machine.specs.Rules.{id_at, number_is, uses, users, Shop, IsTied}
+use Rattle.inode_machine.proofs.Vocabulary.{◌≡◌, ◌≢◌, inl, inr, ℕ, zero, suc, ◌+◌, ◌<◌, true, false, ◌==◌, nat_lt, Option, Some, None, refl, sym, ◌∙◌, ap, subst, arith, nat_tests, OpenFile, hart_count, descriptor_count, Tree, put, any_below, lowest, lowest_from, has_room, has_fd, closed, sum_below, one_if, eq_self, either, same_or, put_same, put_other, any_at, sum_changed, sum_part, one_yes, one_no, is_at, file_count, Entry, Desk, id_at, number_is, uses, users, Shop, IsTied}
 use Rattle.inode_machine.proofs.Frame.{put_elim}
 use Rattle.inode_machine.proofs.Rows.{is_at_some}
 

@@ -1,20 +1,6 @@
 -- What a step of a hart that serves another one shows: what the hart has then, and what the child has.
-use Rattle.std.proofs.Common.{◌≡◌, ◌≢◌, ◌⊎◌, inl, inr, ℕ, ◌+◌, ◌-◌, ◌<◌, ◌≤◌, false, ◌==◌, Option, Some, None, refl, sym, ◌∙◌, ap, subst, arith}
-use Rattle.plain_tree.specs.Widths.{hart_count, descriptor_count}
-use Rattle.plain_tree.specs.Tree.{put}
-use Rattle.tree_laws.specs.WellFormed.{sum_below, one_if, IsWellFormed}
-use Rattle.tree_laws.proofs.Maps.{eq_self, same_or, put_same, put_other}
-use Rattle.tree_laws.proofs.Sums.{one_yes}
-use Rattle.tree_laws.specs.Moves.{Walk}
-use Rattle.inode_machine.specs.World.{Mine, Entry, Desk, World}
-use Rattle.inode_machine.specs.Exec.{child_of, given_of, serving, with_refs}
-use Rattle.inode_machine.specs.Inodes.{OfDirectory, sort_of}
-use Rattle.inode_machine.specs.Rules.{Own, Held, IsTied, own_of, reference_limit, Has, Inv, Lends, nothing, HasType}
-use Rattle.inode_machine.proofs.Frame.{put_elim, has_none, two_refs}
-use Rattle.inode_machine.proofs.Rules.{FairTo, walks_refs}
-use Rattle.inode_machine.proofs.Dups.{not_one}
-use Rattle.inode_machine.proofs.Handings.{sum_twice}
-use Rattle.inode_machine.proofs.Both.{both_world, Serves, both, row_same}
+use Rattle.inode_machine.proofs.Vocabulary.{◌≡◌, ◌≢◌, ◌⊎◌, inl, inr, ℕ, ◌+◌, ◌-◌, ◌<◌, ◌≤◌, false, ◌==◌, Option, Some, None, refl, sym, ◌∙◌, ap, subst, arith, hart_count, descriptor_count, put, sum_below, one_if, IsWellFormed, eq_self, same_or, put_same, put_other, one_yes, Walk, Mine, Entry, Desk, World, child_of, given_of, serving, with_refs, OfDirectory, sort_of, Own, Held, IsTied, own_of, reference_limit, Has, Inv, Lends, nothing, HasType}
+use Rattle.inode_machine.proofs.Basics.{put_elim, has_none, two_refs, FairTo, walks_refs, not_one, sum_twice, both_world, Serves, both, row_same}
 
 -- What hart h owns while it serves hart c.
 pub record Server (h c : ℕ) (O : Own) : Type 0 where

@@ -1,50 +1,9 @@
 -- Unlink is right, whatever the other harts do.
-use Rattle.std.proofs.Common.{◌≡◌, ◌≢◌, inl, inr, ℕ, ◌+◌, ◌-◌, ◌*◌, ◌<◌, ◌≤◌, Bool, true, false, ◌||◌, not, ◌==◌, List, [], ◌∷◌, drop, length, Option, Some, None, refl, sym, ◌∙◌, ap, subst, arith, if◌then◌else◌}
-use Rattle.atomic_programs.specs.Prog.{Do, unmarked}
-use Rattle.atomic_programs.specs.Logic.{own, onto, Fine, Safe, Wp}
-use Rattle.atomic_programs.specs.Calls.{Begun, Ends, IsBeginning}
-use Rattle.plain_tree.specs.declared.answer.Cause.{Cause}
-use Rattle.plain_tree.specs.declared.answer.Cause.TheVariants.{NoEntry, NotEmpty, DotName}
-use Rattle.plain_tree.specs.declared.answer.Full.TheVariants.{MemInodes}
-use Rattle.plain_tree.specs.declared.answer.Reply.{Reply}
+use Rattle.inode_machine.proofs.Vocabulary.{◌≡◌, ◌≢◌, inl, inr, ℕ, ◌+◌, ◌-◌, ◌*◌, ◌<◌, ◌≤◌, Bool, true, false, ◌||◌, not, ◌==◌, List, [], ◌∷◌, length, Option, Some, None, refl, sym, ◌∙◌, ap, subst, arith, if◌then◌else◌, Do, unmarked, own, onto, Fine, Safe, Wp, Begun, Ends, IsBeginning, Cause, NoEntry, NotEmpty, DotName, MemInodes, Reply, Node, Kind, Directory, File, Device, Unlink, Done, Failed, hart_count, Name, Tree, put, look, same_name, dot, dotdot, is_directory, all_slots, is_live, live_directory, elements, node_or, node_at, lowered, not_empty, any_used, refusal_with, Act, next_of, reply_of, had_room, one_if, folders_of, links_in, raises, IsWellFormed, eq_not, same_or, put_same, put_other, or_none, live_is, look_live, look_folder, entry_found, entry_apart, look_bad, look_same, Step, MayEnd, Desk, World, Take, Store, face_of, face_or, seen_in, AtEntries, is_directory_sort, is_live_face, sort_of_kind, is_empty_kind, is_empty_node, with_count, without_entry, marked, places, Held, Own, own_of, nothing, Idle, Inv, machine, ThisP as P, done, failed, full, give_up, is_some, looks_if, tail, always, clear_name, is_missing, lower_parent, or_missing, unlink_child, unlink_dots, unlink_found, unlink_in, unlink_named, unlink_other, unlink_program, path_cost, rest_cost, covered_calls}
+use Rattle.std.proofs.Common.{drop}
 use Rattle.plain_tree.specs.declared.call.Call.TheVariants as calls
-use Rattle.plain_tree.specs.declared.node.Node.{Node}
-use Rattle.plain_tree.specs.declared.node.Kind.{Kind}
-use Rattle.plain_tree.specs.declared.node.Kind.TheVariants.{Directory, File, Device}
-use Rattle.plain_tree.specs.declared.step.Action.TheVariants.{Unlink}
-use Rattle.plain_tree.specs.declared.step.StepAnswer.TheVariants.{Done, Failed}
-use Rattle.plain_tree.specs.Widths.{hart_count}
-use Rattle.plain_tree.specs.Tree.{Name, Tree, put, look, same_name, dot, dotdot, is_directory, all_slots, is_live, live_directory, elements}
-use Rattle.plain_tree.specs.Steps.{node_or, node_at, lowered, not_empty, any_used, refusal_with}
-use Rattle.plain_tree.specs.Calls.{Act, next_of, reply_of, had_room}
-use Rattle.tree_laws.specs.WellFormed.{one_if, folders_of, links_in, raises, IsWellFormed}
-use Rattle.tree_laws.proofs.Maps.{eq_not, same_or, put_same, put_other, or_none}
-use Rattle.tree_laws.proofs.Nodes.{live_is}
-use Rattle.tree_laws.proofs.Facts.{look_live, look_folder, entry_found, entry_apart}
-use Rattle.tree_laws.proofs.Walks.{look_bad, look_same}
-use Rattle.tree_laws.specs.Moves.{Step, MayEnd}
-use Rattle.inode_machine.proofs.Names.{AllNames}
-use Rattle.inode_machine.specs.World.{Desk, World}
-use Rattle.inode_machine.specs.World.Op.{Take, Store}
-use Rattle.inode_machine.specs.Inodes.{face_of, face_or, seen_in, AtEntries, is_directory_sort, is_live_face, sort_of_kind, is_empty_kind, is_empty_node}
-use Rattle.inode_machine.specs.Exec.{with_count, without_entry}
-use Rattle.inode_machine.specs.Marks.{marked, places}
-use Rattle.inode_machine.specs.Rules.{Held, Own, own_of, nothing, Idle, Inv, machine}
-use Rattle.inode_machine.specs.Parts.{P, done, failed, full, give_up, is_some, looks_if, tail}
-use Rattle.inode_machine.specs.Naming.{always, clear_name, is_missing, lower_parent, or_missing, unlink_child, unlink_dots, unlink_found, unlink_in, unlink_named, unlink_other, unlink_program}
-use Rattle.inode_machine.specs.Programs.{path_cost, rest_cost}
-use Rattle.inode_machine.specs.Theory.{covered_calls}
-use Rattle.inode_machine.proofs.Frame.{fair_same}
-use Rattle.inode_machine.proofs.Rules.{quiet, locked_held, has_node, s-up}
-use Rattle.inode_machine.proofs.Looks.{live_face, s-take-then, look_refused_good}
-use Rattle.inode_machine.proofs.Listing.{listed_held, times, one_at, one_else}
-use Rattle.inode_machine.proofs.Walks.{On, stays_same, few_listed}
-use Rattle.inode_machine.proofs.Endings.{Walked, joined_own}
-use Rattle.inode_machine.proofs.Claiming.{mend_fine, mended_own, s-store}
-use Rattle.inode_machine.proofs.Acting.{told_step}
+use Rattle.inode_machine.proofs.Basics.{AllNames, fair_same, quiet, locked_held, has_node, s-up, live_face, s-take-then, look_refused_good, listed_held, times, one_at, one_else, On, stays_same, few_listed, Walked, joined_own, mend_fine, mended_own, s-store, told_step, Holding, IsWhole, Joins, Told, holding_on, holding_set, holding_same, mendable, stays_mended, unlisted, unlisted_refs, s-give-end, s-give-up, Follows, agrees_look, begun_by, begun_refused, s-see, walking_quit, walking_told, written_by}
 use Rattle.inode_machine.proofs.Removes.{less, unlink_place, s-clear}
-use Rattle.inode_machine.proofs.Holdings.{Holding, IsWhole, Joins, Told, holding_on, holding_set, holding_same, mendable, stays_mended, unlisted, unlisted_refs, s-give-end, s-give-up}
-use Rattle.inode_machine.proofs.Paths.{Follows, agrees_look, begun_by, begun_refused, s-see, walking_quit, walking_told, written_by}
 use Rattle.inode_machine.proofs.Namings.{Leads, s-naming}
 
 -- What is written.

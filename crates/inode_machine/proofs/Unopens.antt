@@ -1,26 +1,8 @@
 -- An open finds no room after its step: its descriptor is taken back from the tree.
-use Rattle.std.proofs.Common.{◌≡◌, ◌≢◌, inl, inr, ℕ, ◌+◌, ◌<◌, Bool, true, false, ◌==◌, ◌&&◌, ◌||◌, nat_lt, Option, Some, None, refl, sym, ◌∙◌, ap, subst, arith, if◌then◌else◌}
-use Rattle.plain_tree.specs.declared.tree.OpenFile.{OpenFile}
-use Rattle.plain_tree.specs.Widths.{hart_count, descriptor_count}
-use Rattle.plain_tree.specs.Tree.{Tree, put, hold_names}
-use Rattle.plain_tree.specs.Steps.{closed}
-use Rattle.plain_tree.specs.HartRow.{key_at, key_names, key_of, row_of}
-use Rattle.tree_laws.specs.WellFormed.{sum_below, one_if}
-use Rattle.tree_laws.proofs.Maps.{eq_not, same_or, put_same, put_other}
-use Rattle.tree_laws.proofs.Sums.{sum_same}
-use Rattle.tree_laws.proofs.Opened.{well_closed}
-use Rattle.inode_machine.specs.World.{Desk, World}
-use Rattle.inode_machine.specs.Exec.{is_at, with_walk}
-use Rattle.inode_machine.specs.Marks.{mended, unheld, unmoved, unopened}
-use Rattle.inode_machine.specs.Rules.{id_at, key_in, own_names, own_of, shop_of, users, IsOpening, Own, Inv, Shop, IsTied}
-use Rattle.inode_machine.proofs.Frame.{bond_of, put_elim, is_put, stands_on, Fair, fair, fair_then, refers_on}
-use Rattle.inode_machine.proofs.Rules.{my_refs}
-use Rattle.inode_machine.proofs.Walking.{walk_named_did, own_walk}
-use Rattle.inode_machine.proofs.Tables.{less_is, closed_shop, kept_open, tied_closed}
+use Rattle.inode_machine.proofs.Vocabulary.{◌≡◌, ◌≢◌, inl, inr, ℕ, ◌+◌, ◌<◌, Bool, true, false, ◌==◌, ◌&&◌, ◌||◌, nat_lt, Option, Some, None, refl, sym, ◌∙◌, ap, subst, arith, if◌then◌else◌, OpenFile, hart_count, descriptor_count, Tree, put, hold_names, closed, key_at, key_names, key_of, row_of, sum_below, one_if, eq_not, same_or, put_same, put_other, sum_same, well_closed, Desk, World, is_at, with_walk, mended, unheld, unmoved, unopened, id_at, key_in, own_names, own_of, shop_of, users, IsOpening, Own, Inv, Shop, IsTied}
+use Rattle.inode_machine.proofs.Basics.{bond_of, put_elim, is_put, stands_on, Fair, fair, fair_then, refers_on, my_refs, walk_named_did, own_walk, closed_shop, kept_open, tied_closed, KeepsHold, unheld_is, Mending, unopened_row}
+use Rattle.inode_machine.proofs.Tables.{less_is}
 use Rattle.inode_machine.proofs.Closes.{fewer, left_open, without_fd, fewer_same, fewer_gone, rows_stay, closed_or}
-use Rattle.inode_machine.proofs.Looks.{KeepsHold, unheld_is}
-use Rattle.inode_machine.proofs.Walks.{Mending}
-use Rattle.inode_machine.proofs.Openings.{unopened_row}
 
 pub key_more : (a b c d : Bool) → (a || (b || (false || d))) ≡ true → (a || (b || (c || d))) ≡ true
 key_more true b c d e = refl

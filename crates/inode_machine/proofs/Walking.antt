@@ -1,19 +1,7 @@
 -- A move: what it leaves of the world, and its step of the tree.
-use Rattle.std.proofs.Common.{◌≡◌, ◌⊎◌, inl, inr, ℕ, ◌+◌, ◌<◌, List, [], ◌∷◌, Option, Some, None, refl, sym, ◌∙◌, ap, subst, arith, true}
-use Rattle.atomic_programs.specs.Logic.{P, own, onto, Fine, Wp}
-use Rattle.plain_tree.specs.Widths.{hart_count}
-use Rattle.plain_tree.specs.Tree.{put, settle}
-use Rattle.plain_tree.specs.HartRow.{row_of}
-use Rattle.tree_laws.proofs.Maps.{eq_self, put_same, put_other}
-use Rattle.tree_laws.proofs.Sums.{sum_same}
-use Rattle.tree_laws.specs.Moves.{Walk, Step, Move, Takes}
-use Rattle.inode_machine.specs.World.{Mine, World, stage_of, Note}
-use Rattle.inode_machine.specs.Marks.{Made, with_made}
-use Rattle.inode_machine.specs.Exec.{with_walk}
-use Rattle.inode_machine.specs.Rules.{Own, shop_of, own_of, Found, IsReferredTo, Inv, machine, own_names}
+use Rattle.inode_machine.proofs.Vocabulary.{◌≡◌, ◌⊎◌, inl, inr, ℕ, ◌+◌, ◌<◌, List, [], ◌∷◌, Option, Some, None, refl, sym, ◌∙◌, ap, subst, arith, true, P, own, onto, Fine, Wp, hart_count, put, settle, row_of, eq_self, put_same, put_other, sum_same, Walk, Step, Move, Takes, Mine, World, stage_of, Note, Made, with_made, with_walk, Own, shop_of, own_of, Found, IsReferredTo, Inv, machine, own_names, sort_of}
 use Rattle.inode_machine.proofs.Frame.{shop_same, put_elim, is_put, Did, Fair, refers_on}
 use Rattle.inode_machine.proofs.Rules.{FairTo, acted_to, fair_to}
-use Rattle.inode_machine.specs.Inodes.{sort_of}
 
 -- A hart's walk, and what it found, change.
 pub after_walk : ℕ → Option Walk → Option ℕ → World → World

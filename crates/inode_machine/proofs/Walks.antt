@@ -1,28 +1,6 @@
 -- A walk: it begins, goes on from directory to directory, and is lost; what it drops last goes on the call's list.
-use Rattle.std.proofs.Common.{◌≡◌, ◌≢◌, ◌⊎◌, inl, inr, ℕ, ◌+◌, ◌-◌, ◌*◌, ◌<◌, ◌≤◌, Bool, true, false, ◌==◌, ◌||◌, List, [], ◌∷◌, ◌++◌, length, Option, Some, None, refl, sym, ◌∙◌, ap, subst, arith, if◌then◌else◌}
-use Rattle.atomic_programs.specs.Prog.{Do, unmarked}
-use Rattle.atomic_programs.specs.Logic.{own, onto, Fine, Safe, Wp}
-use Rattle.plain_tree.specs.declared.answer.Cause.TheVariants.{NoEntry}
-use Rattle.plain_tree.specs.declared.answer.Reply.{Reply}
-use Rattle.plain_tree.specs.declared.node.Node.{Node}
-use Rattle.plain_tree.specs.declared.step.Action.{Action}
-use Rattle.plain_tree.specs.declared.step.Action.TheVariants.{Inherit}
-use Rattle.plain_tree.specs.Widths.{hart_count, root}
-use Rattle.plain_tree.specs.Tree.{Name, Tree, put, look, is_live, live_directory, hold_names}
-use Rattle.plain_tree.specs.Steps.{refusal_with, refused, IsInPlace}
-use Rattle.plain_tree.specs.HartRow.{Row, key_names, row_of}
-use Rattle.tree_laws.specs.WellFormed.{one_if}
-use Rattle.tree_laws.proofs.Maps.{either, same_or, put_same, put_other}
-use Rattle.tree_laws.specs.Moves.{Walk, Deed, Stage, Step, Acts, Looks, fail}
-use Rattle.tree_laws.specs.Moves.Move.{Look, Quit}
+use Rattle.inode_machine.proofs.Vocabulary.{◌≡◌, ◌≢◌, ◌⊎◌, inl, inr, ℕ, ◌+◌, ◌-◌, ◌*◌, ◌<◌, ◌≤◌, Bool, true, false, ◌==◌, ◌||◌, List, [], ◌∷◌, ◌++◌, length, Option, Some, None, refl, sym, ◌∙◌, ap, subst, arith, if◌then◌else◌, Do, unmarked, own, onto, Fine, Safe, Wp, NoEntry, Reply, Node, Action, Inherit, hart_count, root, Name, Tree, put, look, is_live, live_directory, hold_names, refusal_with, refused, IsInPlace, Row, key_names, row_of, one_if, either, same_or, put_same, put_other, Walk, Deed, Stage, Step, Acts, Looks, fail, Look, Quit, Desk, Note, World, Mark, Take, Give, AtName, AtNothing, seen_in, face_of, is_directory_face, sort_of, is_at, looked, acts, found_by, marked, mended, places, Own, Held, key_in, own_names, own_of, Inv, machine, reference_limit, ThisP as P, Stop, NotThere, NoMemory, leave_directory, looks_or_quits, walk, walk_step, walk_parent, see_parent, quits_unless, makes}
 use Rattle.inode_machine.proofs.Names.{AllNames}
-use Rattle.inode_machine.specs.World.{Desk, Note, World, Mark}
-use Rattle.inode_machine.specs.World.Op.{Take, Give}
-use Rattle.inode_machine.specs.Inodes.{AtName, AtNothing, seen_in, face_of, is_directory_face, sort_of}
-use Rattle.inode_machine.specs.Exec.{is_at}
-use Rattle.inode_machine.specs.Marks.{looked, acts, found_by, marked, mended, places}
-use Rattle.inode_machine.specs.Rules.{Own, Held, key_in, own_names, own_of, Inv, machine, reference_limit}
-use Rattle.inode_machine.specs.Parts.{P, Stop, NotThere, NoMemory, leave_directory, looks_or_quits, walk, walk_step, walk_parent, see_parent, quits_unless, makes}
 use Rattle.inode_machine.proofs.Frame.{Fair, fair_same}
 use Rattle.inode_machine.proofs.Rules.{quiet, locked_held, s-up, noted_sort, root_live}
 use Rattle.inode_machine.proofs.Counting.{s-give, s-walk-down, MayDrop, one_most}

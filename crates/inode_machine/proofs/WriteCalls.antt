@@ -1,38 +1,8 @@
 -- Write is right, whatever the other harts do, in any number of pieces.
-use Rattle.std.proofs.Common.{◌≡◌, inl, inr, ℕ, zero, suc, ◌+◌, ◌-◌, ◌*◌, ◌/◌, ◌<◌, ◌≤◌, Bool, true, false, ◌==◌, nat_lt, List, [], ◌∷◌, ◌++◌, drop, length, Option, Some, None, refl, sym, ◌∙◌, ap, subst, arith, length-append, if◌then◌else◌}
-use Rattle.std.proofs.lemmas.Bool.Decides.{nat_tests}
-use Rattle.std.proofs.lemmas.List.{length-take}
-use Rattle.atomic_programs.specs.Logic.{P, onto, oldest_first, Safe}
-use Rattle.atomic_programs.specs.Calls.{Begun, Ends, IsBeginning}
-use Rattle.atomic_programs.proofs.Beginnings.{append_nil, onto_is}
-use Rattle.plain_tree.specs.declared.answer.Cause.{Cause}
-use Rattle.plain_tree.specs.declared.answer.Cause.TheVariants.{BadDescriptor}
-use Rattle.plain_tree.specs.declared.answer.Reply.{Reply}
+use Rattle.inode_machine.proofs.Vocabulary.{◌≡◌, inl, inr, ℕ, zero, suc, ◌+◌, ◌-◌, ◌*◌, ◌/◌, ◌<◌, ◌≤◌, Bool, true, false, ◌==◌, nat_lt, List, [], ◌∷◌, ◌++◌, length, Option, Some, None, refl, sym, ◌∙◌, ap, subst, arith, length-append, if◌then◌else◌, nat_tests, length-take, P, onto, oldest_first, Safe, Begun, Ends, IsBeginning, append_nil, onto_is, Cause, BadDescriptor, Reply, WritePart, StepAnswer, Opened, Bytes, Status, NewFd, Done, Failed, NoRoom, hart_count, piece_len, put, Act, cause_of, last_cause, first_cause, had_room, counted, next_of, next_piece, reply_of, piece, piece_count, le-div_iff_mul-le, add-one, Hold, holds_raised, Do, unmarked, either, eq_isnt, same_or, put_same, Leave, Step, IsPlayed, IsWholeCall, World, Held, KeepsFiles, Own, Rests, own_of, nothing, Idle, machine, failed, write_reply, write_piece, write_from, write_program, piece_cost, descriptor_calls}
+use Rattle.std.proofs.Common.{drop}
 use Rattle.plain_tree.specs.declared.call.Call.TheVariants as calls
-use Rattle.plain_tree.specs.declared.step.Action.TheVariants.{WritePart}
-use Rattle.plain_tree.specs.declared.step.StepAnswer.{StepAnswer}
-use Rattle.plain_tree.specs.declared.step.StepAnswer.TheVariants.{Opened, Bytes, Stat as Status, Fd as NewFd, Done, Failed, Full as NoRoom}
-use Rattle.plain_tree.specs.Widths.{hart_count, piece_len}
-use Rattle.plain_tree.specs.Tree.{put}
-use Rattle.plain_tree.specs.Calls.{Act, cause_of, last_cause, first_cause, had_room, counted, next_of, next_piece, reply_of, piece, piece_count}
-use Rattle.std.proofs.Math.Nat.{le-div_iff_mul-le}
-use Rattle.std.proofs.Math.Numerals.{add-one}
-use Rattle.plain_tree.specs.declared.tree.Hold.{Hold}
-use Rattle.plain_tree.specs.Steps.{holds_raised}
-use Rattle.atomic_programs.specs.Prog.{Do, unmarked}
-use Rattle.tree_laws.proofs.Maps.{either, eq_isnt, same_or, put_same}
-use Rattle.inode_machine.specs.World.Op.{Leave}
-use Rattle.inode_machine.proofs.Resting.{given_is, idle_as, unlocks_nothing}
-use Rattle.tree_laws.specs.Moves.{Step, IsPlayed, IsWholeCall}
-use Rattle.inode_machine.specs.World.{World}
-use Rattle.inode_machine.specs.Rules.{Held, KeepsFiles, Own, Rests, own_of, nothing, Idle, machine}
-use Rattle.inode_machine.specs.Parts.{failed}
-use Rattle.inode_machine.specs.Descriptors.{write_reply, write_piece, write_from, write_program}
-use Rattle.inode_machine.specs.Programs.{piece_cost}
-use Rattle.inode_machine.specs.Theory.{descriptor_calls}
-use Rattle.inode_machine.proofs.Rules.{locked_held}
-use Rattle.inode_machine.proofs.Rows.{below_is}
-use Rattle.inode_machine.proofs.Dups.{fails, s-join-from, s-leave-from, s-say}
+use Rattle.inode_machine.proofs.Basics.{given_is, idle_as, unlocks_nothing, locked_held, below_is, fails, s-join-from, s-leave-from, s-say}
 use Rattle.inode_machine.proofs.Writings.{wrote_step, IsWritable, OpensFile, file_same, file_stays, s-check-file, s-join-file, s-lock-open, s-write-file}
 
 -- Lists of acts that grow at their end.

@@ -1,37 +1,7 @@
 -- Write: a descriptor is looked up, its inode locked, a piece written at the offset, and the offset moves, with the lock given up.
-use Rattle.std.proofs.Common.{◌≡◌, ◌≢◌, inl, inr, ℕ, ◌+◌, ◌-◌, ◌<◌, ◌≤◌, Bool, true, false, List, [], ◌∷◌, take, length, Option, Some, None, refl, sym, ◌∙◌, ap, subst, arith}
-use Rattle.atomic_programs.specs.Prog.{Do, Ran, unmarked, Did as Came}
-use Rattle.atomic_programs.specs.Logic.{P, own, onto, Good, Fine, Safe, Wp}
-use Rattle.plain_tree.specs.declared.answer.Cause.{Cause}
-use Rattle.plain_tree.specs.declared.answer.Cause.TheVariants.{BadDescriptor}
-use Rattle.plain_tree.specs.declared.node.Node.{Node}
-use Rattle.plain_tree.specs.declared.node.Kind.{Kind}
-use Rattle.plain_tree.specs.declared.node.Kind.TheVariants.{Directory, File, Device}
-use Rattle.plain_tree.specs.declared.step.Action.TheVariants.{WritePart}
-use Rattle.plain_tree.specs.declared.step.StepAnswer.TheVariants.{Done}
-use Rattle.plain_tree.specs.Widths.{hart_count, descriptor_count, piece_len}
-use Rattle.plain_tree.specs.Tree.{Name, Tree, put, is_live, settle, resolve, parent}
-use Rattle.plain_tree.specs.Steps.{is_file, node_or, refusal_with, with_nodes, write_kind}
-use Rattle.tree_laws.specs.WellFormed.{IsWellFormed}
-use Rattle.tree_laws.proofs.Maps.{same_or, put_same, put_other}
-use Rattle.tree_laws.specs.Moves.{Stage, Step, Takes}
-use Rattle.tree_laws.specs.Moves.Move.{Own as OwnMove}
-use Rattle.inode_machine.specs.World.{Entry, Desk, World, stage_of, Outside, Room, RoomFor, Picks, JoinResult, NotJoined, Joined, Wrote, Whole, Refused as Stopped, Short}
-use Rattle.inode_machine.specs.World.Op.{CheckFile, JoinFile, LockOpen, WriteFile}
-use Rattle.inode_machine.specs.Inodes.{Sort, OfDirectory, OfFile, OfDevice, no_driver_for, sort_of, sort_of_kind}
-use Rattle.inode_machine.specs.Marks.{Made, places, with_mark, made_by, new_id, with_made, spoiled}
-use Rattle.inode_machine.specs.Exec.{slot_at, entry_moved, entry_at, entry_of, offset_of, lock_if, locked, join_at, unlocked, with_joined, with_bytes, with_offset, with_record, with_walk, mode_refusal, write_at, write_if, write_refused}
-use Rattle.plain_tree.specs.HartRow.{Key}
-use Rattle.plain_tree.proofs.Settling.{file_settled, settle_again}
-use Rattle.inode_machine.specs.Rules.{Own, Held, view, is_hart, own_of, shop_of, Inv, KeepsFiles, machine, IsOut, HonestPiece}
-use Rattle.inode_machine.specs.Parts.{own_step}
-use Rattle.inode_machine.specs.Descriptors.{refused_to, writes}
-use Rattle.inode_machine.proofs.Frame.{put_elim, is_put, shop_same, ours_none, ours_some, kept_here, Did, Fair, fair, fair_then, own_inodes, has_inode, stands_in, type_on}
-use Rattle.inode_machine.proofs.Rules.{s-owned, s-owned-from, quiet, fine_after, has_disk, has_node, others, locking, locked_held, is_out, locks_it, locks_none, UnlocksAll}
-use Rattle.inode_machine.proofs.Counting.{Gives, after_unlock, gives}
-use Rattle.inode_machine.proofs.Walking.{stage_walk, moves_good, own_walk, walk_did}
-use Rattle.inode_machine.proofs.Shops.{own_takes}
-use Rattle.inode_machine.proofs.Dups.{Behind, behind, behind_none, Flagging, flagging, filling, fails, refused_good, Refused as RefusedStep}
+use Rattle.inode_machine.proofs.Vocabulary.{◌≡◌, ◌≢◌, inl, inr, ℕ, ◌+◌, ◌-◌, ◌<◌, ◌≤◌, Bool, true, false, List, [], ◌∷◌, take, length, Option, Some, None, refl, sym, ◌∙◌, ap, subst, arith, Do, Ran, unmarked, Came, P, own, onto, Good, Fine, Safe, Wp, Cause, BadDescriptor, Node, Kind, Directory, File, Device, WritePart, Done, hart_count, descriptor_count, piece_len, Name, Tree, put, is_live, settle, resolve, parent, is_file, node_or, refusal_with, with_nodes, write_kind, IsWellFormed, same_or, put_same, put_other, Stage, Step, Takes, OwnMove, Entry, Desk, World, stage_of, Outside, Room, RoomFor, Picks, JoinResult, NotJoined, Joined, Wrote, Whole, Refused as Stopped, Short, CheckFile, JoinFile, LockOpen, WriteFile, Sort, OfDirectory, OfFile, OfDevice, no_driver_for, sort_of, sort_of_kind, Made, places, with_mark, made_by, new_id, with_made, spoiled, slot_at, entry_moved, entry_at, entry_of, offset_of, lock_if, locked, join_at, unlocked, with_joined, with_bytes, with_offset, with_walk, mode_refusal, write_at, write_if, write_refused, Key, file_settled, settle_again, Own, Held, view, is_hart, own_of, shop_of, Inv, KeepsFiles, machine, IsOut, HonestPiece, own_step, refused_to, writes}
+use Rattle.inode_machine.specs.Exec.{with_record}
+use Rattle.inode_machine.proofs.Basics.{put_elim, is_put, shop_same, ours_none, ours_some, kept_here, Did, Fair, fair, fair_then, own_inodes, has_inode, stands_in, type_on, s-owned, s-owned-from, quiet, fine_after, has_disk, has_node, others, locking, locked_held, is_out, locks_it, locks_none, UnlocksAll, Gives, after_unlock, gives, stage_walk, moves_good, own_walk, walk_did, own_takes, Behind, behind, behind_none, Flagging, flagging, filling, fails, refused_good, Refused as RefusedStep}
 use Rattle.inode_machine.proofs.Stats.{entry_is, node_settled, node_there}
 use Rattle.inode_machine.proofs.Readings.{IsOpenAt, StandsBy, reads_from, stands_still, Moving, entry_here, moved_names, moved_world, moving, offset_on, open_from, slot_is}
 use Rattle.inode_machine.proofs.Pieces.{write_by_kind, write_place, write_refused_at, write_refused_none, write_stops, empty_piece_goes, fewer_go, wrote_is, write_effect, write_answer, settle_wrote, well_wrote, written_type}

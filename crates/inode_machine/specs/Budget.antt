@@ -1,11 +1,8 @@
 -- How many blocks a call's transactions record at most, by the call's program alone.
 use Rattle.std.specs.Prelude.{ℕ, ◌+◌, ◌≤◌, List, [], ◌∷◌, length, Bool, true, false, ◌||◌, ◌==◌, if◌then◌else◌}
-use Rattle.plain_tree.specs.declared.call.Call.{Call}
-use Rattle.tree_laws.specs.WellFormed.{one_if}
-use Rattle.atomic_programs.specs.Prog.{Ret, Do}
-use Rattle.inode_machine.specs.World.{Op, Answer}
+use Rattle.inode_machine.specs.Vocabulary.{Call, one_if, Ret, Do}
+use Rattle.inode_machine.specs.Basics.{Op, Answer, P}
 use Rattle.inode_machine.specs.World.Op.{Free, Claim, Store, Fill, Enter, Clear, Empty, JoinFile, WriteFile, Join}
-use Rattle.inode_machine.specs.Parts.{P}
 use Rattle.inode_machine.specs.Programs.{program}
 
 -- What a transaction may have recorded: the blocks of these inodes' records, the bitmap's, and so many blocks more.

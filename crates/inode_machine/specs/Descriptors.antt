@@ -1,19 +1,12 @@
 -- The programs of the calls on descriptors: dup, close, fstat, read, write.
 use Rattle.std.specs.Prelude.{ℕ, zero, suc, ◌-◌, ◌+◌, List, [], ◌∷◌, ◌++◌, take, drop as past, length, Option, Some, None}
 use Rattle.plain_tree.specs.declared.answer.Answer.TheVariants as answers
-use Rattle.plain_tree.specs.declared.answer.Cause.{Cause}
-use Rattle.plain_tree.specs.declared.answer.Cause.TheVariants.{BadDescriptor}
-use Rattle.plain_tree.specs.declared.answer.Full.TheVariants.{Descriptors, Blocks}
-use Rattle.plain_tree.specs.declared.answer.Reply.{Reply}
+use Rattle.inode_machine.specs.Vocabulary.{Cause, BadDescriptor, Descriptors, Blocks, Reply, piece, piece_count, Ret, Do, unmarked}
 use Rattle.plain_tree.specs.declared.call.Call.TheVariants as calls
 use Rattle.plain_tree.specs.declared.step.Action.TheVariants as steps
-use Rattle.plain_tree.specs.Calls.{piece, piece_count}
-use Rattle.atomic_programs.specs.Prog.{Ret, Do, unmarked}
-use Rattle.inode_machine.specs.Inodes.{Face, stat_of_face}
-use Rattle.inode_machine.specs.World.{Mark, LockResult, NotLocked, LocksIt, JoinResult, NotJoined, Joined, Wrote, Whole, Refused, Short}
+use Rattle.inode_machine.specs.Basics.{Face, stat_of_face, Mark, LockResult, NotLocked, LocksIt, JoinResult, NotJoined, Joined, Wrote, Whole, Refused, Short, P, own_step, failed, full, done, say, drop}
 use Rattle.inode_machine.specs.World.Op.{Give, StatFile, LockFile, ReadFile, CheckFile, JoinFile, LockOpen, WriteFile, Double, Shut, Join, Leave}
 use Rattle.inode_machine.specs.World.Mark.{Fills, Spoils}
-use Rattle.inode_machine.specs.Parts.{P, own_step, failed, full, done, say, drop}
 
 -- dup: one step for descriptor and count; without an open file the reply alone
 

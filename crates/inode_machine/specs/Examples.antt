@@ -1,21 +1,10 @@
 -- Runs in which calls finish, from a fresh tree.
 use Rattle.std.specs.Prelude.{◌≡◌, ℕ, zero, suc, true, false, List, [], ◌∷◌, ◌++◌, replicate, Some, codes}
 use Rattle.plain_tree.specs.declared.answer.Answer.TheVariants as answers
-use Rattle.plain_tree.specs.declared.answer.Cause.{Cause}
-use Rattle.plain_tree.specs.declared.answer.Cause.TheVariants.{NoEntry, Exists, IsDirectory, TooManyLinks}
-use Rattle.plain_tree.specs.declared.answer.Full.TheVariants.{Blocks, Descriptors, DiskInodes, Directory as DirectorySlots}
+use Rattle.inode_machine.specs.Vocabulary.{Cause, NoEntry, Exists, IsDirectory, TooManyLinks, Blocks, Descriptors, DiskInodes, DirectorySlots, Reply, Call, Directory, File, node_or, with_nodes, Tree, put, tree_of, count_limit, fresh_tree, Came, Event, Start, Step, Started, Refused, WasIdle, DidWait, DidRun, DidEnd, DidStop, WasStopped, FinishedCall, State, fresh, outcomes, run}
 use Rattle.plain_tree.specs.declared.answer.NodeType.TheVariants as types
-use Rattle.plain_tree.specs.declared.answer.Reply.{Reply}
-use Rattle.plain_tree.specs.declared.call.Call.{Call}
 use Rattle.plain_tree.specs.declared.call.Call.TheVariants as calls
-use Rattle.plain_tree.specs.declared.node.Kind.TheVariants.{Directory, File}
-use Rattle.plain_tree.specs.Steps.{node_or, with_nodes}
-use Rattle.plain_tree.specs.Tree.{Tree, put, tree_of}
-use Rattle.plain_tree.specs.Widths.{count_limit}
-use Rattle.plain_tree.specs.Fresh.{fresh as fresh_tree}
-use Rattle.atomic_programs.specs.Calls.{Came, Event, Start, Step, Started, Refused, WasIdle, DidWait, DidRun, DidEnd, DidStop, WasStopped, FinishedCall, State, fresh, outcomes, run}
-use Rattle.inode_machine.specs.World.{Outside, Room, RoomFor, Picks}
-use Rattle.inode_machine.specs.Exec.{slot_limit, with_entry}
+use Rattle.inode_machine.specs.Basics.{Outside, Room, RoomFor, Picks, slot_limit, with_entry}
 use Rattle.inode_machine.specs.Theory.{at_rest, covered_calls, Refusal, NoSuchHart, Busy, NotEmptyHart, PathTooLong, ZeroInPath}
 
 abbrev pub first : State covered_calls

@@ -1,18 +1,7 @@
 -- What each operation makes of the code's part of the world.
 use Rattle.std.specs.Prelude.{ℕ, pos, zero, suc, ◌+◌, ◌-◌, Bool, true, false, ◌&&◌, ◌||◌, not, List, [], ◌∷◌, take, drop, length, ◌==◌, nat_lt, if◌then◌else◌, Option, Some, None}
-use Rattle.plain_tree.specs.declared.answer.Cause.{Cause}
-use Rattle.plain_tree.specs.declared.answer.Cause.TheVariants.{BadDescriptor, BadMode}
-use Rattle.plain_tree.specs.declared.node.Slot.{Slot as DirectorySlot}
-use Rattle.plain_tree.specs.declared.node.Node.{Node}
-use Rattle.plain_tree.specs.declared.node.Kind.TheVariants.{Directory, File, Device}
-use Rattle.plain_tree.specs.declared.tree.OpenFile.{OpenFile}
-use Rattle.plain_tree.specs.Widths.{hart_count, descriptor_count, root}
-use Rattle.plain_tree.specs.Tree.{Name, put, any_below, all_slots, slots_of}
-use Rattle.plain_tree.specs.Steps.{content, node_or, is_used, lowest, has_room, first_free, cleared, emptied, new_directory, written_kind, write_kind}
-use Rattle.tree_laws.specs.WellFormed.{sum_below, one_if}
-use Rattle.atomic_programs.specs.Prog.{Did, Waits, Ran}
+use Rattle.inode_machine.specs.Vocabulary.{Cause, BadDescriptor, BadMode, DirectorySlot, Node, Directory, File, Device, OpenFile, hart_count, descriptor_count, root, Name, put, any_below, all_slots, slots_of, content, node_or, is_used, lowest, has_room, first_free, cleared, emptied, new_directory, written_kind, write_kind, sum_below, one_if, Did, Waits, Ran, Walk}
 use Rattle.inode_machine.specs.Inodes.{Sort, OfDirectory, OfFile, OfDevice, Face, face_of, face_or, seen_in, no_driver_for}
-use Rattle.tree_laws.specs.Moves.{Walk}
 use Rattle.inode_machine.specs.World.{Mine, Entry, Desk, World, Op, Answer, ClaimResult, New, NoInode, NoPlace, EntryResult, InPlace, NoBlock, NoSlot, LockResult, NotLocked, LocksIt, JoinResult, NotJoined, Joined, Wrote, Whole, Refused, Short, LoanResult, Lent, Moved, Outside, Room, RoomFor, Picks}
 use Rattle.inode_machine.specs.World.Op.{Take, Give, UpStart, Up, WalkDown, Down, Free, Forget, Claim, Store, Fill, Enter, Clear, Empty, Slot, Install, StatFile, LockFile, ReadFile, CheckFile, JoinFile, LockOpen, WriteFile, Double, Shut, Settle, Lend, LendDirectory, Release, Join, Leave, Say}
 

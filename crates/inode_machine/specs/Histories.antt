@@ -1,14 +1,8 @@
 -- All calls of a run as one list of tree steps.
 use Rattle.std.specs.Prelude.{◌≡◌, ℕ, true, List}
-use Rattle.plain_tree.specs.declared.call.Call.{Call}
-use Rattle.plain_tree.specs.declared.trace.Placed.{Placed}
-use Rattle.plain_tree.specs.TreeData.{TreeData}
-use Rattle.plain_tree.specs.Tree.{settle, tree_of}
-use Rattle.plain_tree.specs.Explains.{Chain, Explains, trace_of}
-use Rattle.atomic_programs.specs.Calls.{Event, AllHonest, fresh, run}
-use Rattle.inode_machine.specs.World.{Op, Answer, Mark, World, Outside, stage_of}
+use Rattle.inode_machine.specs.Vocabulary.{Call, Placed, TreeData, settle, tree_of, Chain, Explains, trace_of, Event, AllHonest, fresh, run}
+use Rattle.inode_machine.specs.Basics.{Op, Answer, Mark, World, Outside, stage_of, MoveMachine, Alone, NoneClimbs, shows}
 use Rattle.inode_machine.specs.Marks.{go, places}
-use Rattle.inode_machine.specs.MoveCalls.{MoveMachine, Alone, NoneClimbs, shows}
 use Rattle.inode_machine.specs.Programs.{program, limit}
 use Rattle.inode_machine.specs.Rules as rules
 use Rattle.inode_machine.specs.Rules.{Inv, Idle}

@@ -1,16 +1,7 @@
 -- What is seen of an inode: its type, its count and size, and what a directory has under a name.
 use Rattle.std.specs.Prelude.{ℕ, ℤ, Bool, true, false, ◌&&◌, not, drop, nat_lt, if◌then◌else◌, Option, Some, None}
-use Rattle.plain_tree.specs.declared.answer.Cause.{Cause}
-use Rattle.plain_tree.specs.declared.answer.Cause.TheVariants.{IsDirectory, NoDriver}
-use Rattle.plain_tree.specs.declared.answer.NodeType.{NodeType}
+use Rattle.inode_machine.specs.Vocabulary.{Cause, IsDirectory, NoDriver, NodeType, Stat, Node, Kind, Directory, File, Device, Name, look, has_driver, any_used, size_of, root_device}
 use Rattle.plain_tree.specs.declared.answer.NodeType.TheVariants as types
-use Rattle.plain_tree.specs.declared.answer.Stat.{Stat}
-use Rattle.plain_tree.specs.declared.node.Node.{Node}
-use Rattle.plain_tree.specs.declared.node.Kind.{Kind}
-use Rattle.plain_tree.specs.declared.node.Kind.TheVariants.{Directory, File, Device}
-use Rattle.plain_tree.specs.Tree.{Name, look}
-use Rattle.plain_tree.specs.Steps.{has_driver, any_used, size_of}
-use Rattle.plain_tree.specs.Widths.{root_device}
 
 -- an inode's type, which it has until it is freed; a device with its major
 pub data Sort : Type 0 where

@@ -1,20 +1,9 @@
 -- The history of a run as a function of it: the list that is kept beside the events, to which each event appends.
 use Rattle.std.specs.Prelude.{ℕ, Bool, true, false, List, [], ◌∷◌, Option, Some, None}
-use Rattle.plain_tree.specs.declared.answer.Reply.{Reply}
-use Rattle.plain_tree.specs.declared.call.Call.{Call}
-use Rattle.plain_tree.specs.declared.trace.Placed.{Placed}
-use Rattle.plain_tree.specs.Tree.{put, settle, tree_of}
-use Rattle.plain_tree.specs.TreeData.{TreeData}
-use Rattle.plain_tree.specs.Explains.{Chain, Explains, no_calls, trace_of}
-use Rattle.atomic_programs.specs.Prog.{Prog, Ret, Do, Did, Waits, Ran, Stops}
-use Rattle.atomic_programs.specs.Calls.{Event, Start, Step, Run, State, Outcome, Started, Refused, WasIdle, DidWait, DidRun, DidEnd, DidStop, WasStopped, fresh, makes, next, run}
-use Rattle.tree_laws.specs.Moves.{Deed, Move, Stage, Step as MoveStep}
-use Rattle.tree_laws.specs.History.{History, starts, passes}
-use Rattle.tree_laws.specs.History.HartStanding.{Free}
+use Rattle.inode_machine.specs.Vocabulary.{Reply, Call, Placed, put, settle, tree_of, TreeData, Chain, Explains, no_calls, trace_of, Prog, Ret, Do, Did, Waits, Ran, Stops, Event, Start, Step, Run, State, Outcome, Started, Refused, WasIdle, DidWait, DidRun, DidEnd, DidStop, WasStopped, fresh, makes, next, run, Deed, Move, Stage, MoveStep, History, starts, passes, Free, finishes, moves_on}
 use Rattle.tree_laws.specs.Runs as runs
-use Rattle.tree_laws.specs.Runs.{finishes, moves_on}
 use Rattle.inode_machine.specs.Marks.{made_by}
-use Rattle.inode_machine.specs.MoveCalls.{MoveMachine, NoneClimbs, RunsFrom, shows, theory_of}
+use Rattle.inode_machine.specs.Basics.{MoveMachine, NoneClimbs, RunsFrom, shows, theory_of}
 
 -- ---- beside a run of the theory
 

@@ -1,3 +1,5 @@
+pub mod Basics
+pub mod Vocabulary
 pub mod Inodes
 pub mod World
 pub mod Exec

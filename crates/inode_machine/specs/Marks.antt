@@ -1,20 +1,8 @@
 -- What an operation's mark makes of the tree, and which steps are placed.
 use Rattle.std.specs.Prelude.{ℕ, ◌+◌, Bool, true, false, ◌&&◌, List, [], ◌∷◌, if◌then◌else◌, Option, Some, None}
-use Rattle.plain_tree.specs.declared.answer.Cause.{Cause}
-use Rattle.plain_tree.specs.declared.step.Action.{Action}
-use Rattle.plain_tree.specs.declared.step.Action.TheVariants.{Open, Truncate, Read, WritePart, Find, Bump, Enter, Unbump, Unlink, Mkdir, Chdir, Dup, Close, Fstat, Inherit}
-use Rattle.plain_tree.specs.declared.step.StepAnswer.{StepAnswer}
-use Rattle.plain_tree.specs.declared.step.StepAnswer.TheVariants.{Opened, Bytes, Stat as Status, Fd as NewFd, Done, Failed, Full as NoRoom}
-use Rattle.plain_tree.specs.declared.tree.Hold.{Hold}
-use Rattle.plain_tree.specs.Tree.{Name, Tree, put, elements, look, start_of, resolve, parent}
-use Rattle.plain_tree.specs.Steps.{path_of, refusal, refusal_with, effect_with, answer_with, makes_node, opens_one, lowest, closed, drop_hold}
-use Rattle.atomic_programs.specs.Prog.{Did, Waits, Ran, Stops}
-use Rattle.inode_machine.specs.Inodes.{sort_of}
-use Rattle.tree_laws.specs.Moves.{Walk, fail, Deed, Move, Step}
-use Rattle.tree_laws.specs.Moves.Move.{Begin, Look, Quit, Own}
-use Rattle.inode_machine.specs.World.{Desk, World, Op, Answer, Outside, Mark}
+use Rattle.inode_machine.specs.Vocabulary.{Cause, Action, OpenStep as Open, Truncate, ReadStep as Read, WritePart, Find, Bump, Enter, Unbump, UnlinkStep as Unlink, MkdirStep as Mkdir, ChdirStep as Chdir, DupStep as Dup, CloseStep as Close, FstatStep as Fstat, InheritStep as Inherit, StepAnswer, Opened, Bytes, Status, NewFd, Done, Failed, NoRoom, Hold, Name, Tree, put, elements, look, start_of, resolve, parent, path_of, refusal, refusal_with, effect_with, answer_with, makes_node, opens_one, lowest, closed, drop_hold, Did, Waits, Ran, Stops, Walk, fail, Deed, Move, MoveStep as Step, Begin, Look, Quit, Own}
+use Rattle.inode_machine.specs.Basics.{sort_of, Desk, World, Op, Answer, Outside, Mark, is_nothing, first_from, or_zero, with_walk, exec}
 use Rattle.inode_machine.specs.World.Mark.{Makes, Frees, Orphans, Fills, Mends, Spoils}
-use Rattle.inode_machine.specs.Exec.{is_nothing, first_from, or_zero, with_walk, exec}
 
 -- The step acts, or is refused; a tree that isn't settled stays so.
 

@@ -1,20 +1,7 @@
 -- Calls whose steps are moves on the tree, over any machine: what their events show of calls, and that one list of tree steps explains
 -- them.
 use Rattle.std.specs.Prelude.{◌≡◌, ◌⊎◌, ℕ, ◌<◌, Bool, false, List, [], ◌∷◌, Option, None}
-use Rattle.plain_tree.specs.declared.answer.Reply.{Reply}
-use Rattle.plain_tree.specs.declared.call.Call.{Call}
-use Rattle.plain_tree.specs.declared.trace.Placed.{Placed}
-use Rattle.plain_tree.specs.TreeData.{TreeData}
-use Rattle.plain_tree.specs.Tree.{tree_of}
-use Rattle.plain_tree.specs.Calls.{call_climbs}
-use Rattle.plain_tree.specs.Explains.{Shown, Chain, Explains, trace_of}
-use Rattle.plain_tree.specs.Explains.Shown.{Started as Begun, Replied, Other}
-use Rattle.plain_tree.specs.Widths.{hart_count}
-use Rattle.tree_laws.specs.WellFormed.{IsWellFormed}
-use Rattle.atomic_programs.specs.Prog.{Prog, Did}
-use Rattle.atomic_programs.specs.Logic.{Machine}
-use Rattle.atomic_programs.specs.Calls.{Theory, Began, Begins, Lawful, Event, Start, Step, Outcome, Started, Refused, WasIdle, DidWait, DidRun, DidEnd, DidStop, WasStopped, State, AllHonest, fresh, makes, next, run}
-use Rattle.tree_laws.specs.Moves.{Stage, Step as MoveStep, Takes, IsWholeCall}
+use Rattle.inode_machine.specs.Vocabulary.{Reply, Call, Placed, TreeData, tree_of, call_climbs, Shown, Chain, Explains, trace_of, Begun, Replied, Other, hart_count, IsWellFormed, Prog, Did, Machine, Theory, Began, Begins, Lawful, Event, Start, Step, Outcome, Started, Refused, WasIdle, DidWait, DidRun, DidEnd, DidStop, WasStopped, State, AllHonest, fresh, makes, next, run, Stage, MoveStep, Takes, IsWholeCall}
 
 -- a machine whose steps are moves of a call on the tree, and calls over it
 pub record MoveMachine : Type 1 where

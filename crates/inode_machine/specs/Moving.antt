@@ -1,16 +1,10 @@
 -- The programs of chdir and inherit.
 use Rattle.std.specs.Prelude.{ℕ, zero, suc, ◌+◌, true, false, List, [], Option, None, if◌then◌else◌}
-use Rattle.plain_tree.specs.declared.answer.Cause.TheVariants.{NotDirectory}
-use Rattle.plain_tree.specs.declared.answer.Reply.{Reply}
+use Rattle.inode_machine.specs.Vocabulary.{NotDirectory, Reply, elements, descriptor_count, Ret, Do, unmarked}
 use Rattle.plain_tree.specs.declared.call.Call.TheVariants as calls
 use Rattle.plain_tree.specs.declared.step.Action.TheVariants as steps
-use Rattle.plain_tree.specs.Tree.{elements}
-use Rattle.plain_tree.specs.Widths.{descriptor_count}
-use Rattle.atomic_programs.specs.Prog.{Ret, Do, unmarked}
-use Rattle.inode_machine.specs.Inodes.{AtNothing, is_directory_face}
-use Rattle.inode_machine.specs.World.{Mark, LoanResult, Lent, Moved}
+use Rattle.inode_machine.specs.Basics.{AtNothing, is_directory_face, Mark, LoanResult, Lent, Moved, P, own_step, failed, done, drop, give_up, tail, stopped, walk, start}
 use Rattle.inode_machine.specs.World.Op.{Take, Settle, Lend, LendDirectory, Release, Join, Leave}
-use Rattle.inode_machine.specs.Parts.{P, own_step, failed, done, drop, give_up, tail, stopped, walk, start}
 
 -- chdir: the new directory first, then the old one's reference is dropped
 

@@ -1,22 +1,11 @@
 -- The programs of link, unlink and mkdir.
 use Rattle.std.specs.Prelude.{ℕ, ◌+◌, ◌-◌, Bool, true, false, ◌||◌, not, List, [], ◌∷◌, ◌==◌, nat_lt, Option, Some, None, if◌then◌else◌}
-use Rattle.plain_tree.specs.declared.answer.Cause.{Cause}
-use Rattle.plain_tree.specs.declared.answer.Cause.TheVariants.{NoEntry, Exists, IsDirectory, NotEmpty, DotName, TooManyLinks}
-use Rattle.plain_tree.specs.declared.answer.Full.TheVariants.{MemInodes, Blocks, DiskInodes, Directory}
-use Rattle.plain_tree.specs.declared.answer.Reply.{Reply}
-use Rattle.plain_tree.specs.declared.call.Call.{Call}
+use Rattle.inode_machine.specs.Vocabulary.{Cause, NoEntry, Exists, IsDirectory, NotEmpty, DotName, TooManyLinks, MemInodes, Blocks, DiskInodes, DirectorySlots as Directory, Reply, Call, Action, Name, elements, same_name, dot, dotdot, count_limit, Do, unmarked, Begin, Look}
 use Rattle.plain_tree.specs.declared.call.Call.TheVariants as calls
-use Rattle.plain_tree.specs.declared.step.Action.{Action}
 use Rattle.plain_tree.specs.declared.step.Action.TheVariants as steps
-use Rattle.plain_tree.specs.Tree.{Name, elements, same_name, dot, dotdot}
-use Rattle.plain_tree.specs.Widths.{count_limit}
-use Rattle.atomic_programs.specs.Prog.{Do, unmarked}
-use Rattle.inode_machine.specs.Inodes.{OfDirectory, Face, face_or, Sight, AtNothing, AtName, AtEntries, is_directory_sort, is_live_face}
-use Rattle.tree_laws.specs.Moves.Move.{Begin, Look}
-use Rattle.inode_machine.specs.World.{Mark, ClaimResult, New, NoInode, NoPlace, EntryResult, InPlace, NoBlock, NoSlot}
+use Rattle.inode_machine.specs.Basics.{OfDirectory, Face, face_or, Sight, AtNothing, AtName, AtEntries, is_directory_sort, is_live_face, Mark, ClaimResult, New, NoInode, NoPlace, EntryResult, InPlace, NoBlock, NoSlot, P, makes, own_step, mends_if_full, failed, full, done, drop, give_up, tail, stopped, walk, walk_parent, start, looks_if, looks_where, is_there}
 use Rattle.inode_machine.specs.World.Op.{Take, Give, Up, Forget, Claim, Store, Fill, Enter, Clear, Join}
 use Rattle.inode_machine.specs.World.Mark.{Mends}
-use Rattle.inode_machine.specs.Parts.{P, makes, own_step, mends_if_full, failed, full, done, drop, give_up, tail, stopped, walk, walk_parent, start, looks_if, looks_where, is_there}
 use Rattle.inode_machine.specs.Opening.{entered_file, unmake, mends_unless_new}
 
 -- no room was found for a name

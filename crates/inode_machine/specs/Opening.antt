@@ -1,22 +1,12 @@
 -- The program of open.
 use Rattle.std.specs.Prelude.{ℕ, Bool, ◌&&◌, ◌||◌, not, List, [], ◌∷◌, ◌==◌, Option, Some, None, if◌then◌else◌}
 use Rattle.plain_tree.specs.declared.answer.Answer.TheVariants as answers
-use Rattle.plain_tree.specs.declared.answer.Cause.{Cause}
-use Rattle.plain_tree.specs.declared.answer.Cause.TheVariants.{NoEntry}
-use Rattle.plain_tree.specs.declared.answer.Full.TheVariants.{MemInodes, OpenFiles, Descriptors, Blocks, DiskInodes, Directory}
-use Rattle.plain_tree.specs.declared.answer.Reply.{Reply}
+use Rattle.inode_machine.specs.Vocabulary.{Cause, NoEntry, MemInodes, OpenFiles, Descriptors, Blocks, DiskInodes, DirectorySlots as Directory, Reply, OpenFile, Name, elements, has, write_only, read_write, empty_it, creates, Do, unmarked, Begin, Look}
 use Rattle.plain_tree.specs.declared.call.Call.TheVariants as calls
 use Rattle.plain_tree.specs.declared.step.Action.TheVariants as steps
-use Rattle.plain_tree.specs.declared.tree.OpenFile.{OpenFile}
-use Rattle.plain_tree.specs.Tree.{Name, elements}
-use Rattle.plain_tree.specs.Steps.{has, write_only, read_write, empty_it, creates}
-use Rattle.atomic_programs.specs.Prog.{Do, unmarked}
-use Rattle.inode_machine.specs.Inodes.{Sort, OfFile, face_or, AtNothing, AtName, is_file_sort, is_live_face, open_refusal}
-use Rattle.tree_laws.specs.Moves.Move.{Begin, Look}
-use Rattle.inode_machine.specs.World.{Mark, ClaimResult, New, NoInode, NoPlace, EntryResult, InPlace, NoBlock, NoSlot}
+use Rattle.inode_machine.specs.Basics.{Sort, OfFile, face_or, AtNothing, AtName, is_file_sort, is_live_face, open_refusal, Mark, ClaimResult, New, NoInode, NoPlace, EntryResult, InPlace, NoBlock, NoSlot, P, makes, own_step, mends_if_full, failed, full, drop, give_up, tail, stopped, walk, walk_parent, start, looks_where, is_there}
 use Rattle.inode_machine.specs.World.Op.{Take, Give, Up, Forget, Claim, Store, Enter, Empty, Slot, Install, Join}
 use Rattle.inode_machine.specs.World.Mark.{Mends, Orphans}
-use Rattle.inode_machine.specs.Parts.{P, makes, own_step, mends_if_full, failed, full, drop, give_up, tail, stopped, walk, walk_parent, start, looks_where, is_there}
 
 -- an open file at its beginning
 abbrev pub file_for : ℕ → ℕ → OpenFile

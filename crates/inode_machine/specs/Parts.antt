@@ -1,18 +1,8 @@
 -- Programs that calls are made of: a reference is dropped, a call ends, a path is walked.
 use Rattle.std.specs.Prelude.{ℕ, Bool, true, false, List, [], ◌∷◌, ◌++◌, Option, Some, None, if◌then◌else◌}
 use Rattle.plain_tree.specs.declared.answer.Answer.TheVariants as answers
-use Rattle.plain_tree.specs.declared.answer.Cause.{Cause}
-use Rattle.plain_tree.specs.declared.answer.Cause.TheVariants.{NoEntry}
-use Rattle.plain_tree.specs.declared.answer.Full.{Full}
-use Rattle.plain_tree.specs.declared.answer.Full.TheVariants.{MemInodes}
-use Rattle.plain_tree.specs.declared.answer.Reply.{Reply}
-use Rattle.plain_tree.specs.declared.call.Call.{Call}
-use Rattle.plain_tree.specs.declared.step.Action.{Action}
-use Rattle.plain_tree.specs.Tree.{Name, is_absolute}
-use Rattle.atomic_programs.specs.Prog.{Prog, Ret, Do, unmarked}
+use Rattle.inode_machine.specs.Vocabulary.{Cause, NoEntry, Full, MemInodes, Reply, Call, Action, Name, is_absolute, Prog, Ret, Do, unmarked, Move, Begin, Look, Quit, Own}
 use Rattle.inode_machine.specs.Inodes.{Sight, AtNothing, AtName, is_live_face, is_directory_face}
-use Rattle.tree_laws.specs.Moves.{Move}
-use Rattle.tree_laws.specs.Moves.Move.{Begin, Look, Quit, Own}
 use Rattle.inode_machine.specs.World.{Op, Answer, Mark}
 use Rattle.inode_machine.specs.World.Op.{Take, Give, UpStart, Up, WalkDown, Down, Free, Forget, Join, Leave, Say}
 use Rattle.inode_machine.specs.World.Mark.{Makes, Frees, Mends}

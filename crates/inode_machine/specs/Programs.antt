@@ -1,11 +1,7 @@
 -- Each call's program, and how long it is at most.
 use Rattle.std.specs.Prelude.{ℕ, ◌+◌, ◌*◌, List, length}
-use Rattle.plain_tree.specs.declared.answer.Reply.{Reply}
-use Rattle.plain_tree.specs.declared.call.Call.{Call}
-use Rattle.plain_tree.specs.declared.call.Call.TheVariants.{Open, Read, Write, Link, Unlink, Mkdir, Chdir, Dup, Fstat, Close, Inherit}
-use Rattle.plain_tree.specs.Tree.{elements}
-use Rattle.plain_tree.specs.Calls.{piece_count}
-use Rattle.inode_machine.specs.Parts.{P}
+use Rattle.inode_machine.specs.Vocabulary.{Reply, Call, Open, Read, Write, Link, Unlink, Mkdir, Chdir, Dup, Fstat, Close, Inherit, elements, piece_count}
+use Rattle.inode_machine.specs.Basics.{P}
 use Rattle.inode_machine.specs.Descriptors.{dup_program, close_program, stat_program, read_program, write_program}
 use Rattle.inode_machine.specs.Opening.{open_program}
 use Rattle.inode_machine.specs.Naming.{link_program, unlink_program, mkdir_program}

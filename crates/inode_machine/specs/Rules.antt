@@ -1,22 +1,10 @@
 -- What a hart has, what always holds, and the machine.
 use Rattle.std.specs.Prelude.{◌≡◌, ◌≢◌, ◌⊎◌, ℕ, zero, suc, ◌+◌, ◌<◌, ◌≤◌, Bool, true, false, ◌||◌, List, [], ◌∷◌, length, ◌==◌, nat_lt, if◌then◌else◌, Option, Some, None, IsSome}
-use Rattle.plain_tree.specs.declared.node.Node.{Node}
-use Rattle.plain_tree.specs.declared.tree.OpenFile.{OpenFile}
-use Rattle.plain_tree.specs.declared.node.Kind.TheVariants.{Directory}
-use Rattle.plain_tree.specs.Widths.{hart_count, descriptor_count, name_len, piece_len, count_limit}
-use Rattle.plain_tree.specs.Steps.{is_file, no_driver, holds_raised}
-use Rattle.plain_tree.specs.Tree.{Name, hold_names, is_directory, is_live, look}
-use Rattle.plain_tree.specs.HartRow.{Key, Row, row_of, key_names}
-use Rattle.tree_laws.specs.WellFormed.{sum_below, one_if, IsWellFormed}
-use Rattle.tree_laws.specs.Moves.{Walk}
-use Rattle.atomic_programs.specs.Logic.{Machine}
-use Rattle.tree_laws.specs.Moves.{Stage, Step, Takes}
-use Rattle.inode_machine.specs.Inodes.{OfDirectory, sort_of, Query}
+use Rattle.inode_machine.specs.Vocabulary.{Node, OpenFile, Directory, hart_count, descriptor_count, name_len, piece_len, count_limit, is_file, no_driver, holds_raised, Name, hold_names, is_directory, is_live, look, Key, Row, row_of, key_names, sum_below, one_if, IsWellFormed, Walk, Machine, Stage, MoveStep as Step, Takes}
+use Rattle.inode_machine.specs.Basics.{OfDirectory, sort_of, Query, Mine, Entry, Note, Desk, World, Op, Answer, Mark, Outside, stage_of, file_count, is_at, is_free, place_count, referenced, entry_of, offset_of, read_refused, next_used, child_of, given_of}
 use Rattle.inode_machine.specs.Inodes.Query.{AtNothing, AtName, AtEntries}
-use Rattle.inode_machine.specs.World.{Mine, Entry, Note, Desk, World, Op, Answer, Mark, Outside, stage_of}
 use Rattle.inode_machine.specs.World.Op.{Take, Give, UpStart, Up, WalkDown, Down, Free, Forget, Claim, Store, Fill, Enter, Clear, Empty, Slot, Install, StatFile, LockFile, ReadFile, CheckFile, JoinFile, LockOpen, WriteFile, Double, Shut, Settle, Lend, LendDirectory, Release, Join, Leave, Say}
 use Rattle.inode_machine.specs.World.Outside.{Room, RoomFor, Picks}
-use Rattle.inode_machine.specs.Exec.{file_count, is_at, is_free, place_count, referenced, entry_of, offset_of, read_refused, next_used, child_of, given_of}
 use Rattle.inode_machine.specs.Marks.{go, places}
 
 -- all that is an inode's

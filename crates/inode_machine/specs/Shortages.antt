@@ -1,23 +1,9 @@
 -- Runs that fill a table, from a fresh tree: that of open files, and the places for inodes in memory.
 use Rattle.std.specs.Prelude.{◌≡◌, ℕ, zero, suc, ◌+◌, ◌*◌, true, false, List, [], ◌∷◌, ◌++◌, length, Option, Some, None, codes}
-use Rattle.plain_tree.specs.declared.answer.Full.TheVariants.{MemInodes, OpenFiles}
+use Rattle.inode_machine.specs.Vocabulary.{MemInodes, OpenFiles, Reply, Call, Node, Kind, Directory, File, Device, OpenFile, tree_of, entries, fresh_tree, hart_count, descriptor_count, one_if, Event, State, fresh, run}
 use Rattle.plain_tree.specs.declared.answer.NodeType.TheVariants as types
-use Rattle.plain_tree.specs.declared.answer.Reply.{Reply}
-use Rattle.plain_tree.specs.declared.call.Call.{Call}
 use Rattle.plain_tree.specs.declared.call.Call.TheVariants as calls
-use Rattle.plain_tree.specs.declared.node.Node.{Node}
-use Rattle.plain_tree.specs.declared.node.Kind.{Kind}
-use Rattle.plain_tree.specs.declared.node.Kind.TheVariants.{Directory, File, Device}
-use Rattle.plain_tree.specs.declared.tree.OpenFile.{OpenFile}
-use Rattle.plain_tree.specs.Tree.{tree_of}
-use Rattle.plain_tree.specs.Steps.{entries}
-use Rattle.plain_tree.specs.Fresh.{fresh as fresh_tree}
-use Rattle.plain_tree.specs.Widths.{hart_count, descriptor_count}
-use Rattle.tree_laws.specs.WellFormed.{one_if}
-use Rattle.atomic_programs.specs.Calls.{Event, State, fresh, run}
-use Rattle.inode_machine.specs.World.{Entry, World, Outside}
-use Rattle.inode_machine.specs.Exec.{file_count}
-use Rattle.inode_machine.specs.Parts.{full}
+use Rattle.inode_machine.specs.Basics.{Entry, World, Outside, file_count, full}
 use Rattle.inode_machine.specs.Theory.{at_rest, covered_calls}
 use Rattle.inode_machine.specs.Examples.{first, makes, replies, done, open_root, make_a, made_a}
 use Rattle.inode_machine.specs.Stories.{opened, counted, stat_is, stat, creates_as, mkdir}

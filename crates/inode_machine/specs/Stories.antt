@@ -1,15 +1,10 @@
 -- Runs in which two harts meet, event by event, from a fresh tree.
 use Rattle.std.specs.Prelude.{ℕ, List, [], ◌∷◌, ◌++◌, codes}
 use Rattle.plain_tree.specs.declared.answer.Answer.TheVariants as answers
-use Rattle.plain_tree.specs.declared.answer.Cause.{Cause}
-use Rattle.plain_tree.specs.declared.answer.Cause.TheVariants.{NoEntry, Exists}
-use Rattle.plain_tree.specs.declared.answer.NodeType.{NodeType}
+use Rattle.inode_machine.specs.Vocabulary.{Cause, NoEntry, Exists, NodeType, Reply, Call, Event, Step}
 use Rattle.plain_tree.specs.declared.answer.NodeType.TheVariants as types
-use Rattle.plain_tree.specs.declared.answer.Reply.{Reply}
-use Rattle.plain_tree.specs.declared.call.Call.{Call}
 use Rattle.plain_tree.specs.declared.call.Call.TheVariants as calls
-use Rattle.atomic_programs.specs.Calls.{Event, Step}
-use Rattle.inode_machine.specs.World.{Outside, Picks}
+use Rattle.inode_machine.specs.Basics.{Outside, Picks}
 use Rattle.inode_machine.specs.Examples.{steps, makes, done, Finishes}
 
 abbrev pub failed : Call → Cause → Reply

@@ -1,19 +1,7 @@
 -- The calls that are shown right, as a theory: what every list of events makes of them.
 use Rattle.std.specs.Prelude.{◌≡◌, ◌≢◌, ◌⊎◌, ◌+◌, Option, Some, ℕ, Bool, true, false, ◌&&◌, ◌||◌, not, nat_lt, ◌==◌, List, [], ◌∷◌, length, if◌then◌else◌, None}
-use Rattle.plain_tree.specs.declared.answer.Reply.{Reply}
-use Rattle.plain_tree.specs.declared.call.Call.{Call}
-use Rattle.plain_tree.specs.declared.call.Call.TheVariants.{Open, Read, Write, Link, Unlink, Mkdir, Chdir, Dup, Fstat, Close, Inherit}
-use Rattle.plain_tree.specs.Tree.{Tree, put, any_below}
-use Rattle.plain_tree.specs.Widths.{hart_count, descriptor_count}
-use Rattle.tree_laws.specs.WellFormed.{one_if, sum_below, IsWellFormed}
-use Rattle.atomic_programs.specs.Calls.{Theory, Began, Refuses, Begins, Event, AllHonest, run, fresh}
-use Rattle.atomic_programs.specs.Explained.{IsExplained}
-use Rattle.tree_laws.specs.Moves.{IsWholeCall}
-use Rattle.inode_machine.specs.World.{Mine, Desk, World, Outside, stage_of}
-use Rattle.plain_tree.specs.declared.tree.OpenFile.{OpenFile}
-use Rattle.plain_tree.specs.declared.node.Node.{Node}
-use Rattle.inode_machine.specs.Inodes.{Sort, OfDirectory, sort_of_kind}
-use Rattle.inode_machine.specs.Exec.{is_nothing, serving}
+use Rattle.inode_machine.specs.Vocabulary.{Reply, Call, Open, Read, Write, Link, Unlink, Mkdir, Chdir, Dup, Fstat, Close, Inherit, Tree, put, any_below, hart_count, descriptor_count, one_if, sum_below, IsWellFormed, Theory, Began, Refuses, Begins, Event, AllHonest, run, fresh, IsExplained, IsWholeCall, OpenFile, Node}
+use Rattle.inode_machine.specs.Basics.{Mine, Desk, World, Outside, stage_of, Sort, OfDirectory, sort_of_kind, is_nothing, serving}
 use Rattle.inode_machine.specs.Rules.{Inv, Idle, machine, asked_limit}
 use Rattle.inode_machine.specs.Programs.{program, limit}
 

@@ -1,12 +1,7 @@
 -- The machine of whole inodes: its state, and its operations.
 use Rattle.std.specs.Prelude.{ℕ, Bool, List, Option}
-use Rattle.plain_tree.specs.declared.node.Node.{Node}
-use Rattle.plain_tree.specs.declared.answer.Cause.{Cause}
-use Rattle.plain_tree.specs.declared.step.Action.{Action}
-use Rattle.plain_tree.specs.Tree.{Name, Tree, settle}
-use Rattle.plain_tree.specs.declared.tree.OpenFile.{OpenFile}
+use Rattle.inode_machine.specs.Vocabulary.{Node, Cause, Action, Name, Tree, settle, OpenFile, Walk, Stage, Move}
 use Rattle.inode_machine.specs.Inodes.{Sort, Face, Query, Sight}
-use Rattle.tree_laws.specs.Moves.{Walk, Stage, Move}
 
 -- a hart's references, counted for it, and its walk
 pub record Mine : Type 0 where

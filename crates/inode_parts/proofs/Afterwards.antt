@@ -1,11 +1,8 @@
 -- Programs one after the other, without marks.
-use Rattle.std.proofs.Common.{◌≡◌, ℕ, Option, Some, ◌∙◌}
-use Rattle.fs_layout.specs.declared.inode.Dinode.{Dinode}
-use Rattle.atomic_programs.specs.Prog.{Ret, Do, asks, bind, plain}
-use Rattle.atomic_programs.proofs.Prog.{plain-bind}
+use Rattle.inode_parts.proofs.Vocabulary.{◌≡◌, ℕ, Option, Some, ◌∙◌, Dinode, Ret, Do, bind, plain, plain-bind, load_unless}
+use Rattle.atomic_programs.specs.Prog.{asks}
 use Rattle.fs_machine.specs.Machines as code
 use Rattle.fs_machine.specs.Steps as steps
-use Rattle.inode_table.specs.Programs.{load_unless}
 use Rattle.inodes_on_blocks.specs.Handlers.{P}
 use Rattle.inode_parts.proofs.Plain.{plain_load}
 

@@ -1,26 +1,5 @@
 -- Operations that change an inode: each stays amid until it leaves what it says.
-use Rattle.std.proofs.Common.{◌≡◌, ℕ, Option, Some, None, refl, sym, ap, subst, ◌∙◌}
-use Rattle.std.specs.Prelude.{IsSome}
-use Rattle.std.specs.Option.{MatchOption, option_map}
-use Rattle.sleep_lock.specs.SleepLock.{GuardState}
-use Rattle.fs_layout.specs.declared.inode.Dinode.{Dinode}
-use Rattle.fs_machine.specs.declared.entries.Inode.{Inode}
-use Rattle.fs_machine.specs.declared.hand.Hand.{Hand}
-use Rattle.fs_machine.specs.declared.hand.Place.{Place}
-use Rattle.fs_machine.specs.declared.hand.Place.TheVariants.{First, Second}
-use Rattle.fs_machine.specs.declared.hand.Seat.{Seat}
-use Rattle.fs_machine.specs.declared.hand.Seat.TheVariants.{One, Two}
-use Rattle.fs_machine.specs.Hands.{inode_at, recorded, with_buffer, with_record}
-use Rattle.inode_data.specs.Emptying.{HasNoBuffer}
-use Rattle.inode_table.specs.HeldInodes.{unloaded, without_content, IsLoadedAt}
-use Rattle.inode_data.specs.InHand.{beside_buffers}
-use Rattle.inode_parts.specs.Carries.{note_at, with_note}
-use Rattle.inode_parts.specs.Changes.{beside_inode, IsAmid}
-use Rattle.inode_parts.specs.Holding.{Changed, Reloaded, StandBeside}
-use Rattle.inode_parts.specs.Leaving.{having}
-use Rattle.inode_parts.specs.OneSteps.{other}
-use Rattle.inode_parts.specs.declared.note.Note.{Note}
-use Rattle.inode_parts.specs.declared.note.Notes.{Notes}
+use Rattle.inode_parts.proofs.Vocabulary.{◌≡◌, ℕ, Option, Some, None, refl, sym, ap, subst, ◌∙◌, IsSome, MatchOption, option_map, GuardState, Dinode, Inode, Hand, Place, First, Second, Seat, One, Two, inode_at, recorded, with_buffer, with_record, HasNoBuffer, unloaded, without_content, IsLoadedAt, beside_buffers, note_at, with_note, beside_inode, IsAmid, Changed, Reloaded, StandBeside, having, other, Note, Notes}
 
 -- ---- beside the inode at a seat nothing changes
 

@@ -1,25 +1,6 @@
 -- What is asked of the hand on a disk of these sizes.
-use Rattle.std.proofs.Common.{arith, ◌≡◌, ◌⊎◌, inl, inr, ℕ, subst}
-use Rattle.std.specs.Prelude.{◌<◌, ◌-◌, ◌^◌, IsSome}
-use Rattle.fs_layout.specs.declared.superblock.Super.{Super}
-use Rattle.inode_table.specs.Programs.{inode_block}
-use Rattle.fs_machine.specs.declared.hand.Hand.{Hand}
-use Rattle.fs_machine.specs.Hands.{inode_at}
-use Rattle.inode_data.specs.Emptying.{HasNoBuffer}
-use Rattle.inode_table.specs.HeldInodes.{number_in}
-use Rattle.inode_machine.specs.Inodes.{AtNothing, Query}
-use Rattle.inode_parts.specs.Changes.{MayChange}
-use Rattle.inode_parts.specs.Claims.{ClaimBegins}
-use Rattle.inode_parts.specs.Expecting.{HasChangeable, HasOpened, MayLock, MayOpen}
-use Rattle.inode_parts.specs.FileLocks.{LockBegins}
-use Rattle.inode_parts.specs.FileWrites.{WriteBegins}
-use Rattle.inode_parts.specs.Frees.{FreeBegins}
-use Rattle.inode_parts.specs.Holding.{Having}
-use Rattle.inode_parts.specs.OneSteps.{HasFreeSeat, HasLock, seat_of_lock}
-use Rattle.inode_parts.specs.Relocks.{MayRelock, RelockBegins}
-use Rattle.inode_parts.specs.Sizes.{IsSized}
-use Rattle.inode_parts.specs.Takes.{TakeBegins}
-use Rattle.inode_parts.proofs.Begins.{locked_there}
+use Rattle.inode_parts.proofs.Vocabulary.{arith, ◌≡◌, ◌⊎◌, inl, inr, ℕ, subst, ◌<◌, ◌-◌, ◌^◌, IsSome, Super, inode_block, Hand, inode_at, HasNoBuffer, number_in, AtNothing, Query, MayChange, ClaimBegins, HasChangeable, HasOpened, MayLock, MayOpen, LockBegins, WriteBegins, FreeBegins, Having, HasFreeSeat, HasLock, seat_of_lock, MayRelock, RelockBegins, IsSized, TakeBegins}
+use Rattle.inode_parts.proofs.Basics.{locked_there}
 
 module _ (sizes : Super) (sized : IsSized sizes) where
   block_fits : (n : ℕ) → n < 2 ^ 32 → inode_block sizes.inodestart n < 2 ^ 32

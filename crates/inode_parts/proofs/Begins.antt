@@ -1,48 +1,14 @@
 -- What an operation on whole inodes is below, where it is one operation.
-use Rattle.std.proofs.Common.{◌≡◌, ◌≢◌, ℕ, zero, suc, List, [], ◌++◌, Bool, true, false, Option, Some, None, refl, sym, ap, ◌∙◌, subst, inl, inr}
-use Rattle.std.proofs.lemmas.List.{append-nil}
-use Rattle.std.specs.Prelude.{if◌then◌else◌, is_some, IsSome}
-use Rattle.std.specs.Option.{MatchOption, option_map_or, unwrap_or}
-use Rattle.plain_tree.specs.Tree.{put}
-use Rattle.tree_laws.proofs.Maps.{eq_is}
-use Rattle.atomic_programs.specs.Prog.{Prog, Ret, Do, bind, plain, unmarked}
-use Rattle.sleep_lock.specs.SleepLock.{GuardState}
-use Rattle.fs_layout.specs.declared.inode.Dinode.{Dinode}
-use Rattle.fs_layout.specs.declared.superblock.Super.{Super}
-use Rattle.fs_machine.specs.declared.entries.Inode.{Inode}
-use Rattle.fs_machine.specs.declared.slots.Given.{Given}
+use Rattle.inode_parts.proofs.Vocabulary.{◌≡◌, ◌≢◌, ℕ, zero, suc, List, [], ◌++◌, Bool, true, false, Option, Some, None, refl, sym, ap, ◌∙◌, subst, inl, inr, append-nil, if◌then◌else◌, is_some, IsSome, MatchOption, option_map_or, unwrap_or, put, eq_is, Prog, Ret, Do, bind, plain, unmarked, GuardState, Dinode, Super, Inode, Given, Left, Commits, holding, P, after_leave, commit_unless, commits, most_writes, Hand, Seat, One, Two, inode_at, inode_in, no_inode, number_at, reference_at, new_file, Acts, joining_to, lent_to, with_dying, is_listed, is_dying, Carry, Had, Apart, record_had, joined_in, loan_in, op_in, Ask, Element, BeginsWith, carry_in, had_at, had_of, IsPart, Part, one, Begins, HasReference, IsAlone, MayRefer, StepReady, free_seat, joining_heard, loan_heard, locks, seat_of_lock, seat_of_reference, still, having, ends_with, is_short, part_for, part_left, PartReady, one_or_leave, PartTold, FillsAs, Note, Notes, OneStep}
 use Rattle.fs_machine.specs.declared.slots.Given.TheVariants as given
-use Rattle.group_log.specs.declared.log.Left.{Left}
-use Rattle.group_log.specs.declared.log.Left.TheVariants.{Free, Commits}
-use Rattle.atomic_programs.specs.Joined.{holding}
+use Rattle.group_log.specs.declared.log.Left.TheVariants.{Free}
 use Rattle.fs_machine.specs.Steps as steps
-use Rattle.fs_machine.specs.Machines.{P}
-use Rattle.fs_machine.specs.Programs.{after_leave, commit_unless, commits, most_writes}
-use Rattle.fs_machine.specs.declared.hand.Hand.{Hand}
-use Rattle.fs_machine.specs.declared.hand.Seat.{Seat}
-use Rattle.fs_machine.specs.declared.hand.Seat.TheVariants.{One, Two}
-use Rattle.fs_machine.specs.Hands.{inode_at, inode_in, no_inode, number_at, reference_at}
 use Rattle.inode_machine.specs.World as above
-use Rattle.inodes_on_blocks.specs.ShownTables.{new_file}
-use Rattle.inodes_on_blocks.specs.Handlers.{Acts, joining_to, lent_to, with_dying, is_listed, is_dying}
-use Rattle.inodes_on_blocks.specs.Lowering.{Carry, Had, Apart, record_had}
-use Rattle.path_walk.specs.Asks.{joined_in, loan_in, op_in}
-use Rattle.path_walk.specs.declared.asks.Ask.{Ask}
 use Rattle.path_walk.specs.declared.asks.Ask.TheVariants as ask
-use Rattle.path_walk.specs.declared.elements.Element.{Element}
 use Rattle.path_walk.specs.declared.asks.Query.{Query}
 use Rattle.path_walk.specs.declared.asks.Sort.{Sort}
 use Rattle.path_walk.specs.declared.asks.Heard.TheVariants as heard
-use Rattle.inode_parts.specs.Expecting.{BeginsWith}
-use Rattle.inode_parts.specs.Carries.{carry_in, had_at, had_of}
-use Rattle.inode_parts.specs.Parts.{IsPart, Part, one}
-use Rattle.inode_parts.specs.OneSteps.{Begins, HasReference, IsAlone, MayRefer, StepReady, free_seat, joining_heard, loan_heard, locks, seat_of_lock, seat_of_reference, still}
-use Rattle.inode_parts.specs.Leaving.{having}
-use Rattle.inode_parts.specs.InodeParts.{ends_with, is_short, part_for, part_left, PartReady, one_or_leave, PartTold, FillsAs}
-use Rattle.inode_parts.specs.declared.note.Note.{Note}
 use Rattle.inode_parts.specs.declared.note.Note.TheVariants as note
-use Rattle.inode_parts.specs.declared.note.Notes.{Notes}
-use Rattle.inode_parts.specs.declared.one_step.OneStep.{OneStep}
 use Rattle.inode_parts.specs.declared.one_step.OneStep.TheVariants as step
 use Rattle.inode_parts.specs.declared.part.InodePart.TheVariants as part
 

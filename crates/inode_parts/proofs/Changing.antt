@@ -1,30 +1,6 @@
 -- What is in hand after an inode was changed whose lock is in hand.
-use Rattle.std.proofs.Common.{◌≡◌, ℕ, List, Bool, true, false, Option, Some, None, refl, sym, ap, ◌∙◌, subst}
-use Rattle.std.specs.Prelude.{◌==◌, if◌then◌else◌, IsSome}
-use Rattle.std.specs.Option.{MatchOption, option_map, option_map_or}
-use Rattle.plain_tree.specs.Tree.{put}
-use Rattle.tree_laws.proofs.Maps.{eq_is}
-use Rattle.atomic_programs.specs.Prog.{Ret}
-use Rattle.sleep_lock.specs.SleepLock.{GuardState}
-use Rattle.fs_layout.specs.declared.inode.Dinode.{Dinode}
-use Rattle.fs_machine.specs.declared.entries.Inode.{Inode}
-use Rattle.inode_table.specs.Programs.{record_of}
-use Rattle.fs_machine.specs.declared.hand.Hand.{Hand}
-use Rattle.fs_machine.specs.declared.hand.Seat.{Seat}
-use Rattle.fs_machine.specs.declared.hand.Seat.TheVariants.{One, Two}
-use Rattle.fs_machine.specs.Controls.{bare, without_record}
-use Rattle.fs_machine.specs.Hands.{inode_at, no_inode, recorded, with_record}
-use Rattle.inode_data.specs.Emptying.{beside_emptying}
-use Rattle.inode_table.specs.HeldInodes.{record_in, without_content, IsLoadedAt}
-use Rattle.inode_data.specs.declared.truncate.Emptying.{Emptying}
-use Rattle.inode_data.specs.InHand.{beside_buffers}
-use Rattle.inodes_on_blocks.specs.Lowering.{NothingMore, Had, Apart, Has}
-use Rattle.path_walk.specs.declared.asks.Heard.{Heard}
-use Rattle.inode_parts.specs.Carries.{carry_in, had_at, with_note}
-use Rattle.inode_parts.specs.Changes.{changed}
-use Rattle.inode_parts.specs.OneSteps.{IsAlone, locks}
+use Rattle.inode_parts.proofs.Vocabulary.{◌≡◌, ℕ, List, Bool, true, false, Option, Some, None, refl, sym, ap, ◌∙◌, subst, ◌==◌, if◌then◌else◌, IsSome, MatchOption, option_map, option_map_or, put, eq_is, Ret, GuardState, Dinode, Inode, record_of, Hand, Seat, One, Two, bare, without_record, inode_at, no_inode, recorded, with_record, beside_emptying, record_in, without_content, IsLoadedAt, Emptying, beside_buffers, NothingMore, Had, Apart, Has, Heard, carry_in, had_at, with_note, changed, IsAlone, locks, Notes}
 use Rattle.inode_parts.specs.declared.note.Note.TheVariants as note
-use Rattle.inode_parts.specs.declared.note.Notes.{Notes}
 use Rattle.inode_parts.proofs.Handing.{elsewhere, still_in}
 
 -- a lock of inode n is one of those that equal it

@@ -1,44 +1,13 @@
 -- A new inode: the operation is its part.
-use Rattle.std.proofs.Common.{◌≡◌, ℕ, ℤ, zero, suc, ◌+◌, List, Option, Some, None, refl, sym, ap, ◌∙◌, subst}
-use Rattle.std.specs.Int.{w16, cast_signed, cast_unsigned}
-use Rattle.fs_layout.specs.declared.superblock.Super.{Super}
-use Rattle.atomic_programs.specs.Prog.{Ret, Do, bind, plain, unmarked}
-use Rattle.atomic_programs.specs.Joined.{Handover}
-use Rattle.atomic_programs.proofs.Prog.{bind-assoc}
+use Rattle.inode_parts.proofs.Vocabulary.{◌≡◌, ℕ, ℤ, zero, suc, ◌+◌, List, Option, Some, None, refl, sym, ap, ◌∙◌, subst, w16, cast_signed, cast_unsigned, Super, Ret, Do, bind, plain, unmarked, Handover, bind-assoc, fetch, free_in, inode_blocks, look_in, make_in, new_from, new_inode, Made, Goes, reference_at, with_reference, Hand, Seat, One, Two, beside_new, new_left, new_value, NewInode, goes_to, goes_with, OfDevice, OfDirectory, OfFile, Sort, Claim, kind_of, Carry, claim_at, claim_from, claim_in, claimed_in, claimed_of, Claimed, Heard, carry_in, handed, claim_ends, claimed_by, without_numbers, LeavesClaim, HasFreeSeat, free_seat, IsPart, Notes}
 use Rattle.fs_machine.specs.Machines as code
-use Rattle.fs_machine.specs.Programs.{fetch}
 use Rattle.fs_machine.specs.Steps as steps
-use Rattle.inode_table.specs.NewInodes.{free_in, inode_blocks, look_in, make_in, new_from, new_inode}
-use Rattle.inode_table.specs.declared.new_inode.Made.{Made}
-use Rattle.fs_machine.specs.Controls.{Goes}
-use Rattle.fs_machine.specs.Hands.{reference_at, with_reference}
-use Rattle.fs_machine.specs.declared.hand.Hand.{Hand}
-use Rattle.fs_machine.specs.declared.hand.Seat.{Seat}
-use Rattle.fs_machine.specs.declared.hand.Seat.TheVariants.{One, Two}
-use Rattle.inode_table.specs.Making.{beside_new, new_left, new_value}
 use Rattle.inode_table.specs.Making as making
 use Rattle.inode_table.specs.declared.new_inode.Made.TheVariants as searched
-use Rattle.inode_table.specs.declared.new_inode.NewInode.{NewInode}
-use Rattle.fs_machine.proofs.Goings.{goes_to, goes_with}
-use Rattle.inode_machine.specs.Inodes.{OfDevice, OfDirectory, OfFile, Sort}
 use Rattle.inode_machine.specs.World as above
-use Rattle.inode_machine.specs.World.Op.{Claim}
-use Rattle.inodes_on_blocks.specs.ShownTables.{kind_of}
-use Rattle.inodes_on_blocks.specs.Lowering.{Carry}
-use Rattle.inodes_on_blocks.specs.Making.{claim_at, claim_from, claim_in}
-use Rattle.path_walk.specs.Asks.{claimed_in, claimed_of}
-use Rattle.path_walk.specs.declared.asks.Claimed.{Claimed}
-use Rattle.path_walk.specs.declared.asks.Heard.{Heard}
 use Rattle.path_walk.specs.declared.asks.Heard.TheVariants as heard
-use Rattle.inode_parts.specs.Carries.{carry_in, handed}
-use Rattle.inode_parts.specs.Claims.{claim_ends, claimed_by}
-use Rattle.inode_parts.specs.Holding.{without_numbers, LeavesClaim}
-use Rattle.inode_parts.specs.OneSteps.{HasFreeSeat, free_seat}
-use Rattle.inode_parts.specs.Parts.{IsPart}
-use Rattle.inode_parts.specs.declared.note.Notes.{Notes}
+use Rattle.inode_parts.proofs.Basics.{still_in, plain_fetch}
 use Rattle.inode_parts.proofs.Afterwards.{then_plain}
-use Rattle.inode_parts.proofs.Handing.{still_in}
-use Rattle.inode_parts.proofs.Plain.{plain_fetch}
 
 -- what is answered above
 abbrev answers : Carry → Made → code.P (Handover above.ClaimResult Carry)

@@ -1,51 +1,11 @@
 -- A name cleared: it is a part, and goes on.
-use Rattle.std.proofs.Common.{◌≡◌, ℕ, ◌/◌, ◌%◌, Bool, true, false, if◌then◌else◌, List, Option, Some, None, refl, sym, ap, ◌∙◌, subst}
-use Rattle.std.specs.Prelude.{IsSome}
-use Rattle.std.specs.Option.{MatchOption, option_map_or}
-use Rattle.plain_tree.specs.Tree.{Name, put}
-use Rattle.sleep_lock.specs.SleepLock.{GuardState}
-use Rattle.fs_layout.specs.declared.entry.Dirent.TheVariants.{Free}
-use Rattle.fs_layout.specs.declared.inode.Dinode.{Dinode}
-use Rattle.fs_layout.specs.declared.superblock.Super.{Super}
-use Rattle.fs_layout.specs.Widths.{dirents_per_block}
-use Rattle.atomic_programs.specs.Prog.{Ret, Do, bind, plain, unmarked}
-use Rattle.atomic_programs.specs.Joined.{Handover}
-use Rattle.atomic_programs.proofs.Prog.{bind-assoc}
-use Rattle.fs_machine.specs.declared.entries.Inode.{Inode}
-use Rattle.fs_machine.specs.Machines.{P}
-use Rattle.fs_machine.specs.Programs.{fetch}
+use Rattle.inode_parts.proofs.Vocabulary.{◌≡◌, ℕ, ◌/◌, ◌%◌, Bool, true, false, if◌then◌else◌, List, Option, Some, None, refl, sym, ap, ◌∙◌, subst, IsSome, MatchOption, option_map_or, Name, put, GuardState, Free, Dinode, Super, dirents_per_block, Ret, Do, bind, plain, unmarked, Handover, bind-assoc, Inode, P, fetch, inode_block, record_of, store_inode, FetchedBlock, fetch_block, Named, give_record, put_dirent, put_entry, search, with_dirent, with_slot, Hand, Seat, One, Two, Goes, inode_at, inode_in, no_inode, IsLoadedAt, goes_with, clear_left, beside_buffers, NothingMore, Had, Apart, Carry, Has, record_had, clear_in, clear_slot, put_named, slot_found, slot_of, carry_in, had_at, had_of, note_at, changed, clear_part_left, slot_in, ClearBegins, HasFound, locks, seat_of_lock, IsPart, Part, Note, Notes, ClearPart}
 use Rattle.fs_machine.specs.Steps as steps
-use Rattle.inode_table.specs.Programs.{inode_block, record_of, store as store_inode}
-use Rattle.inode_data.specs.Programs.{FetchedBlock, fetch_block}
-use Rattle.directory.specs.Programs.{Named, give_record, put_dirent, put_entry, search, with_dirent, with_slot}
-use Rattle.fs_machine.specs.declared.hand.Hand.{Hand}
-use Rattle.fs_machine.specs.declared.hand.Seat.{Seat}
-use Rattle.fs_machine.specs.declared.hand.Seat.TheVariants.{One, Two}
-use Rattle.fs_machine.specs.Controls.{Goes}
-use Rattle.fs_machine.specs.Hands.{inode_at, inode_in, no_inode}
-use Rattle.inode_table.specs.HeldInodes.{IsLoadedAt}
-use Rattle.fs_machine.proofs.Goings.{goes_with}
-use Rattle.directory.specs.Clearing.{clear_left}
-use Rattle.inode_data.specs.InHand.{beside_buffers}
 use Rattle.inode_machine.specs.World as above
 use Rattle.inodes_on_blocks.specs.Handlers as handlers
-use Rattle.inodes_on_blocks.specs.Lowering.{NothingMore, Had, Apart, Carry, Has, record_had}
-use Rattle.inodes_on_blocks.specs.Naming.{clear_in, clear_slot, put_named, slot_found, slot_of}
 use Rattle.path_walk.specs.declared.asks.Heard.TheVariants as heard
-use Rattle.inode_parts.specs.Carries.{carry_in, had_at, had_of, note_at}
-use Rattle.inode_parts.specs.Changes.{changed}
-use Rattle.inode_parts.specs.Clears.{clear_part_left, slot_in, ClearBegins, HasFound}
-use Rattle.inode_parts.specs.OneSteps.{locks, seat_of_lock}
-use Rattle.inode_parts.specs.Parts.{IsPart, Part}
-use Rattle.inode_parts.specs.declared.note.Note.{Note}
 use Rattle.inode_parts.specs.declared.note.Note.TheVariants as note
-use Rattle.inode_parts.specs.declared.note.Notes.{Notes}
-use Rattle.inode_parts.specs.declared.clear_part.ClearPart.{ClearPart}
-use Rattle.inode_parts.proofs.Begins.{lock_is}
-use Rattle.inode_parts.proofs.Changing.{changed_same, changes}
-use Rattle.inode_parts.proofs.Handing.{elsewhere}
-use Rattle.inode_parts.proofs.Plain.{plain_block}
-use Rattle.inode_parts.proofs.PlainContents.{then_plain}
+use Rattle.inode_parts.proofs.Basics.{lock_is, changed_same, changes, elsewhere, plain_block, then_plain}
 use Rattle.inode_parts.proofs.Stores.{put_so}
 
 -- ---- what is had of an inode whose lock is in hand

@@ -1,28 +1,7 @@
 -- How a lock comes to hand.
-use Rattle.std.proofs.Common.{◌≡◌, ℕ, true, Bool, Option, Some, None, refl, sym, ap, subst, ◌∙◌}
-use Rattle.std.specs.Prelude.{◌==◌, if◌then◌else◌, IsSome}
-use Rattle.std.specs.Option.{MatchOption}
-use Rattle.tree_laws.proofs.Maps.{eq_self}
-use Rattle.sleep_lock.specs.SleepLock.{GuardState}
-use Rattle.fs_machine.specs.declared.entries.Inode.{Inode}
-use Rattle.fs_machine.specs.Hands.{inode_at, with_inode}
-use Rattle.fs_machine.specs.declared.hand.Hand.{Hand}
-use Rattle.fs_machine.specs.declared.hand.Seat.{Seat}
-use Rattle.fs_machine.specs.declared.hand.Seat.TheVariants.{One, Two}
-use Rattle.inode_table.specs.HeldInodes.{number_in, IsLoadedAt}
-use Rattle.inode_table.specs.LoadingHeld.{beside_lock}
-use Rattle.file_table.specs.LockingFiles.{HasFile}
-use Rattle.file_table.specs.declared.lock_file.HeldFile.{HeldFile}
-use Rattle.inode_parts.specs.Leaving.{having}
-use Rattle.inode_parts.specs.Carries.{note_at, with_note}
-use Rattle.inode_parts.specs.Coming.{Comes}
-use Rattle.inode_parts.specs.Holding.{CameTo, LearnsFile, Opened}
-use Rattle.inode_parts.specs.OneSteps.{IsAlone, locks, other, seat_of_lock}
-use Rattle.inode_parts.specs.declared.note.Note.{Note}
+use Rattle.inode_parts.proofs.Vocabulary.{◌≡◌, ℕ, true, Bool, Option, Some, None, refl, sym, ap, subst, ◌∙◌, ◌==◌, if◌then◌else◌, IsSome, MatchOption, eq_self, GuardState, Inode, inode_at, with_inode, Hand, Seat, One, Two, number_in, IsLoadedAt, beside_lock, HasFile, HeldFile, having, note_at, with_note, Comes, CameTo, LearnsFile, Opened, IsAlone, locks, other, seat_of_lock, Note, Notes}
 use Rattle.inode_parts.specs.declared.note.Note.TheVariants as note
-use Rattle.inode_parts.specs.declared.note.Notes.{Notes}
-use Rattle.inode_parts.proofs.Locking.{alone_none, other_free}
-use Rattle.inode_parts.proofs.Sides.{named_in}
+use Rattle.inode_parts.proofs.Basics.{alone_none, other_free, named_in}
 
 -- ---- on the way
 

@@ -1,15 +1,7 @@
 -- dup, run below: the hand stays empty.
-use Rattle.std.proofs.Common.{ℕ, [], Option, Some, None, sym, subst}
+use Rattle.inode_parts.proofs.Vocabulary.{ℕ, [], Option, Some, None, sym, subst, Descriptors, Reply, IsEmpty, dup_on, full, say, BeginsWith, RunsByParts, Having, Runs}
 use Rattle.plain_tree.specs.declared.answer.Answer.TheVariants as answers
-use Rattle.plain_tree.specs.declared.answer.Full.TheVariants.{Descriptors}
-use Rattle.plain_tree.specs.declared.answer.Reply.{Reply}
 use Rattle.plain_tree.specs.declared.call.Call.TheVariants as calls
-use Rattle.fs_machine.specs.Empty.{IsEmpty}
-use Rattle.inode_machine.specs.Descriptors.{dup_on}
-use Rattle.inode_machine.specs.Parts.{full, say}
-use Rattle.inode_parts.specs.Expecting.{BeginsWith}
-use Rattle.inode_parts.specs.Calls.{RunsByParts}
-use Rattle.inode_parts.specs.Holding.{Having, Runs}
 
 says : (r : Reply) (s : Having) → IsEmpty s.hand → Runs [] (BeginsWith []) (say r) s
 unfolding Runs

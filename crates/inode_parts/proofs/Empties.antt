@@ -1,40 +1,12 @@
 -- A content emptied: it is a part, and goes on.
-use Rattle.std.proofs.Common.{◌≡◌, ℕ, List, sym, ap, ◌∙◌, subst}
-use Rattle.fs_layout.specs.declared.inode.Dinode.{Dinode}
-use Rattle.fs_layout.specs.declared.superblock.Super.{Super}
-use Rattle.plain_tree.specs.Tree.{put}
-use Rattle.atomic_programs.specs.Prog.{Ret, bind}
-use Rattle.atomic_programs.specs.Joined.{Handover}
-use Rattle.atomic_programs.proofs.Prog.{bind-assoc}
-use Rattle.fs_machine.specs.declared.entries.Inode.{Inode}
-use Rattle.fs_machine.specs.Machines.{P}
-use Rattle.fs_machine.specs.Programs.{fetch}
+use Rattle.inode_parts.proofs.Vocabulary.{◌≡◌, ℕ, List, sym, ap, ◌∙◌, subst, Dinode, Super, put, Ret, bind, Handover, bind-assoc, Inode, P, fetch, inode_block, record_of, store_inode, store_record, truncate, Hand, Goes, inode_in, with_record, beside_emptying, emptying_of, truncate_left, record_in, IsLoadedAt, Emptying, goes_with, NothingMore, Carry, Has, record_had, put_record, carry_in, handed, with_note, changed, HasLock, seat_of_lock, IsPart, Message, Part, empty_part_left, empty_seat, Notes, EmptyPart}
 use Rattle.fs_machine.specs.Steps as steps
-use Rattle.inode_table.specs.Programs.{inode_block, record_of, store as store_inode}
-use Rattle.inode_data.specs.Freeing.{store_record, truncate, without_content}
-use Rattle.fs_machine.specs.declared.hand.Hand.{Hand}
-use Rattle.fs_machine.specs.Controls.{Goes}
-use Rattle.fs_machine.specs.Hands.{inode_in, with_record}
-use Rattle.inode_data.specs.Emptying.{beside_emptying, emptying_of, truncate_left}
-use Rattle.inode_table.specs.HeldInodes.{record_in, IsLoadedAt}
-use Rattle.inode_data.specs.declared.truncate.Emptying.{Emptying}
-use Rattle.fs_machine.proofs.Goings.{goes_with}
+use Rattle.inode_data.specs.Freeing.{without_content}
 use Rattle.inode_machine.specs.World as above
 use Rattle.inodes_on_blocks.specs.Handlers as handlers
-use Rattle.inodes_on_blocks.specs.Lowering.{NothingMore, Carry, Has, record_had}
-use Rattle.inodes_on_blocks.specs.Storing.{put_record}
 use Rattle.path_walk.specs.declared.asks.Heard.TheVariants as heard
-use Rattle.inode_parts.specs.Carries.{carry_in, handed, with_note}
-use Rattle.inode_parts.specs.Changes.{changed}
-use Rattle.inode_parts.specs.OneSteps.{HasLock, seat_of_lock}
-use Rattle.inode_parts.specs.Parts.{IsPart, Message, Part}
-use Rattle.inode_parts.specs.Empties.{empty_part_left, empty_seat}
 use Rattle.inode_parts.specs.declared.note.Note.TheVariants as note
-use Rattle.inode_parts.specs.declared.note.Notes.{Notes}
-use Rattle.inode_parts.specs.declared.empty_part.EmptyPart.{EmptyPart}
-use Rattle.inode_parts.proofs.Begins.{lock_is}
-use Rattle.inode_parts.proofs.Changing.{carried_beside, changes, same_record}
-use Rattle.inode_parts.proofs.Plain.{content_bind, emptied, plain_content}
+use Rattle.inode_parts.proofs.Basics.{lock_is, carried_beside, changes, same_record, content_bind, emptied, plain_content}
 use Rattle.inode_parts.proofs.Stores.{put_so}
 
 module _ (sizes : Super) (path : List ℕ) (m : Notes) (n : ℕ) (before : Hand) where

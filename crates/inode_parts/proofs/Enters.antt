@@ -1,53 +1,14 @@
 -- A name entered: it is a part, and goes on.
-use Rattle.std.proofs.Common.{◌≡◌, ℕ, zero, suc, ◌+◌, ◌*◌, ◌==◌, ◌<◌, nat_lt, Bool, true, false, if◌then◌else◌, List, length, Option, refl, sym, ◌∙◌, ap, subst, arith}
-use Rattle.std.specs.Prelude.{is_some}
-use Rattle.std.proofs.lemmas.Bool.Decides.{nat_tests}
-use Rattle.fs_layout.specs.declared.entry.Dirent.TheVariants.{Used}
-use Rattle.fs_layout.specs.declared.inode.Dinode.{Dinode}
-use Rattle.fs_layout.specs.declared.superblock.Super.{Super}
-use Rattle.fs_layout.specs.Entry.{spell_dirent}
-use Rattle.plain_tree.specs.Tree.{Name, put}
-use Rattle.atomic_programs.specs.Prog.{Ret, Do, asks, bind, plain}
-use Rattle.atomic_programs.specs.Joined.{Handover}
-use Rattle.atomic_programs.proofs.Prog.{bind-assoc}
-use Rattle.fs_machine.specs.declared.entries.Inode.{Inode}
-use Rattle.fs_machine.specs.Machines.{P}
+use Rattle.inode_parts.proofs.Vocabulary.{◌≡◌, ℕ, zero, suc, ◌+◌, ◌*◌, ◌==◌, ◌<◌, nat_lt, Bool, true, false, if◌then◌else◌, List, length, Option, refl, sym, ◌∙◌, ap, subst, arith, is_some, nat_tests, Used, Dinode, Super, spell_dirent, Name, put, Ret, Do, bind, plain, Handover, bind-assoc, Inode, P, inode_block, record_of, store_inode, Address, Direct, InTable, address, blocks_between, fetch_at, fetch_block, WriteResult, grown, store_written, write_blocks, write_part, Room, Found, EnteredState, code_enter, enter_at, code_enter_in, entered_by, slot_for, Unused, block_count, look_at, search, search_from, slot_count, Hand, Seat, Goes, inode_in, goes_with, enter_left, beside_buffers, entered_to, put_grown, seek_free, acts, NothingMore, Carry, Has, record_had, carry_in, enter_part_left, entered, entered_so, HasLock, seat_of_lock, IsPart, Part, Notes, EnterPart}
+use Rattle.atomic_programs.specs.Prog.{asks}
 use Rattle.fs_machine.specs.Steps as steps
-use Rattle.inode_table.specs.Programs.{inode_block, record_of, store as store_inode}
-use Rattle.inode_data.specs.declared.addresses.Address.{Address}
-use Rattle.inode_data.specs.declared.addresses.Address.TheVariants.{Direct, InTable}
-use Rattle.inode_data.specs.Addresses.{address}
-use Rattle.inode_data.specs.Programs.{blocks_between, fetch_at, fetch_block}
-use Rattle.inode_data.specs.Writing.{WriteResult, grown, store_written, write_blocks, write_part}
-use Rattle.directory.specs.declared.enter.Room.{Room}
 use Rattle.directory.specs.declared.enter.Room.TheVariants as room
-use Rattle.directory.specs.declared.found.Found.{Found}
-use Rattle.directory.specs.Entering.{EnteredState, enter as code_enter, enter_at, enter_in as code_enter_in, entered_by, slot_for}
-use Rattle.directory.specs.Programs.{Unused, block_count, look_at, search, search_from, slot_count}
-use Rattle.fs_machine.specs.declared.hand.Hand.{Hand}
-use Rattle.fs_machine.specs.declared.hand.Seat.{Seat}
-use Rattle.fs_machine.specs.Controls.{Goes}
-use Rattle.fs_machine.specs.Hands.{inode_in}
-use Rattle.fs_machine.proofs.Goings.{goes_with}
-use Rattle.directory.specs.EnterParts.{enter_left}
-use Rattle.inode_data.specs.InHand.{beside_buffers}
 use Rattle.inode_machine.specs.World as above
-use Rattle.inodes_on_blocks.specs.Entering.{entered_to, put_grown, seek_free}
 use Rattle.inodes_on_blocks.specs.Handlers as handlers
-use Rattle.inodes_on_blocks.specs.Handlers.{acts}
-use Rattle.inodes_on_blocks.specs.Lowering.{NothingMore, Carry, Has, record_had}
 use Rattle.path_walk.specs.Asks as whole
 use Rattle.path_walk.specs.declared.asks.Entered.TheVariants as entry
 use Rattle.path_walk.specs.declared.asks.Heard.TheVariants as heard
-use Rattle.inode_parts.specs.Carries.{carry_in}
-use Rattle.inode_parts.specs.Enters.{enter_part_left, entered, entered_so}
-use Rattle.inode_parts.specs.OneSteps.{HasLock, seat_of_lock}
-use Rattle.inode_parts.specs.Parts.{IsPart, Part}
-use Rattle.inode_parts.specs.declared.note.Notes.{Notes}
-use Rattle.inode_parts.specs.declared.enter_part.EnterPart.{EnterPart}
-use Rattle.inode_parts.proofs.Begins.{lock_is}
-use Rattle.inode_parts.proofs.Changing.{buffers_beside, changed_same, changes}
-use Rattle.inode_parts.proofs.PlainContents.{plain_seek, plain_writes, then_plain}
+use Rattle.inode_parts.proofs.Basics.{lock_is, buffers_beside, changed_same, changes, plain_seek, plain_writes, then_plain}
 use Rattle.inode_parts.proofs.Stores.{put_so}
 
 -- the record goes back after its blocks were written, whatever that is marked with

@@ -1,27 +1,9 @@
 -- What is heard of a descriptor's inode that was locked, or wasn't.
-use Rattle.std.proofs.Common.{◌≡◌, ℕ, List, Some, None, sym, ap, subst, ◌∙◌}
-use Rattle.plain_tree.specs.declared.answer.Cause.{Cause}
-use Rattle.fs_layout.specs.declared.inode.Dinode.{Dinode}
-use Rattle.atomic_programs.specs.Prog.{Ret}
-use Rattle.fs_machine.specs.Inodes.{Refuses, Locks}
-use Rattle.fs_machine.specs.declared.files.Refused.{Refused}
-use Rattle.fs_machine.specs.Hands.{inode_at}
-use Rattle.fs_machine.specs.declared.hand.Hand.{Hand}
-use Rattle.fs_machine.specs.declared.hand.Seat.{Seat}
-use Rattle.inode_table.specs.HeldInodes.{record_in}
-use Rattle.file_table.specs.LockingFiles.{HasFile}
-use Rattle.file_table.specs.declared.lock_file.HeldFile.{HeldFile}
-use Rattle.inodes_on_blocks.specs.Handlers.{cause_of}
+use Rattle.inode_parts.proofs.Vocabulary.{◌≡◌, ℕ, List, Some, None, sym, ap, subst, ◌∙◌, Cause, Dinode, Ret, Refuses, Locks, Refused, inode_at, Hand, Seat, record_in, HasFile, HeldFile, cause_of, carry_in, handed, with_note, file_ends, open_ends, other, beside_in, Notes}
 use Rattle.path_walk.specs.declared.asks.Heard.TheVariants as heard
 use Rattle.path_walk.specs.declared.asks.Locked.TheVariants as locked
-use Rattle.inode_parts.specs.Carries.{carry_in, handed, with_note}
-use Rattle.inode_parts.specs.FileLocks.{file_ends, open_ends}
-use Rattle.inode_parts.specs.OneSteps.{other}
-use Rattle.inode_parts.specs.Sides.{beside_in}
 use Rattle.inode_parts.specs.declared.note.Note.TheVariants as note
-use Rattle.inode_parts.specs.declared.note.Notes.{Notes}
-use Rattle.inode_parts.proofs.Locking.{alone_none, had_now}
-use Rattle.inode_parts.proofs.Sides.{none_beside}
+use Rattle.inode_parts.proofs.Basics.{alone_none, had_now, none_beside}
 
 module _ (path : List ℕ) (m : Notes) (k : Seat) (h : Hand) where
   -- it was refused

@@ -1,32 +1,12 @@
 -- What a descriptor names locked: each operation is its part.
-use Rattle.std.proofs.Common.{◌≡◌, ℕ, List, Option, Some, None, refl, sym, subst, ◌∙◌}
-use Rattle.fs_layout.specs.declared.inode.Dinode.{Dinode}
-use Rattle.fs_layout.specs.declared.superblock.Super.{Super}
-use Rattle.atomic_programs.specs.Prog.{Ret, Do, bind, plain, unmarked}
-use Rattle.atomic_programs.specs.Joined.{Handover}
-use Rattle.atomic_programs.proofs.Prog.{bind-assoc}
-use Rattle.fs_machine.specs.Inodes.{LockedState, Refuses, Locks}
-use Rattle.fs_machine.specs.declared.files.OpenFile.{OpenFile}
+use Rattle.inode_parts.proofs.Vocabulary.{◌≡◌, ℕ, List, Option, Some, None, refl, sym, subst, ◌∙◌, Dinode, Super, Ret, Do, bind, plain, unmarked, Handover, bind-assoc, LockedState, Refuses, Locks, OpenFile, load_unless, inode_at, Hand, load_locked, load_open, lock_file_loaded, lock_open_loaded, opens, file_left, file_seat, open_left, open_seat, LockFile, LockOpen, file_locked, open_locked, with_file, Carry, carry_in, file_ends, open_ends, answer_by, IsPart, Message, Part, beside_in, Notes}
 use Rattle.fs_machine.specs.declared.files.Want.TheVariants as want
 use Rattle.fs_machine.specs.Machines as code
 use Rattle.fs_machine.specs.Steps as steps
-use Rattle.inode_table.specs.Programs.{load_unless}
-use Rattle.fs_machine.specs.Hands.{inode_at}
-use Rattle.fs_machine.specs.declared.hand.Hand.{Hand}
-use Rattle.file_table.specs.LockingFiles.{load_locked, load_open, lock_file_loaded, lock_open_loaded, locks, opens, file_left, file_seat, open_left, open_seat}
-use Rattle.file_table.specs.declared.lock_file.LockFile.{LockFile}
-use Rattle.file_table.specs.declared.lock_open.LockOpen.{LockOpen}
+use Rattle.file_table.specs.LockingFiles.{locks}
 use Rattle.inode_machine.specs.World as above
-use Rattle.inodes_on_blocks.specs.Files.{file_locked, open_locked, with_file}
 use Rattle.inodes_on_blocks.specs.Handlers.{P}
-use Rattle.inodes_on_blocks.specs.Lowering.{Carry}
-use Rattle.inode_parts.specs.Carries.{carry_in}
-use Rattle.inode_parts.specs.FileLocks.{file_ends, open_ends}
-use Rattle.inode_parts.specs.Parts.{answer_by, IsPart, Message, Part}
-use Rattle.inode_parts.specs.Sides.{beside_in}
-use Rattle.inode_parts.specs.declared.note.Notes.{Notes}
-use Rattle.inode_parts.proofs.Afterwards.{load_then}
-use Rattle.inode_parts.proofs.Sides.{none_beside}
+use Rattle.inode_parts.proofs.Basics.{load_then, none_beside}
 
 -- ---- a program that takes the lock, and then
 

@@ -1,42 +1,11 @@
 -- A part of an open file read: it is a part, and goes on.
-use Rattle.std.proofs.Common.{◌≡◌, ℕ, ◌+◌, ◌-◌, ◌<◌, ◌≤◌, List, [], ◌++◌, length, drop, Option, Some, None, sym, ap, subst, ◌∙◌, arith}
-use Rattle.std.specs.Prelude.{◌^◌}
-use Rattle.std.proofs.Math.Seq.{take-append_seam}
-use Rattle.std.proofs.Math.ListN.{drop_of_length-le}
-use Rattle.std.proofs.lemmas.List.{append-nil}
-use Rattle.fs_layout.specs.declared.inode.Dinode.{Dinode}
-use Rattle.fs_layout.specs.declared.superblock.Super.{Super}
-use Rattle.atomic_programs.specs.Prog.{Ret, Do, bind, plain, unmarked}
-use Rattle.atomic_programs.specs.Joined.{Handover}
-use Rattle.atomic_programs.proofs.Prog.{bind-assoc}
-use Rattle.fs_machine.specs.declared.entries.Inode.{Inode}
+use Rattle.inode_parts.proofs.Vocabulary.{◌≡◌, ℕ, ◌+◌, ◌-◌, ◌<◌, ◌≤◌, List, [], ◌++◌, length, drop, Option, Some, None, sym, ap, subst, ◌∙◌, arith, ◌^◌, take-append_seam, drop_of_length-le, append-nil, Dinode, Super, Ret, Do, bind, plain, unmarked, Handover, bind-assoc, Inode, record_of, FilledMemory, blocks_between, end_of, read_from, Goes, inode_at, inode_in, with_inode, Hand, record_in, goes_with, beside_buffers, filled_to, read_count, read_left, ReadReady, ReadPart, give_read, Carry, nothing, record_had, carry_in, handed, read_file_left, read_over, FillsFrom, MayMove, moved, HasLock, other, seat_of_lock, answer_by, IsPart, Message, Part, LockedFile, Notes, Reading, Ending}
 use Rattle.fs_machine.specs.Machines as code
 use Rattle.fs_machine.specs.Steps as steps
-use Rattle.inode_table.specs.Programs.{record_of}
-use Rattle.inode_data.specs.Programs.{FilledMemory, blocks_between, end_of, read_from}
-use Rattle.fs_machine.specs.Controls.{Goes}
-use Rattle.fs_machine.specs.Hands.{inode_at, inode_in, with_inode}
-use Rattle.fs_machine.specs.declared.hand.Hand.{Hand}
-use Rattle.inode_table.specs.HeldInodes.{record_in}
-use Rattle.fs_machine.proofs.Goings.{goes_with}
-use Rattle.inode_data.specs.InHand.{beside_buffers}
-use Rattle.inode_data.specs.PartReading.{filled_to, read_count, read_left, ReadReady}
-use Rattle.inode_data.specs.declared.read_part.ReadPart.{ReadPart}
 use Rattle.inode_data.specs.declared.read_part.ReadPart.TheVariants.{Fetching, Giving}
 use Rattle.inode_machine.specs.World as above
-use Rattle.inodes_on_blocks.specs.Files.{give_read}
-use Rattle.inodes_on_blocks.specs.Lowering.{Carry, nothing, record_had}
 use Rattle.path_walk.specs.declared.asks.Heard.TheVariants as heard
-use Rattle.inode_parts.specs.Carries.{carry_in, handed}
-use Rattle.inode_parts.specs.FileReads.{read_file_left, read_over, FillsFrom, MayMove}
-use Rattle.inode_parts.specs.LockedFiles.{moved}
-use Rattle.inode_parts.specs.OneSteps.{HasLock, other, seat_of_lock}
-use Rattle.inode_parts.specs.Parts.{answer_by, IsPart, Message, Part}
-use Rattle.inode_parts.specs.declared.locked_file.LockedFile.{LockedFile}
-use Rattle.inode_parts.specs.declared.note.Notes.{Notes}
-use Rattle.inode_parts.specs.declared.read_file_part.ReadFilePart.TheVariants.{Reading, Ending}
-use Rattle.inode_parts.proofs.Begins.{lock_is}
-use Rattle.inode_parts.proofs.Fillings.{blocks_fill, blocks_same, within}
+use Rattle.inode_parts.proofs.Basics.{lock_is, blocks_fill, blocks_same, within}
 use Rattle.inode_parts.proofs.LockedFiles.{gone, gone_then, inode_still}
 
 -- ---- it is a part

@@ -1,38 +1,13 @@
 -- What a descriptor names locked, to tell its state: the operation is its part, and what is heard of it.
-use Rattle.std.proofs.Common.{◌≡◌, ℕ, List, Some, None, refl, sym, ap, subst, ◌∙◌}
-use Rattle.fs_layout.specs.declared.inode.Dinode.{Dinode}
-use Rattle.fs_layout.specs.declared.superblock.Super.{Super}
-use Rattle.atomic_programs.specs.Prog.{Ret, Do, bind, plain, unmarked}
-use Rattle.fs_machine.specs.Inodes.{LockedState, Refuses, Locks}
-use Rattle.fs_machine.specs.declared.files.Refused.{Refused}
+use Rattle.inode_parts.proofs.Vocabulary.{◌≡◌, ℕ, List, Some, None, refl, sym, ap, subst, ◌∙◌, Dinode, Super, Ret, Do, bind, plain, unmarked, LockedState, Refuses, Locks, Refused, inode_at, Hand, Seat, record_in, load_locked, lock_file_loaded, file_left, file_seat, HasFile, HeldFile, LockFile, NothingMore, Carry, Has, stat_loaded, stat_locked, put, Face, carry_in, handed, with_note, face_by, stat_ends, other, answer_by, IsPart, beside_in, Notes}
 use Rattle.fs_machine.specs.declared.files.Want.TheVariants as want
 use Rattle.fs_machine.specs.Machines as code
 use Rattle.fs_machine.specs.Steps as steps
-use Rattle.fs_machine.specs.Hands.{inode_at}
-use Rattle.fs_machine.specs.declared.hand.Hand.{Hand}
-use Rattle.fs_machine.specs.declared.hand.Seat.{Seat}
-use Rattle.inode_table.specs.HeldInodes.{record_in}
-use Rattle.file_table.specs.LockingFiles.{load_locked, lock_file_loaded, file_left, file_seat, HasFile}
-use Rattle.file_table.specs.declared.lock_file.HeldFile.{HeldFile}
-use Rattle.file_table.specs.declared.lock_file.LockFile.{LockFile}
 use Rattle.inode_machine.specs.World as above
-use Rattle.inodes_on_blocks.specs.Lowering.{NothingMore, Carry, Has}
-use Rattle.inodes_on_blocks.specs.Reading.{stat_loaded, stat_locked}
-use Rattle.plain_tree.specs.Tree.{put}
-use Rattle.path_walk.specs.declared.asks.Face.{Face}
 use Rattle.path_walk.specs.declared.asks.Heard.TheVariants as heard
-use Rattle.inode_parts.specs.Carries.{carry_in, handed, with_note}
-use Rattle.inode_parts.specs.Faces.{face_by}
-use Rattle.inode_parts.specs.FileStats.{stat_ends}
-use Rattle.inode_parts.specs.OneSteps.{other}
-use Rattle.inode_parts.specs.Parts.{answer_by, IsPart}
-use Rattle.inode_parts.specs.Sides.{beside_in}
 use Rattle.inode_parts.specs.declared.note.Note.TheVariants as note
-use Rattle.inode_parts.specs.declared.note.Notes.{Notes}
 use Rattle.inode_parts.proofs.FileLocks.{file_loaded}
-use Rattle.inode_parts.proofs.Locking.{alone_none, had_now}
-use Rattle.inode_parts.proofs.Sides.{none_beside}
-use Rattle.inode_parts.proofs.Telling.{face_same}
+use Rattle.inode_parts.proofs.Basics.{alone_none, had_now, none_beside, face_same}
 
 module _ (sizes : Super) (path : List ℕ) (m : Notes) (fd : ℕ) where
   tells_so : (c : Carry) (a : LockedState) → plain (stat_locked sizes c a) ≡ bind (bind (load_locked sizes.inodestart a) (stat_ends path c)) (λ r. Ret (record { answer = answer_by (above.StatFile fd) r.answer; carry = r.carry }))

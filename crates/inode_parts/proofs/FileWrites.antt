@@ -1,56 +1,14 @@
 -- A piece of bytes written to an open file: it is a part, and goes on.
-use Rattle.std.proofs.Common.{◌≡◌, ℕ, ◌+◌, ◌-◌, ◌==◌, ◌≤◌, Bool, true, false, if◌then◌else◌, List, length, Option, Some, None, refl, sym, ap, subst, ◌∙◌, arith}
-use Rattle.std.specs.Prelude.{IsSome}
-use Rattle.std.specs.Option.{option_map}
-use Rattle.plain_tree.specs.Calls.{piece}
-use Rattle.plain_tree.specs.declared.answer.Cause.{Cause}
-use Rattle.plain_tree.specs.Tree.{put}
-use Rattle.fs_layout.specs.declared.inode.Dinode.{Dinode}
-use Rattle.fs_layout.specs.declared.superblock.Super.{Super}
-use Rattle.atomic_programs.specs.Prog.{Ret, Do, bind, plain, unmarked}
-use Rattle.atomic_programs.specs.Joined.{Handover}
-use Rattle.atomic_programs.proofs.Prog.{bind-assoc}
-use Rattle.sleep_lock.specs.SleepLock.{GuardState}
-use Rattle.fs_machine.specs.declared.entries.Inode.{Inode}
+use Rattle.inode_parts.proofs.Vocabulary.{◌≡◌, ℕ, ◌+◌, ◌-◌, ◌==◌, ◌≤◌, Bool, true, false, if◌then◌else◌, List, length, Option, Some, None, refl, sym, ap, subst, ◌∙◌, arith, IsSome, option_map, piece, Cause, put, Dinode, Super, Ret, Do, bind, plain, unmarked, Handover, bind-assoc, GuardState, Inode, record_of, store_inode, blocks_between, WriteResult, grown, store_written, write_blocks, write_part, Goes, inode_at, inode_in, recorded, with_inode, with_record, Hand, Seat, One, Two, HasNoBuffer, number_in, record_in, IsLoadedAt, goes_to, goes_with, recorded-in, beside_buffers, write_left, written_as, WriteReady, WritePart, Written, Acts, Apart, Carry, nothing, record_had, give_written, refused_in, write_unless, wrote_to, wrote_of, Wrote, carry_in, handed, ended_as, write_done, write_file_left, write_over, wrote_upto, WriteFileReady, moved, HasLock, other, seat_of_lock, answer_by, IsPart, Message, LockedFile, Notes, Denied, Writing}
 use Rattle.fs_machine.specs.Machines as code
 use Rattle.fs_machine.specs.Steps as steps
-use Rattle.inode_table.specs.Programs.{record_of, store as store_inode}
-use Rattle.inode_data.specs.Programs.{blocks_between}
-use Rattle.inode_data.specs.Writing.{WriteResult, grown, store_written, write_blocks, write_part}
-use Rattle.fs_machine.specs.Controls.{Goes}
-use Rattle.fs_machine.specs.Hands.{inode_at, inode_in, recorded, with_inode, with_record}
-use Rattle.fs_machine.specs.declared.hand.Hand.{Hand}
-use Rattle.fs_machine.specs.declared.hand.Seat.{Seat}
-use Rattle.fs_machine.specs.declared.hand.Seat.TheVariants.{One, Two}
-use Rattle.inode_data.specs.Emptying.{HasNoBuffer}
-use Rattle.inode_table.specs.HeldInodes.{number_in, record_in, IsLoadedAt}
-use Rattle.fs_machine.proofs.Goings.{goes_to, goes_with}
-use Rattle.inode_table.proofs.Goings.{recorded-in}
-use Rattle.inode_data.specs.InHand.{beside_buffers}
-use Rattle.inode_data.specs.PartWriting.{write_left, written_as, WriteReady}
-use Rattle.inode_data.specs.declared.write_part.WritePart.{WritePart}
 use Rattle.inode_data.specs.declared.write_part.WritePart.TheVariants as write
-use Rattle.inode_data.specs.declared.write_part.Written.{Written}
 use Rattle.inode_machine.specs.World as above
-use Rattle.inodes_on_blocks.specs.Handlers.{Acts}
-use Rattle.inodes_on_blocks.specs.Lowering.{Apart, Carry, nothing, record_had}
-use Rattle.inodes_on_blocks.specs.Writing.{give_written, refused_in, write_unless, wrote_to}
-use Rattle.path_walk.specs.Asks.{wrote_of}
 use Rattle.path_walk.specs.declared.asks.Heard.TheVariants as heard
-use Rattle.path_walk.specs.declared.asks.Wrote.{Wrote}
 use Rattle.path_walk.specs.declared.asks.Wrote.TheVariants as wrote
-use Rattle.inode_parts.specs.Carries.{carry_in, handed}
-use Rattle.inode_parts.specs.FileWrites.{ended_as, write_done, write_file_left, write_over, wrote_upto, WriteFileReady}
-use Rattle.inode_parts.specs.LockedFiles.{moved}
-use Rattle.inode_parts.specs.OneSteps.{HasLock, other, seat_of_lock}
-use Rattle.inode_parts.specs.Parts.{answer_by, IsPart, Message}
-use Rattle.inode_parts.specs.declared.locked_file.LockedFile.{LockedFile}
-use Rattle.inode_parts.specs.declared.note.Notes.{Notes}
-use Rattle.inode_parts.specs.declared.write_file_part.WriteFilePart.TheVariants.{Denied, Writing, Ending}
-use Rattle.inode_parts.proofs.Begins.{lock_is}
+use Rattle.inode_parts.specs.declared.write_file_part.WriteFilePart.TheVariants.{Ending}
+use Rattle.inode_parts.proofs.Basics.{lock_is, plain_store, plain_writes, then_plain}
 use Rattle.inode_parts.proofs.LockedFiles.{gone, gone_then, inode_still}
-use Rattle.inode_parts.proofs.Plain.{plain_store}
-use Rattle.inode_parts.proofs.PlainContents.{plain_writes, then_plain}
 
 -- ---- it is a part
 

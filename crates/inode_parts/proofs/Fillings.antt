@@ -1,15 +1,7 @@
 -- Bytes read into memory: whatever stood there before, the same are read, and behind them it stays.
-use Rattle.std.proofs.Common.{◌≡◌, ℕ, zero, suc, ◌+◌, ◌/◌, List, ◌++◌, length, drop, None, sym, ◌∙◌, ap, append_assoc, length-append}
-use Rattle.std.proofs.Math.Seq.{drop-append-add, take-append_seam}
-use Rattle.std.proofs.lemmas.List.{drop-drop}
-use Rattle.fs_layout.specs.declared.inode.Dinode.{Dinode}
-use Rattle.fs_layout.specs.Bytes.{overwrite}
-use Rattle.fs_layout.specs.Widths.{block_len}
-use Rattle.atomic_programs.specs.Prog.{Do, bind, plain, unmarked}
-use Rattle.atomic_programs.proofs.Prog.{bind-assoc, plain-bind}
+use Rattle.inode_parts.proofs.Vocabulary.{◌≡◌, ℕ, zero, suc, ◌+◌, ◌/◌, List, ◌++◌, length, drop, None, sym, ◌∙◌, ap, append_assoc, length-append, drop-append-add, take-append_seam, drop-drop, Dinode, overwrite, block_len, Do, bind, plain, unmarked, bind-assoc, plain-bind, FetchedBlock, FilledMemory, fetch_block, filled_with, next_block, part_of, read_blocks, read_part}
 use Rattle.fs_machine.specs.Machines as code
 use Rattle.fs_machine.specs.Steps as steps
-use Rattle.inode_data.specs.Programs.{FetchedBlock, FilledMemory, fetch_block, filled_with, next_block, part_of, read_blocks, read_part}
 use Rattle.inodes_on_blocks.specs.Handlers.{P}
 use Rattle.inode_parts.proofs.Plain.{plain_block}
 

@@ -1,40 +1,12 @@
 -- The names of a new directory written: it is a part, and goes on.
-use Rattle.std.proofs.Common.{◌≡◌, ℕ, ◌+◌, ◌==◌, Bool, true, false, if◌then◌else◌, List, length, Option, sym, ◌∙◌, subst}
-use Rattle.plain_tree.specs.Tree.{put}
-use Rattle.fs_layout.specs.declared.inode.Dinode.{Dinode}
-use Rattle.fs_layout.specs.declared.superblock.Super.{Super}
-use Rattle.atomic_programs.specs.Prog.{Ret, bind, plain}
-use Rattle.atomic_programs.specs.Joined.{Handover}
-use Rattle.atomic_programs.proofs.Prog.{bind-assoc}
-use Rattle.fs_machine.specs.declared.entries.Inode.{Inode}
-use Rattle.fs_machine.specs.Machines.{P}
+use Rattle.inode_parts.proofs.Vocabulary.{◌≡◌, ℕ, ◌+◌, ◌==◌, Bool, true, false, if◌then◌else◌, List, length, Option, sym, ◌∙◌, subst, put, Dinode, Super, Ret, bind, plain, Handover, bind-assoc, Inode, P, record_of, store_inode, blocks_between, WriteResult, grown, store_written, write_blocks, write_part, Hand, Seat, Goes, inode_in, goes_with, dots, fill_names, fill_left, filled_by, beside_buffers, Filled, put_grown, NothingMore, Carry, Has, record_had, carry_in, fill_part_left, filled, HasLock, seat_of_lock, IsPart, Part, Notes, FillPart}
 use Rattle.fs_machine.specs.Steps as steps
-use Rattle.inode_table.specs.Programs.{record_of, store as store_inode}
-use Rattle.inode_data.specs.Programs.{blocks_between}
-use Rattle.inode_data.specs.Writing.{WriteResult, grown, store_written, write_blocks, write_part}
-use Rattle.fs_machine.specs.declared.hand.Hand.{Hand}
-use Rattle.fs_machine.specs.declared.hand.Seat.{Seat}
-use Rattle.fs_machine.specs.Controls.{Goes}
-use Rattle.fs_machine.specs.Hands.{inode_in}
-use Rattle.fs_machine.proofs.Goings.{goes_with}
-use Rattle.directory.specs.Filling.{dots, fill as fill_names, fill_left, filled_by}
-use Rattle.inode_data.specs.InHand.{beside_buffers}
-use Rattle.directory.specs.declared.fill.Filled.{Filled}
 use Rattle.inode_machine.specs.World as above
-use Rattle.inodes_on_blocks.specs.Entering.{filled_to, put_grown}
-use Rattle.inodes_on_blocks.specs.Lowering.{NothingMore, Carry, Has, record_had}
+use Rattle.inodes_on_blocks.specs.Entering.{filled_to}
 use Rattle.path_walk.specs.Asks as whole
 use Rattle.path_walk.specs.declared.asks.Heard.TheVariants as heard
-use Rattle.inode_parts.specs.Carries.{carry_in}
-use Rattle.inode_parts.specs.Fills.{fill_part_left, filled}
-use Rattle.inode_parts.specs.OneSteps.{HasLock, seat_of_lock}
-use Rattle.inode_parts.specs.Parts.{IsPart, Part}
-use Rattle.inode_parts.specs.declared.note.Notes.{Notes}
-use Rattle.inode_parts.specs.declared.fill_part.FillPart.{FillPart}
-use Rattle.inode_parts.proofs.Begins.{lock_is}
-use Rattle.inode_parts.proofs.Changing.{changed_same, changes}
+use Rattle.inode_parts.proofs.Basics.{lock_is, changed_same, changes, plain_writes, then_plain}
 use Rattle.inode_parts.proofs.Enters.{grown_so}
-use Rattle.inode_parts.proofs.PlainContents.{plain_writes, then_plain}
 
 module _ (sizes : Super) (path : List ℕ) (m : Notes) (n parent : ℕ) (before : Hand) where
   abbrev k : Seat

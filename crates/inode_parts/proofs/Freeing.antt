@@ -1,40 +1,13 @@
 -- The operation that frees an inode is its part.
-use Rattle.std.proofs.Common.{◌≡◌, ℕ, List, Option, Some, sym, ap, ◌∙◌, subst}
-use Rattle.fs_layout.specs.declared.inode.Dinode.{Dinode}
-use Rattle.fs_layout.specs.declared.superblock.Super.{Super}
-use Rattle.atomic_programs.specs.Prog.{Ret, Do, bind, plain, unmarked}
-use Rattle.atomic_programs.specs.Joined.{Handover}
-use Rattle.atomic_programs.proofs.Prog.{bind-assoc, plain-bind}
-use Rattle.fs_machine.specs.declared.entries.Inode.{Inode}
+use Rattle.inode_parts.proofs.Vocabulary.{◌≡◌, ℕ, List, Option, Some, sym, ap, ◌∙◌, subst, Dinode, Super, Ret, Do, bind, plain, unmarked, Handover, bind-assoc, plain-bind, Inode, fetch, inode_block, put_inode, record_of, store_inode, with_dinode, freed, store_record, truncate, inode_at, inode_in, Hand, Seat, beside_emptying, IsEmptying, free_record, freeing_left, store_free, number_in, record_in as record_at, FreeInode, give_content, Carry, Emptied, record_had, put_record, IsSome, put, carry_in, free_ends, FreeBegins, IsAlone, seat_of_lock, IsPart, beside_in, Notes}
 use Rattle.fs_machine.specs.Machines as code
-use Rattle.fs_machine.specs.Programs.{fetch}
 use Rattle.fs_machine.specs.Steps as steps
-use Rattle.inode_table.specs.Programs.{inode_block, put_inode, record_of, store as store_inode, with_dinode}
-use Rattle.inode_data.specs.Freeing.{freed, store_record, truncate, without_content}
-use Rattle.fs_machine.specs.Hands.{inode_at, inode_in}
-use Rattle.fs_machine.specs.declared.hand.Hand.{Hand}
-use Rattle.fs_machine.specs.declared.hand.Seat.{Seat}
-use Rattle.inode_data.specs.Emptying.{beside_emptying, IsEmptying}
-use Rattle.inode_data.specs.FreeingInodes.{free_record, freeing_left, store_free}
-use Rattle.inode_table.specs.HeldInodes.{number_in, record_in as record_at}
-use Rattle.inode_data.specs.declared.free_inode.FreeInode.{FreeInode}
+use Rattle.inode_data.specs.Freeing.{without_content}
 use Rattle.inode_machine.specs.World as above
-use Rattle.inodes_on_blocks.specs.Emptying.{give_content}
 use Rattle.inodes_on_blocks.specs.Handlers.{P}
-use Rattle.inodes_on_blocks.specs.Lowering.{Carry, Emptied, record_had}
-use Rattle.inodes_on_blocks.specs.Storing.{put_record, record_in}
-use Rattle.std.specs.Prelude.{IsSome}
-use Rattle.plain_tree.specs.Tree.{put}
-use Rattle.inode_parts.specs.Carries.{carry_in}
-use Rattle.inode_parts.specs.Frees.{free_ends, FreeBegins}
-use Rattle.inode_parts.specs.OneSteps.{IsAlone, seat_of_lock}
-use Rattle.inode_parts.specs.Parts.{IsPart}
-use Rattle.inode_parts.specs.Sides.{beside_in}
-use Rattle.inode_parts.specs.declared.note.Notes.{Notes}
-use Rattle.inode_parts.proofs.Begins.{gives_ready, lock_is}
+use Rattle.inodes_on_blocks.specs.Storing.{record_in}
+use Rattle.inode_parts.proofs.Basics.{gives_ready, lock_is, content_bind, emptied, plain_content, plain_fetch, plain_store, had_beside, lock_is_of}
 use Rattle.inode_parts.proofs.Frees.{alone_so, ends_same, there_still}
-use Rattle.inode_parts.proofs.Plain.{content_bind, emptied, plain_content, plain_fetch, plain_store}
-use Rattle.inode_parts.proofs.Sides.{had_beside, lock_is_of}
 
 module _ (sizes : Super) (n : ℕ) (d : Dinode) (c : Carry) where
   abbrev at : ℕ

@@ -1,34 +1,9 @@
 -- How an inode is freed, as a part.
-use Rattle.std.proofs.Common.{◌≡◌, ℕ, List, Option, Some, None, refl, sym, ap, subst, ◌∙◌}
-use Rattle.std.specs.Prelude.{IsSome}
-use Rattle.std.specs.Option.{MatchOption, option_map, option_map_or}
-use Rattle.atomic_programs.specs.Prog.{Ret, bind}
-use Rattle.plain_tree.specs.Tree.{put}
-use Rattle.sleep_lock.specs.SleepLock.{GuardState}
-use Rattle.fs_machine.specs.declared.entries.Inode.{Inode}
+use Rattle.inode_parts.proofs.Vocabulary.{◌≡◌, ℕ, List, Option, Some, None, refl, sym, ap, subst, ◌∙◌, IsSome, MatchOption, option_map, option_map_or, Ret, bind, put, GuardState, Inode, Goes, inode_at, inode_in, no_inode, Hand, Seat, One, Two, beside_emptying, freeing_left, freeing_of, IsUnloadedAt, number_in, without_content, FreeInode, Emptying, goes_to, goes_with, number-kept, Emptied, carry_in, handed, had_of, with_note, free_ends, IsAlone, other, Part, beside_in, Notes}
 use Rattle.fs_machine.specs.Steps as steps
-use Rattle.fs_machine.specs.Controls.{Goes}
-use Rattle.fs_machine.specs.Hands.{inode_at, inode_in, no_inode}
-use Rattle.fs_machine.specs.declared.hand.Hand.{Hand}
-use Rattle.fs_machine.specs.declared.hand.Seat.{Seat}
-use Rattle.fs_machine.specs.declared.hand.Seat.TheVariants.{One, Two}
-use Rattle.inode_data.specs.Emptying.{beside_emptying}
-use Rattle.inode_data.specs.FreeingInodes.{freeing_left, freeing_of, IsUnloadedAt}
-use Rattle.inode_table.specs.HeldInodes.{number_in, without_content}
-use Rattle.inode_data.specs.declared.free_inode.FreeInode.{FreeInode}
-use Rattle.inode_data.specs.declared.truncate.Emptying.{Emptying}
-use Rattle.fs_machine.proofs.Goings.{goes_to, goes_with}
-use Rattle.inode_data.proofs.Goings.{number-kept}
-use Rattle.inodes_on_blocks.specs.Lowering.{Emptied}
 use Rattle.path_walk.specs.declared.asks.Heard.TheVariants as heard
-use Rattle.inode_parts.specs.Carries.{carry_in, handed, had_of, with_note}
-use Rattle.inode_parts.specs.Frees.{free_ends}
-use Rattle.inode_parts.specs.OneSteps.{IsAlone, other}
-use Rattle.inode_parts.specs.Parts.{Part}
-use Rattle.inode_parts.specs.Sides.{beside_in}
 use Rattle.inode_parts.specs.declared.note.Note.TheVariants as note
-use Rattle.inode_parts.specs.declared.note.Notes.{Notes}
-use Rattle.inode_parts.proofs.Sides.{alone_still, held_beside, same_beside}
+use Rattle.inode_parts.proofs.Basics.{alone_still, held_beside, same_beside}
 
 -- while an inode is emptied the other seat stays
 other_kept : (e : Emptying) (before h : Hand) → beside_emptying e h ≡ beside_emptying e before → inode_at (other e.seat) before ≡ inode_at (other e.seat) h

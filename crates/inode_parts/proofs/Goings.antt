@@ -1,43 +1,15 @@
 -- How operations on whole inodes that are one operation below go on.
-use Rattle.std.proofs.Common.{◌≡◌, ℕ, List, Bool, true, false, Option, Some, None, refl, sym, ap, ◌∙◌, subst}
-use Rattle.std.specs.Prelude.{IsSome, is_some, if◌then◌else◌}
-use Rattle.std.specs.Option.{MatchOption}
-use Rattle.plain_tree.specs.Tree.{put}
-use Rattle.plain_tree.specs.declared.answer.Cause.{Cause}
-use Rattle.plain_tree.specs.Widths.{descriptor_count, root}
-use Rattle.atomic_programs.specs.Prog.{Ret}
-use Rattle.sleep_lock.specs.SleepLock.{GuardState}
-use Rattle.fs_layout.specs.declared.inode.Dinode.{Dinode}
-use Rattle.fs_machine.specs.declared.entries.Inode.{Inode}
-use Rattle.fs_machine.specs.declared.files.NewFile.{NewFile}
+use Rattle.inode_parts.proofs.Vocabulary.{◌≡◌, ℕ, List, Bool, true, false, Option, Some, None, refl, sym, ap, ◌∙◌, subst, IsSome, is_some, if◌then◌else◌, MatchOption, put, Cause, descriptor_count, root, Ret, GuardState, Dinode, Inode, NewFile, Goes, inode_at, inode_in, number_at, reference_at, with_inode, with_seated, with_txn, IsAfter, IsHanded, IsJoined, IsKept, IsLent, IsOpened, answer_in, doubled_by, given_by, joined_by, number_by, refused_by, shut_by, yes_in, Hand, Seat, One, Two, Answer, cause_if, doubled_to, is_dying, is_listed, old_directory, shut_to, Heard, Joined, Loan, carry_in, handed, had_of, with_note, IsAlone, StepReady, joining_heard, loan_heard, step_left, still, finish_left, Finish, goes_with, ends_with, part_left, Notes}
 use Rattle.fs_machine.specs.declared.files.Want.TheVariants as want
 use Rattle.fs_machine.specs.Steps as steps
-use Rattle.fs_machine.specs.Controls.{Goes}
-use Rattle.fs_machine.specs.Hands.{inode_at, inode_in, number_at, reference_at, with_inode, with_seated, with_txn}
-use Rattle.fs_machine.specs.Ops.{IsAfter, IsHanded, IsJoined, IsKept, IsLent, IsOpened, answer_in, doubled_by, given_by, joined_by, number_by, refused_by, shut_by, yes_in}
-use Rattle.fs_machine.specs.declared.hand.Hand.{Hand}
-use Rattle.fs_machine.specs.declared.hand.Seat.{Seat}
-use Rattle.fs_machine.specs.declared.hand.Seat.TheVariants.{One, Two}
-use Rattle.fs_machine.specs.declared.op.Answer.{Answer}
 use Rattle.fs_machine.specs.declared.op.Answer.TheVariants as answers
 use Rattle.fs_machine.specs.declared.op.Op.TheVariants as ops
 use Rattle.inodes_on_blocks.specs.Handlers as handlers
-use Rattle.inodes_on_blocks.specs.Handlers.{cause_if, doubled_to, is_dying, is_listed, old_directory, shut_to}
-use Rattle.path_walk.specs.declared.asks.Heard.{Heard}
 use Rattle.path_walk.specs.declared.asks.Heard.TheVariants as heard
-use Rattle.path_walk.specs.declared.asks.Joined.{Joined}
-use Rattle.path_walk.specs.declared.asks.Loan.{Loan}
-use Rattle.inode_parts.specs.Carries.{carry_in, handed, had_of, with_note}
-use Rattle.inode_parts.specs.OneSteps.{IsAlone, StepReady, joining_heard, loan_heard, step_left, still}
-use Rattle.fs_machine.specs.Finishing.{finish_left}
-use Rattle.fs_machine.specs.declared.finish.Finish.{Finish}
-use Rattle.fs_machine.proofs.Goings.{goes_with}
-use Rattle.inode_parts.specs.InodeParts.{ends_with, part_left}
 use Rattle.inode_parts.specs.declared.part.InodePart.TheVariants as part
 use Rattle.inode_parts.specs.declared.note.Note.TheVariants as note
-use Rattle.inode_parts.specs.declared.note.Notes.{Notes}
 use Rattle.inode_parts.specs.declared.one_step.OneStep.TheVariants as step
-use Rattle.inode_parts.proofs.Handing.{beside_aside, beside_reference, beside_seated, beside_txn, gave, held, listed_so, same_in}
+use Rattle.inode_parts.proofs.Basics.{beside_aside, beside_reference, beside_seated, beside_txn, gave, held, listed_so, same_in}
 
 there : (P : GuardState Inode → Type 0) (o : Option (GuardState Inode)) → MatchOption o ⊥ P → IsSome o
 there P None is = absurd is

@@ -1,24 +1,5 @@
 -- What is in hand after one operation.
-use Rattle.std.proofs.Common.{◌≡◌, ℕ, List, Bool, true, false, Option, Some, None, refl, sym, ap, ◌∙◌, subst}
-use Rattle.std.specs.Prelude.{◌==◌, if◌then◌else◌, IsSome}
-use Rattle.std.specs.Option.{option_map_or}
-use Rattle.plain_tree.specs.Tree.{put}
-use Rattle.tree_laws.proofs.Maps.{eq_is}
-use Rattle.sleep_lock.specs.SleepLock.{GuardState}
-use Rattle.fs_machine.specs.declared.entries.Inode.{Inode}
-use Rattle.fs_machine.specs.declared.hand.Hand.{Hand}
-use Rattle.fs_machine.specs.declared.hand.Place.{Place}
-use Rattle.fs_machine.specs.declared.hand.Place.TheVariants.{First, Second}
-use Rattle.fs_machine.specs.declared.hand.Seat.{Seat}
-use Rattle.fs_machine.specs.declared.hand.Seat.TheVariants.{One, Two}
-use Rattle.fs_machine.specs.Hands.{inode_at, inode_in, no_inode, with_aside, with_buffer, with_inode, with_reference, with_seated, with_txn}
-use Rattle.fs_machine.specs.Ops.{dropped_by, kept_by}
-use Rattle.inodes_on_blocks.specs.Handlers.{is_dying, is_listed}
-use Rattle.inodes_on_blocks.specs.Lowering.{Had, Apart}
-use Rattle.inode_parts.specs.Carries.{carry_in, had_at, had_of, with_note}
-use Rattle.inode_parts.specs.OneSteps.{IsAlone, locks}
-use Rattle.inode_parts.specs.declared.note.Note.{Note}
-use Rattle.inode_parts.specs.declared.note.Notes.{Notes}
+use Rattle.inode_parts.proofs.Vocabulary.{◌≡◌, ℕ, List, Bool, true, false, Option, Some, None, refl, sym, ap, ◌∙◌, subst, ◌==◌, if◌then◌else◌, IsSome, option_map_or, put, eq_is, GuardState, Inode, Hand, Place, First, Second, Seat, One, Two, inode_at, inode_in, no_inode, with_aside, with_buffer, with_inode, with_reference, with_seated, with_txn, dropped_by, kept_by, is_dying, is_listed, Had, Apart, carry_in, had_at, had_of, with_note, IsAlone, locks, Note, Notes}
 
 -- the locks are as they were
 pub still_in : (path : List ℕ) (m : Notes) (before h : Hand) → before.one ≡ h.one → before.two ≡ h.two → carry_in path m before ≡ carry_in path m h

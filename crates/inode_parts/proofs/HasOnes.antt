@@ -1,46 +1,10 @@
 -- A part that is ready has an operation to make, and so has a call with it.
-use Rattle.std.proofs.Common.{ℕ, List}
-use Rattle.plain_tree.specs.Calls.{piece}
-use Rattle.fs_machine.proofs.HasOnes.{HasOne, first, finish_has}
-use Rattle.fs_machine.specs.declared.hand.Hand.{Hand}
-use Rattle.file_table.proofs.HasOnes.{file_has, open_has}
-use Rattle.inode_data.proofs.HasOnes.{freeing_has, truncate_has, read_has, write_has}
-use Rattle.inode_table.proofs.HasOnes.{lock_has, new_has, record_has}
-use Rattle.inode_data.specs.Emptying.{truncate_left}
-use Rattle.fs_machine.specs.Finishing.{finish_left}
-use Rattle.inode_data.specs.FreeingInodes.{freeing_left}
-use Rattle.file_table.specs.LockingFiles.{file_left, open_left}
-use Rattle.inode_table.specs.LockingInodes.{lock_left}
-use Rattle.inode_table.specs.Making.{new_left}
-use Rattle.inode_table.specs.StoringRecords.{record_left}
-use Rattle.directory.proofs.HasOnes.{clear_has, enter_has, fill_has, search_has}
-use Rattle.directory.specs.Clearing.{clear_left}
-use Rattle.directory.specs.EnterParts.{enter_left}
-use Rattle.directory.specs.Filling.{fill_left}
-use Rattle.inode_data.specs.PartReading.{read_left}
-use Rattle.inode_data.specs.PartWriting.{write_left}
-use Rattle.directory.specs.Searching.{search_left}
-use Rattle.whole_calls.specs.Wholes.{text_in}
-use Rattle.inode_parts.specs.Calls.{lowered_left, LoweredReady}
-use Rattle.inode_parts.specs.FileReads.{read_file_left}
-use Rattle.inode_parts.specs.FileWrites.{write_file_left}
-use Rattle.inode_parts.specs.InodeParts.{part_left, PartReady}
-use Rattle.inode_parts.specs.OneSteps.{step_left}
-use Rattle.inode_parts.specs.Relocks.{relock_left}
-use Rattle.inode_parts.specs.Takes.{take_left}
-use Rattle.inode_parts.specs.declared.lowered.Lowered.{Lowered}
-use Rattle.inode_parts.specs.declared.note.Notes.{Notes}
-use Rattle.inode_parts.specs.declared.one_step.OneStep.{OneStep}
+use Rattle.inode_parts.proofs.Vocabulary.{ℕ, List, piece, HasOne, first, finish_has, Hand, file_has, open_has, freeing_has, truncate_has, read_has, write_has, lock_has, new_has, record_has, truncate_left, finish_left, freeing_left, file_left, open_left, lock_left, new_left, record_left, clear_has, enter_has, fill_has, search_has, clear_left, enter_left, fill_left, read_left, write_left, search_left, text_in, lowered_left, LoweredReady, read_file_left, write_file_left, part_left, PartReady, step_left, relock_left, take_left, Lowered, Notes, OneStep, InodePart, ReadFilePart, RelockPart, TakePart, WriteFilePart}
 use Rattle.inode_parts.specs.declared.one_step.OneStep.TheVariants as step
-use Rattle.inode_parts.specs.declared.part.InodePart.{InodePart}
 use Rattle.inode_parts.specs.declared.part.InodePart.TheVariants as part
-use Rattle.inode_parts.specs.declared.read_file_part.ReadFilePart.{ReadFilePart}
 use Rattle.inode_parts.specs.declared.read_file_part.ReadFilePart.TheVariants as reads
-use Rattle.inode_parts.specs.declared.relock_part.RelockPart.{RelockPart}
 use Rattle.inode_parts.specs.declared.relock_part.RelockPart.TheVariants as relock
-use Rattle.inode_parts.specs.declared.take_part.TakePart.{TakePart}
 use Rattle.inode_parts.specs.declared.take_part.TakePart.TheVariants as take
-use Rattle.inode_parts.specs.declared.write_file_part.WriteFilePart.{WriteFilePart}
 use Rattle.inode_parts.specs.declared.write_file_part.WriteFilePart.TheVariants as writes
 
 step_has : (path : List ℕ) (m : Notes) (s : OneStep) (h : Hand) → HasOne (step_left path m s h)

@@ -1,22 +1,6 @@
 -- What is left after an operation of a part, or is heard.
-use Rattle.std.proofs.Common.{◌≡◌, ℕ, List, Option, Some, None, refl}
-use Rattle.fs_machine.specs.Controls.{left_after}
-use Rattle.fs_machine.specs.declared.hand.Hand.{Hand}
-use Rattle.path_walk.specs.declared.asks.Heard.{Heard}
-use Rattle.inode_parts.specs.Carries.{handed}
-use Rattle.inode_parts.specs.FileLocks.{lock_file_left}
-use Rattle.inode_parts.specs.FileReads.{read_file_left}
-use Rattle.inode_parts.specs.FileStats.{stat_left}
-use Rattle.inode_parts.specs.FileWrites.{write_file_left}
-use Rattle.inode_parts.specs.InodeParts.{part_left_after}
-use Rattle.inode_parts.specs.Takes.{take_left}
-use Rattle.inode_parts.specs.declared.lock_file_part.LockFilePart.{LockFilePart}
-use Rattle.inode_parts.specs.declared.note.Notes.{Notes}
+use Rattle.inode_parts.proofs.Vocabulary.{◌≡◌, ℕ, List, Option, Some, None, refl, left_after, Hand, Heard, handed, lock_file_left, read_file_left, stat_left, write_file_left, part_left_after, take_left, LockFilePart, Notes, ReadFilePart, StatFilePart, TakePart, WriteFilePart}
 use Rattle.inode_parts.specs.declared.part.InodePart.TheVariants as part
-use Rattle.inode_parts.specs.declared.read_file_part.ReadFilePart.{ReadFilePart}
-use Rattle.inode_parts.specs.declared.stat_file_part.StatFilePart.{StatFilePart}
-use Rattle.inode_parts.specs.declared.take_part.TakePart.{TakePart}
-use Rattle.inode_parts.specs.declared.write_file_part.WriteFilePart.{WriteFilePart}
 
 pub lock_file_after : (path : List ℕ) (m : Notes) (r : Option Heard) (p : LockFilePart) (h : Hand) → left_after (lock_file_left path m) (handed path m) r p h ≡ part_left_after path m r (part.LockFile p) h
 lock_file_after path m None p h = refl

@@ -1,3 +1,6 @@
+pub mod Basics
+pub mod Lemmas
+pub mod Vocabulary
 pub mod Begins
 pub mod Beginning
 pub mod Handing

@@ -1,26 +1,6 @@
 -- A file's lock given up: nothing is had then.
-use Rattle.std.proofs.Common.{◌≡◌, ℕ, Bool, true, false, List, Option, None, refl, sym, ap, subst, ◌∙◌}
-use Rattle.std.specs.Prelude.{◌==◌, if◌then◌else◌, IsSome}
-use Rattle.std.specs.Option.{MatchOption, option_map_or}
-use Rattle.plain_tree.specs.Tree.{put}
-use Rattle.sleep_lock.specs.SleepLock.{GuardState}
-use Rattle.fs_machine.specs.declared.entries.Inode.{Inode}
-use Rattle.fs_machine.specs.declared.hand.Hand.{Hand}
-use Rattle.fs_machine.specs.declared.hand.Seat.{Seat}
-use Rattle.fs_machine.specs.declared.hand.Seat.TheVariants.{One, Two}
-use Rattle.fs_machine.specs.Hands.{inode_at, inode_in, no_inode, with_inode}
-use Rattle.inode_data.specs.Emptying.{HasNoBuffer}
-use Rattle.inode_table.specs.HeldInodes.{IsLoadedAt}
-use Rattle.inode_data.specs.InHand.{beside_buffers}
-use Rattle.inodes_on_blocks.specs.Lowering.{Had, Apart, nothing}
-use Rattle.inode_parts.specs.Carries.{carry_in, had_at, note_at}
-use Rattle.inode_parts.specs.Changes.{beside_inode, IsAmid}
-use Rattle.inode_parts.specs.Holding.{Unlocked}
-use Rattle.inode_parts.specs.OneSteps.{locks, other}
-use Rattle.inode_parts.specs.Sides.{beside_in}
-use Rattle.inode_parts.specs.declared.note.Notes.{Notes}
-use Rattle.inode_parts.proofs.Amid.{same_inode}
-use Rattle.inode_parts.proofs.Sides.{had_beside, lock_is_of}
+use Rattle.inode_parts.proofs.Vocabulary.{◌≡◌, ℕ, Bool, true, false, List, Option, None, refl, sym, ap, subst, ◌∙◌, ◌==◌, if◌then◌else◌, IsSome, MatchOption, option_map_or, put, GuardState, Inode, Hand, Seat, One, Two, inode_at, inode_in, no_inode, with_inode, HasNoBuffer, IsLoadedAt, beside_buffers, Had, Apart, nothing, carry_in, had_at, note_at, beside_inode, IsAmid, Unlocked, locks, other, beside_in, Notes}
+use Rattle.inode_parts.proofs.Basics.{same_inode, had_beside, lock_is_of}
 
 -- ---- what is had
 

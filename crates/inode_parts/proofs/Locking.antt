@@ -1,30 +1,6 @@
 -- How a part goes on whose routine takes a lock.
-use Rattle.std.proofs.Common.{◌≡◌, ℕ, List, Option, Some, None, refl, sym, ap, subst, ◌∙◌}
-use Rattle.std.specs.Prelude.{IsSome}
-use Rattle.std.specs.Option.{MatchOption, option_map_or}
-use Rattle.plain_tree.specs.Tree.{put}
-use Rattle.sleep_lock.specs.SleepLock.{GuardState}
-use Rattle.fs_layout.specs.declared.inode.Dinode.{Dinode}
-use Rattle.atomic_programs.specs.Prog.{Ret, bind}
-use Rattle.fs_machine.specs.declared.entries.Inode.{Inode}
-use Rattle.inode_table.specs.Programs.{record_of}
-use Rattle.fs_machine.specs.Machines.{P}
+use Rattle.inode_parts.proofs.Vocabulary.{◌≡◌, ℕ, List, Option, Some, None, refl, sym, ap, subst, ◌∙◌, IsSome, MatchOption, option_map_or, put, GuardState, Dinode, Ret, bind, Inode, record_of, P, Goes, inode_at, inode_in, no_inode, Hand, Seat, One, Two, number_in, record_in, IsLoadedAt, beside_lock, goes_to, goes_with, Carry, carry_in, had_of, with_note, IsAlone, locks, other, Part, beside_in, Note, Notes}
 use Rattle.fs_machine.specs.Steps as steps
-use Rattle.fs_machine.specs.Controls.{Goes}
-use Rattle.fs_machine.specs.Hands.{inode_at, inode_in, no_inode}
-use Rattle.fs_machine.specs.declared.hand.Hand.{Hand}
-use Rattle.fs_machine.specs.declared.hand.Seat.{Seat}
-use Rattle.fs_machine.specs.declared.hand.Seat.TheVariants.{One, Two}
-use Rattle.inode_table.specs.HeldInodes.{number_in, record_in, IsLoadedAt}
-use Rattle.inode_table.specs.LoadingHeld.{beside_lock}
-use Rattle.fs_machine.proofs.Goings.{goes_to, goes_with}
-use Rattle.inodes_on_blocks.specs.Lowering.{Carry}
-use Rattle.inode_parts.specs.Carries.{carry_in, had_of, with_note}
-use Rattle.inode_parts.specs.OneSteps.{IsAlone, locks, other}
-use Rattle.inode_parts.specs.Parts.{Part}
-use Rattle.inode_parts.specs.Sides.{beside_in}
-use Rattle.inode_parts.specs.declared.note.Note.{Note}
-use Rattle.inode_parts.specs.declared.note.Notes.{Notes}
 use Rattle.inode_parts.proofs.Sides.{held_beside, same_beside}
 
 -- meanwhile the other seat stays

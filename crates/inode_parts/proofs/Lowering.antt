@@ -1,27 +1,8 @@
 -- How a call over whole inodes goes on below.
-use Rattle.std.proofs.Common.{◌≡◌, ℕ, List, Some, refl, sym, ap, ◌∙◌, subst}
-use Rattle.plain_tree.specs.declared.answer.Reply.{Reply}
-use Rattle.fs_layout.specs.declared.superblock.Super.{Super}
+use Rattle.inode_parts.proofs.Vocabulary.{◌≡◌, ℕ, List, Some, refl, sym, ap, ◌∙◌, subst, Reply, Super, Ret, Do, part_begins, P, Hand, Goes, goes_bind, IsEmpty, machine, Op, Carry, below, nothing, handlers, asks, hears, Heard, with_text, carry_in, handed, answer_by, hears_in, IsPart, Part, lowered, with_part, Notes}
 use Rattle.atomic_programs.specs.Prog as progs
-use Rattle.atomic_programs.specs.Prog.{Ret, Do}
-use Rattle.atomic_programs.proofs.Below.{part_begins}
 use Rattle.fs_machine.specs.Steps as steps
-use Rattle.fs_machine.specs.Machines.{P}
-use Rattle.fs_machine.specs.declared.hand.Hand.{Hand}
-use Rattle.fs_machine.specs.Controls.{Goes}
-use Rattle.fs_machine.proofs.Going.{goes_bind}
-use Rattle.fs_machine.specs.Empty.{IsEmpty}
 use Rattle.inode_machine.specs.Parts as above
-use Rattle.inode_machine.specs.Rules.{machine}
-use Rattle.inode_machine.specs.World.{Op}
-use Rattle.inodes_on_blocks.specs.Lowering.{Carry, below, nothing}
-use Rattle.inodes_on_blocks.specs.Programs.{handlers}
-use Rattle.path_walk.specs.Asks.{asks, hears}
-use Rattle.path_walk.specs.declared.asks.Heard.{Heard}
-use Rattle.inode_parts.specs.Calls.{with_text}
-use Rattle.inode_parts.specs.Carries.{carry_in, handed}
-use Rattle.inode_parts.specs.Parts.{answer_by, hears_in, IsPart, Part, lowered, with_part}
-use Rattle.inode_parts.specs.declared.note.Notes.{Notes}
 
 same_asks : (p : above.P Reply) → progs.asks p ≡ asks p
 same_asks (Ret r) = refl

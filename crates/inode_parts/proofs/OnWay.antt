@@ -1,29 +1,12 @@
 -- How a call that runs below goes on from one operation to the next.
-use Rattle.std.proofs.Common.{◌≡◌, ℕ, List, [], ◌++◌, Some, refl, sym, ap, ◌∙◌, subst, arith}
-use Rattle.plain_tree.specs.declared.answer.Reply.{Reply}
-use Rattle.plain_tree.specs.declared.call.Call.{Call}
-use Rattle.atomic_programs.specs.Prog.{Ret, Do}
-use Rattle.fs_machine.specs.Empty.{IsEmpty}
+use Rattle.inode_parts.proofs.Vocabulary.{◌≡◌, ℕ, List, [], ◌++◌, Some, refl, sym, ap, ◌∙◌, subst, arith, Reply, Call, Ret, Do, IsEmpty, program, answer_to, asks, hears, op_in, IsNamed, IsNamedInTwo, in_two, named_front, WholeAsks, WholeFits, call_in, second_in, text_in, whole_of, Ask, Heard, Whole, BeginsWith, FillsOrStays, IsOnWay, RunsByParts, path_of, AskStands, Having, Leaves, Runs, AskTold, PartTold, UnderWay, InodePart}
 use Rattle.inode_machine.specs.Parts as programs
-use Rattle.inode_machine.specs.Programs.{program}
 use Rattle.inode_machine.specs.World as above
-use Rattle.path_walk.specs.Asks.{answer_to, asks, hears, op_in, IsNamed, IsNamedInTwo}
-use Rattle.whole_calls.proofs.Shifted.{in_two, named_front}
-use Rattle.whole_calls.specs.Wholes.{WholeAsks, WholeFits, call_in, first_in, second_in, text_in, whole_of}
-use Rattle.path_walk.specs.declared.asks.Ask.{Ask}
+use Rattle.whole_calls.specs.Wholes.{first_in}
 use Rattle.path_walk.specs.declared.asks.Ask.TheVariants as ask
-use Rattle.path_walk.specs.declared.asks.Heard.{Heard}
 use Rattle.path_walk.specs.declared.asks.Query.TheVariants as query
 use Rattle.whole_calls.specs.declared.reading.Read.TheVariants as reading
-use Rattle.whole_calls.specs.declared.whole.Whole.{Whole}
 use Rattle.whole_calls.specs.declared.whole.Whole.TheVariants as whole
-use Rattle.inode_parts.specs.Expecting.{BeginsWith}
-use Rattle.inode_parts.specs.Calls.{FillsOrStays, IsOnWay, RunsByParts, path_of}
-use Rattle.inode_parts.specs.Enters.{AskStands}
-use Rattle.inode_parts.specs.Holding.{Having, Leaves, Runs}
-use Rattle.inode_parts.specs.InodeParts.{AskTold, PartTold}
-use Rattle.inode_parts.specs.UnderWay.{UnderWay}
-use Rattle.inode_parts.specs.declared.part.InodePart.{InodePart}
 use Rattle.inode_parts.proofs.Texts.{heard_runs}
 
 -- ---- the path in which its names stand

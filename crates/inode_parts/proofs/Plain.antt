@@ -1,23 +1,7 @@
 -- Programs that several operations have in them: without marks they are the code's.
-use Rattle.std.proofs.Common.{◌≡◌, ℕ, ◌==◌, Bool, true, false, if◌then◌else◌, List, [], ◌∷◌, Option, Some, None, refl, ◌∙◌}
-use Rattle.std.specs.Prelude.{slice_index, take}
-use Rattle.fs_layout.specs.declared.inode.Dinode.{Dinode}
-use Rattle.fs_layout.specs.declared.superblock.Super.{Super}
-use Rattle.fs_layout.specs.Indirect.{numbers_in}
-use Rattle.atomic_programs.specs.Prog.{Prog, Do, bind, plain, unmarked}
-use Rattle.atomic_programs.proofs.Prog.{bind-assoc, plain-bind}
-use Rattle.fs_machine.specs.Programs.{fetch, read_unless}
+use Rattle.inode_parts.proofs.Vocabulary.{◌≡◌, ℕ, ◌==◌, Bool, true, false, if◌then◌else◌, List, [], ◌∷◌, Option, Some, None, refl, ◌∙◌, slice_index, take, Dinode, Super, numbers_in, Prog, Do, bind, plain, unmarked, bind-assoc, plain-bind, fetch, read_unless, clear_bit, free_block, inode_block, give_back, load_unless, put_inode, store_inode, address, table_of, free_numbers, free_table, free_in_table, free_indirect, fetch_at, fetch_block, fetch_named, fetch_number, give_fetched, direct, Address, Direct, InTable, give_content, Acts}
 use Rattle.fs_machine.specs.Steps as steps
-use Rattle.bitmap_alloc.specs.Programs.{clear_bit, free_block}
-use Rattle.inode_table.specs.Programs.{inode_block, give_back, load_unless, put_inode, store as store_inode}
-use Rattle.inode_data.specs.Addresses.{address, table_of}
-use Rattle.inode_data.specs.Freeing.{free_numbers, free_table, free_in_table, free_indirect}
-use Rattle.inode_data.specs.Programs.{fetch_at, fetch_block, fetch_named, fetch_number, give_fetched}
-use Rattle.inode_data.specs.Widths.{direct}
-use Rattle.inode_data.specs.declared.addresses.Address.{Address}
-use Rattle.inode_data.specs.declared.addresses.Address.TheVariants.{Direct, InTable}
-use Rattle.inodes_on_blocks.specs.Emptying.{give_content}
-use Rattle.inodes_on_blocks.specs.Handlers.{Acts, P}
+use Rattle.inodes_on_blocks.specs.Handlers.{P}
 
 pub plain_fetch : (b : ℕ) → plain (fetch {M = Acts} b) ≡ fetch b
 plain_fetch b = λ i. Do (steps.Get b) unmarked (λ content. read content i)

@@ -1,29 +1,9 @@
 -- Contents written and directories searched: without marks the programs are the code's.
-use Rattle.std.proofs.Common.{◌≡◌, ℕ, zero, suc, ◌+◌, ◌/◌, ◌≤◌, ◌==◌, nat_lt, Bool, true, false, if◌then◌else◌, List, length, drop, Option, Some, None, refl, sym, ◌∙◌, ap, arith}
-use Rattle.std.specs.Prelude.{slice_index}
-use Rattle.std.proofs.lemmas.Bool.Decides.{nat_tests}
-use Rattle.fs_layout.specs.declared.inode.Dinode.{Dinode}
-use Rattle.fs_layout.specs.declared.superblock.Super.{Super}
-use Rattle.fs_layout.specs.Indirect.{numbers_in}
-use Rattle.fs_layout.specs.Widths.{block_len}
-use Rattle.atomic_programs.specs.Prog.{Ret, Do, bind, plain, unmarked}
-use Rattle.atomic_programs.proofs.Prog.{bind-assoc, plain-bind}
+use Rattle.inode_parts.proofs.Vocabulary.{◌≡◌, ℕ, zero, suc, ◌+◌, ◌/◌, ◌≤◌, ◌==◌, nat_lt, Bool, true, false, if◌then◌else◌, List, length, drop, Option, Some, None, refl, sym, ◌∙◌, ap, arith, slice_index, nat_tests, Dinode, Super, numbers_in, block_len, Ret, Do, bind, plain, unmarked, bind-assoc, plain-bind, fetch, marked_by, first_clear_below, give_zeros, take_first, zero_found, Address, Direct, InTable, address, table_of, fetch_block, direct, WriteResult, front_of, locate, locate_at, locate_in_table, located, look_up, name_direct, name_in_table, put_part, take_one, with_address, with_table, write_blocks, write_in, write_located, Found, Aim, Unused, block_count, found_in, look_at, or_next, search, search_from, slot_count, look_last, search_full, seek_free, Acts}
 use Rattle.fs_machine.specs.Machines as code
-use Rattle.fs_machine.specs.Programs.{fetch}
 use Rattle.fs_machine.specs.Steps as steps
-use Rattle.bitmap_alloc.specs.Bytes.{marked_by}
-use Rattle.bitmap_alloc.specs.First.{first_clear_below}
-use Rattle.bitmap_alloc.specs.Programs.{give_zeros, take_first, zero_found}
-use Rattle.inode_data.specs.declared.addresses.Address.{Address}
-use Rattle.inode_data.specs.declared.addresses.Address.TheVariants.{Direct, InTable}
-use Rattle.inode_data.specs.Addresses.{address, table_of}
-use Rattle.inode_data.specs.Programs.{fetch_block}
-use Rattle.inode_data.specs.Widths.{direct}
-use Rattle.inode_data.specs.Writing.{WriteResult, front_of, locate, locate_at, locate_in_table, located, look_up, name_direct, name_in_table, put_part, take_one, with_address, with_part, with_table, write_blocks, write_in, write_located}
-use Rattle.directory.specs.declared.found.Found.{Found}
-use Rattle.directory.specs.Programs.{Aim, Unused, block_count, found_in, look_at, or_next, search, search_from, slot_count}
-use Rattle.inodes_on_blocks.specs.Entering.{look_last, search_full, seek_free}
-use Rattle.inodes_on_blocks.specs.Handlers.{Acts, P}
+use Rattle.inode_data.specs.Writing.{with_part}
+use Rattle.inodes_on_blocks.specs.Handlers.{P}
 use Rattle.inode_parts.proofs.Plain.{plain_block, plain_fetch}
 
 -- one program after the other

@@ -1,40 +1,10 @@
 -- The first listed inode locked: the operation is its part.
-use Rattle.std.proofs.Common.{◌≡◌, ◌<◌, ◌^◌, ◌⊎◌, inl, inr, ℕ, List, [], ◌∷◌, true, false, Option, Some, None, refl, sym, ap, subst, ◌∙◌}
-use Rattle.std.specs.Prelude.{IsSome, is_some}
-use Rattle.std.specs.Option.{option_map_or, unwrap_or}
-use Rattle.sleep_lock.specs.SleepLock.{GuardState}
-use Rattle.fs_layout.specs.declared.inode.Dinode.{Dinode}
-use Rattle.fs_layout.specs.declared.superblock.Super.{Super}
-use Rattle.fs_machine.specs.declared.entries.Inode.{Inode}
-use Rattle.atomic_programs.specs.Prog.{bind}
+use Rattle.inode_parts.proofs.Vocabulary.{◌≡◌, ◌<◌, ◌^◌, ◌⊎◌, inl, inr, ℕ, List, [], ◌∷◌, true, false, Option, Some, None, refl, sym, ap, subst, ◌∙◌, IsSome, is_some, option_map_or, unwrap_or, GuardState, Dinode, Super, Inode, bind, inode_block, load_unless, first_in, first_listed, inode_at, inode_in, no_inode, number_at, reference_at, with_first, with_inode, Hand, Seat, One, Two, HasNoBuffer, number_in, HasBlock, lock_loaded, eq_is, eq_self, AtNothing, Query, Take, answer_to, Heard, carry_in, Comes, CameTo, Leaves, having, IsAlone, free_seat, other, refers, seat_of_reference, IsPart, Part, MayRelock, RelockBegins, RelockReady, beside_in, looked, IsTaken, Sees, TakeBegins, Notes}
 use Rattle.fs_machine.specs.Machines as code
-use Rattle.inode_table.specs.Programs.{inode_block, load_unless}
-use Rattle.fs_machine.specs.Hands.{first_in, first_listed, inode_at, inode_in, no_inode, number_at, reference_at, with_first, with_inode}
-use Rattle.fs_machine.specs.declared.hand.Hand.{Hand}
-use Rattle.fs_machine.specs.declared.hand.Seat.{Seat}
-use Rattle.fs_machine.specs.declared.hand.Seat.TheVariants.{One, Two}
-use Rattle.inode_data.specs.Emptying.{HasNoBuffer}
-use Rattle.inode_table.specs.HeldInodes.{number_in, HasBlock}
-use Rattle.inode_table.specs.LockingInodes.{lock_loaded}
-use Rattle.tree_laws.proofs.Maps.{eq_is, eq_self}
-use Rattle.inode_machine.specs.Inodes.{AtNothing, Query}
-use Rattle.inode_machine.specs.World.Op.{Take}
-use Rattle.path_walk.specs.Asks.{answer_to}
-use Rattle.path_walk.specs.declared.asks.Heard.{Heard}
 use Rattle.path_walk.specs.declared.asks.Query.TheVariants as query
-use Rattle.inode_parts.specs.Carries.{carry_in}
-use Rattle.inode_parts.specs.Coming.{Comes}
-use Rattle.inode_parts.specs.Holding.{CameTo, Leaves}
-use Rattle.inode_parts.specs.Leaving.{having}
-use Rattle.inode_parts.specs.OneSteps.{IsAlone, free_seat, other, refers, seat_of_reference}
-use Rattle.inode_parts.specs.Parts.{IsPart, Part}
-use Rattle.inode_parts.specs.Relocks.{MayRelock, RelockBegins, RelockReady}
-use Rattle.inode_parts.specs.Sides.{beside_in}
-use Rattle.inode_parts.specs.Takes.{looked, IsTaken, Sees, TakeBegins}
-use Rattle.inode_parts.specs.declared.note.Notes.{Notes}
 use Rattle.inode_parts.specs.declared.relock_part.RelockPart.TheVariants as relock
 use Rattle.inode_parts.proofs.Seeing.{taken_leaves}
-use Rattle.inode_parts.proofs.Sides.{alone_still, same_beside}
+use Rattle.inode_parts.proofs.Basics.{alone_still, same_beside}
 use Rattle.inode_parts.proofs.Takes.{locked_is_part}
 use Rattle.inode_parts.proofs.Taking.{number_same}
 

@@ -1,16 +1,10 @@
 -- A directory searched, without marks.
-use Rattle.std.proofs.Common.{◌≡◌, ℕ, zero, suc, ◌+◌, Bool, true, false, if◌then◌else◌, List, Option, Some, None, refl}
-use Rattle.fs_layout.specs.declared.inode.Dinode.{Dinode}
-use Rattle.atomic_programs.specs.Prog.{Ret, Do, plain, unmarked}
+use Rattle.inode_parts.proofs.Vocabulary.{◌≡◌, ℕ, zero, suc, ◌+◌, Bool, true, false, if◌then◌else◌, List, Option, Some, None, refl, Dinode, Ret, Do, plain, unmarked, fetch_block, Aim, Entry, Named, block_count, found_in, is_directory, is_live_directory, look_at, lookup, or_next, search, search_from, entries, Acts, search_entries}
 use Rattle.fs_machine.specs.Machines as code
 use Rattle.fs_machine.specs.Steps as steps
-use Rattle.inode_data.specs.Programs.{fetch_block}
-use Rattle.directory.specs.Programs.{Aim, Entry, Named, block_count, found_in, is_directory, is_live_directory, look_at, lookup, or_next, search, search_from}
-use Rattle.directory.specs.Searching.{entries}
-use Rattle.inodes_on_blocks.specs.Handlers.{Acts, P}
-use Rattle.inodes_on_blocks.specs.Reading.{search_entries}
+use Rattle.inodes_on_blocks.specs.Handlers.{P}
+use Rattle.inode_parts.proofs.Basics.{plain_block}
 use Rattle.inode_parts.proofs.Afterwards.{then_plain}
-use Rattle.inode_parts.proofs.Plain.{plain_block}
 
 plain_or_next : {A : Type 0} (o : Option A) (p : P (Option A)) (q : code.P (Option A)) → plain p ≡ q → plain (or_next o p) ≡ or_next o q
 plain_or_next (Some a) p q same = refl

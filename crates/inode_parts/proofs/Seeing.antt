@@ -1,38 +1,8 @@
 -- What is left in hand of an inode that is taken, and what was seen in it.
-use Rattle.std.proofs.Common.{◌≡◌, ℕ, List, [], true, Option, Some, None, sym, ap, subst, ◌∙◌}
-use Rattle.std.specs.Prelude.{◌<◌, ◌^◌, IsSome, IfSome}
-use Rattle.std.specs.Option.{option_map, unwrap_or}
-use Rattle.tree_laws.proofs.Slots.{same_self}
-use Rattle.directory.specs.Sought.{IsSlot}
-use Rattle.directory.specs.declared.found.Found.{Found}
-use Rattle.fs_machine.specs.Hands.{number_at}
-use Rattle.fs_machine.specs.declared.hand.Hand.{Hand}
-use Rattle.fs_machine.specs.declared.hand.Seat.{Seat}
-use Rattle.fs_machine.specs.declared.hand.Seat.TheVariants.{One, Two}
-use Rattle.inode_table.specs.LoadingHeld.{beside_lock}
-use Rattle.inode_data.specs.Locating.{Leaves as LeavesBuffers}
-use Rattle.directory.specs.Searching.{SearchReady}
-use Rattle.directory.specs.declared.search.Search.{Search}
-use Rattle.directory.specs.declared.search.Search.TheVariants.{Fetching, Giving}
+use Rattle.inode_parts.proofs.Vocabulary.{◌≡◌, ℕ, List, [], true, Option, Some, None, sym, ap, subst, ◌∙◌, ◌<◌, ◌^◌, IsSome, IfSome, option_map, unwrap_or, same_self, IsSlot, Found, number_at, Hand, Seat, One, Two, beside_lock, LeavesBuffers, SearchReady, Search, Fetching, Giving, AtEntries, AtName, AtNothing, number_found, answer_to, face_of, sight_in, name_in, Face, Heard, Element, having, note_at, with_note, HasFound, Comes, CameTo, IsCounted, Learns, LearnsBy, Leaves, HasReference, IsAlone, other, seat_of_lock, seat_of_reference, note_of, IsTaken, Sees, Note, Notes}
 use Rattle.inode_machine.specs.Inodes as whole
-use Rattle.inode_machine.specs.Inodes.{AtEntries, AtName, AtNothing}
 use Rattle.inode_machine.specs.World.{Take}
-use Rattle.inodes_on_blocks.specs.Reading.{number_found}
-use Rattle.path_walk.specs.Asks.{answer_to, face_of, sight_in}
-use Rattle.path_walk.specs.Elements.{name_in}
-use Rattle.path_walk.specs.declared.asks.Face.{Face}
-use Rattle.path_walk.specs.declared.asks.Heard.{Heard}
 use Rattle.path_walk.specs.declared.asks.Heard.TheVariants as heard
-use Rattle.path_walk.specs.declared.elements.Element.{Element}
-use Rattle.inode_parts.specs.Leaving.{having}
-use Rattle.inode_parts.specs.Carries.{note_at, with_note}
-use Rattle.inode_parts.specs.Clears.{HasFound}
-use Rattle.inode_parts.specs.Coming.{Comes}
-use Rattle.inode_parts.specs.Holding.{CameTo, IsCounted, Learns, LearnsBy, Leaves}
-use Rattle.inode_parts.specs.OneSteps.{HasReference, IsAlone, other, seat_of_lock, seat_of_reference}
-use Rattle.inode_parts.specs.Takes.{note_of, IsTaken, Sees}
-use Rattle.inode_parts.specs.declared.note.Note.{Note}
-use Rattle.inode_parts.specs.declared.note.Notes.{Notes}
 use Rattle.inode_parts.proofs.Coming.{came, its_seat, noted_apart, noted_there}
 use Rattle.inode_parts.proofs.Taking.{number_same}
 

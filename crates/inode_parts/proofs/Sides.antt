@@ -1,21 +1,5 @@
 -- What is in hand of one inode, and beside it what is at the other seat.
-use Rattle.std.proofs.Common.{◌≡◌, ℕ, List, Bool, true, false, Option, Some, None, refl, sym, ap, subst, ◌∙◌}
-use Rattle.std.specs.Prelude.{◌==◌, if◌then◌else◌, IsSome}
-use Rattle.std.specs.Option.{option_map_or}
-use Rattle.plain_tree.specs.Tree.{put}
-use Rattle.tree_laws.proofs.Maps.{eq_is}
-use Rattle.sleep_lock.specs.SleepLock.{GuardState}
-use Rattle.fs_machine.specs.declared.entries.Inode.{Inode}
-use Rattle.fs_machine.specs.declared.hand.Hand.{Hand}
-use Rattle.fs_machine.specs.declared.hand.Seat.{Seat}
-use Rattle.fs_machine.specs.declared.hand.Seat.TheVariants.{One, Two}
-use Rattle.fs_machine.specs.Hands.{inode_at, inode_in, no_inode}
-use Rattle.inodes_on_blocks.specs.Lowering.{Had, Apart}
-use Rattle.inode_parts.specs.Carries.{carry_in, had_at, had_of, note_at, with_note}
-use Rattle.inode_parts.specs.OneSteps.{IsAlone, locks, other}
-use Rattle.inode_parts.specs.Sides.{beside_in, IsOf}
-use Rattle.inode_parts.specs.declared.note.Note.{Note}
-use Rattle.inode_parts.specs.declared.note.Notes.{Notes}
+use Rattle.inode_parts.proofs.Vocabulary.{◌≡◌, ℕ, List, Bool, true, false, Option, Some, None, refl, sym, ap, subst, ◌∙◌, ◌==◌, if◌then◌else◌, IsSome, option_map_or, put, eq_is, GuardState, Inode, Hand, Seat, One, Two, inode_at, inode_in, no_inode, Had, Apart, carry_in, had_at, had_of, note_at, with_note, IsAlone, locks, other, beside_in, IsOf, Note, Notes}
 use Rattle.inode_parts.proofs.Handing.{apart}
 
 -- a seat whose lock, if one is there, is that of another inode

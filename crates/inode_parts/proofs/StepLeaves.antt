@@ -1,33 +1,10 @@
 -- What operations on whole inodes that are one operation below leave in hand.
-use Rattle.std.proofs.Common.{arith, ◌≡◌, ℕ, List, [], ◌∷◌, ◌++◌, Bool, true, false, Option, Some, None, refl, sym, ap, ◌∙◌, subst}
-use Rattle.std.specs.Prelude.{IfSome, is_some, if◌then◌else◌}
-use Rattle.std.specs.Option.{MatchOption, unwrap_or}
-use Rattle.plain_tree.specs.Widths.{descriptor_count}
-use Rattle.atomic_programs.specs.Prog.{Ret, Do}
-use Rattle.fs_machine.specs.declared.entries.Inode.{Inode}
-use Rattle.fs_machine.specs.Controls.{Goes}
-use Rattle.fs_machine.specs.Hands.{inode_in, number_at, reference_at, with_inode, with_listed, with_reference, with_seated}
-use Rattle.fs_machine.specs.Ops.{IsAfter, IsDown, IsHanded, IsJoined, IsKept, IsLent, IsOpened, answer_in, dropped_by, given_by, joined_by, kept_by, number_by, shut_by, yes_in}
-use Rattle.fs_machine.specs.declared.hand.Hand.{Hand}
-use Rattle.fs_machine.specs.declared.hand.Seat.{Seat}
-use Rattle.fs_machine.specs.declared.hand.Seat.TheVariants.{One, Two}
-use Rattle.fs_machine.specs.declared.op.Answer.{Answer}
+use Rattle.inode_parts.proofs.Vocabulary.{arith, ◌≡◌, ℕ, List, [], ◌∷◌, ◌++◌, Bool, true, false, Option, Some, None, refl, sym, ap, ◌∙◌, subst, IfSome, is_some, if◌then◌else◌, MatchOption, unwrap_or, descriptor_count, Ret, Do, Inode, Goes, inode_in, number_at, reference_at, with_inode, with_listed, with_reference, with_seated, IsAfter, IsDown, IsHanded, IsJoined, IsKept, IsLent, IsOpened, answer_in, dropped_by, given_by, joined_by, kept_by, number_by, shut_by, yes_in, Hand, Seat, One, Two, Answer, is_dying, is_listed, old_directory, shut_to, answer_to, bool_in, joined_in, loan_in, shut_in, start_in, Heard, handed, note_at, with_note, Having, Leaves, LeavesDown, LeavesInstall, LeavesJoinFile, LeavesLend, LeavesShut, LeavesUp, LeavesWalkDown, ReferredOrAside, part_for, having, Begins, HasFreeSeat, free_seat, joining_heard, loan_heard, other, seat_of_lock, seat_of_reference, step_asked, step_for, step_left, step_notes, Part, OneAmid, UnderWay, Notes, OneStep}
 use Rattle.fs_machine.specs.declared.op.Answer.TheVariants as answers
 use Rattle.inode_machine.specs.World as above
-use Rattle.inodes_on_blocks.specs.Handlers.{is_dying, is_listed, old_directory, shut_to}
-use Rattle.path_walk.specs.Asks.{answer_to, bool_in, joined_in, loan_in, number_in, shut_in, start_in}
-use Rattle.path_walk.specs.declared.asks.Heard.{Heard}
+use Rattle.path_walk.specs.Asks.{number_in}
 use Rattle.path_walk.specs.declared.asks.Heard.TheVariants as heard
-use Rattle.inode_parts.specs.Carries.{handed, note_at, with_note}
-use Rattle.inode_parts.specs.Holding.{Having, Leaves, LeavesDown, LeavesInstall, LeavesJoinFile, LeavesLend, LeavesShut, LeavesUp, LeavesWalkDown, ReferredOrAside}
-use Rattle.inode_parts.specs.InodeParts.{part_for}
-use Rattle.inode_parts.specs.Leaving.{having}
-use Rattle.inode_parts.specs.OneSteps.{Begins, HasFreeSeat, free_seat, joining_heard, loan_heard, other, seat_of_lock, seat_of_reference, step_asked, step_for, step_left, step_notes}
-use Rattle.inode_parts.specs.Parts.{Part}
-use Rattle.inode_parts.specs.UnderWay.{OneAmid, UnderWay}
 use Rattle.inode_parts.specs.declared.note.Note.TheVariants as note
-use Rattle.inode_parts.specs.declared.note.Notes.{Notes}
-use Rattle.inode_parts.specs.declared.one_step.OneStep.{OneStep}
 use Rattle.inode_parts.specs.declared.one_step.OneStep.TheVariants as step
 
 -- it begins so

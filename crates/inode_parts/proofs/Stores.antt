@@ -1,37 +1,11 @@
 -- An inode's count put: it is a part, and goes on.
-use Rattle.std.proofs.Common.{◌≡◌, ℕ, List, Option, Some, None, refl, sym, ap, ◌∙◌}
-use Rattle.fs_layout.specs.declared.inode.Dinode.{Dinode}
-use Rattle.fs_layout.specs.declared.superblock.Super.{Super}
-use Rattle.plain_tree.specs.Tree.{put}
-use Rattle.atomic_programs.specs.Prog.{Ret, Do, bind, plain, unmarked}
-use Rattle.atomic_programs.specs.Joined.{Handover}
-use Rattle.atomic_programs.proofs.Prog.{bind-assoc}
-use Rattle.fs_machine.specs.declared.entries.Inode.{Inode}
-use Rattle.fs_machine.specs.Machines.{P}
-use Rattle.fs_machine.specs.Programs.{fetch, read_unless}
+use Rattle.inode_parts.proofs.Vocabulary.{◌≡◌, ℕ, List, Option, Some, None, refl, sym, ap, ◌∙◌, Dinode, Super, put, Ret, Do, bind, plain, unmarked, Handover, bind-assoc, Inode, P, fetch, read_unless, inode_block, put_inode, record_of, with_dinode, store_inode, Hand, Goes, inode_in, with_buffer, with_record, counted, record_left, record_place, goes_with, Acts, NothingMore, Carry, Has, record_had, carry_in, handed, with_note, HasLock, seat_of_lock, IsPart, Message, store_part_left, Notes, StorePart}
 use Rattle.fs_machine.specs.Steps as steps
-use Rattle.inode_table.specs.Programs.{inode_block, put_inode, record_of, with_dinode, store as store_inode}
-use Rattle.fs_machine.specs.declared.hand.Hand.{Hand}
-use Rattle.fs_machine.specs.Controls.{Goes}
-use Rattle.fs_machine.specs.Hands.{inode_in, with_buffer, with_record}
-use Rattle.inode_table.specs.HeldInodes.{counted}
-use Rattle.inode_table.specs.StoringRecords.{record_left, record_place}
-use Rattle.fs_machine.proofs.Goings.{goes_with}
 use Rattle.inode_machine.specs.World as above
 use Rattle.inodes_on_blocks.specs.Handlers as handlers
-use Rattle.inodes_on_blocks.specs.Handlers.{Acts}
-use Rattle.inodes_on_blocks.specs.Lowering.{NothingMore, Carry, Has, record_had}
 use Rattle.path_walk.specs.declared.asks.Heard.TheVariants as heard
-use Rattle.inode_parts.specs.Carries.{carry_in, handed, with_note}
-use Rattle.inode_parts.specs.OneSteps.{HasLock, seat_of_lock}
-use Rattle.inode_parts.specs.Parts.{IsPart, Message}
-use Rattle.inode_parts.specs.Stores.{store_part_left}
 use Rattle.inode_parts.specs.declared.note.Note.TheVariants as note
-use Rattle.inode_parts.specs.declared.note.Notes.{Notes}
-use Rattle.inode_parts.specs.declared.store_part.StorePart.{StorePart}
-use Rattle.inode_parts.proofs.Begins.{lock_is}
-use Rattle.inode_parts.proofs.Changing.{changes}
-use Rattle.inode_parts.proofs.Handing.{beside_buffer}
+use Rattle.inode_parts.proofs.Basics.{lock_is, changes, beside_buffer}
 
 -- an inode put in its block, whatever that is marked with, and how it ends
 pub put_so : {A : Type 0} (b n : ℕ) (d : Dinode) (mark : Option Acts) (r : A)

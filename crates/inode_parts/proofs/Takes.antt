@@ -1,48 +1,15 @@
 -- An inode locked and looked at: the operation is its part.
-use Rattle.std.proofs.Common.{◌≡◌, ℕ, List, Bool, true, false, if◌then◌else◌, Option, Some, None, refl, sym, ap, subst, ◌∙◌}
-use Rattle.std.specs.Prelude.{◌<◌, ◌^◌, is_some, not, IsSome}
-use Rattle.std.specs.Option.{option_map, unwrap_or}
-use Rattle.plain_tree.specs.Tree.{put}
-use Rattle.fs_layout.specs.declared.inode.Dinode.{Dinode}
-use Rattle.fs_layout.specs.declared.superblock.Super.{Super}
-use Rattle.atomic_programs.specs.Prog.{Ret, Do, bind, plain, unmarked}
-use Rattle.atomic_programs.specs.Joined.{Handover}
-use Rattle.atomic_programs.proofs.Prog.{bind-assoc}
+use Rattle.inode_parts.proofs.Vocabulary.{◌≡◌, ℕ, List, Bool, true, false, if◌then◌else◌, Option, Some, None, refl, sym, ap, subst, ◌∙◌, ◌<◌, ◌^◌, is_some, not, IsSome, option_map, unwrap_or, put, Dinode, Super, Ret, Do, bind, plain, unmarked, Handover, bind-assoc, is_free, inode_block, load_unless, lookup, Found, entries, inode_at, number_at, reference_at, Seat, Hand, lock_left, lock_loaded, lock_seat, LockInode, Sight, Take, Carry, NothingMore, Knowledge, Finds, Has, face_in, learned, number_found, search_entries, seen_record, face_of, query_in, sight_in, name_in, Element, carry_in, had_of, face_by, face_unless_free, IsAlone, seat_of_reference, IsPart, Message, beside_in, listed_ends, looked, named_ends, seen, TakeBegins, Note, Notes}
 use Rattle.fs_machine.specs.Machines as code
 use Rattle.fs_machine.specs.Steps as steps
-use Rattle.image_tree.specs.Inodes.{is_free}
-use Rattle.inode_table.specs.Programs.{inode_block, load_unless}
-use Rattle.directory.specs.Programs.{lookup}
-use Rattle.directory.specs.declared.found.Found.{Found}
-use Rattle.directory.specs.Searching.{entries}
-use Rattle.fs_machine.specs.Hands.{inode_at, number_at, reference_at}
-use Rattle.fs_machine.specs.declared.hand.Seat.{Seat}
-use Rattle.fs_machine.specs.declared.hand.Hand.{Hand}
-use Rattle.inode_table.specs.LockingInodes.{lock_left, lock_loaded, lock_seat}
-use Rattle.inode_table.specs.declared.lock_inode.LockInode.{LockInode}
-use Rattle.inode_machine.specs.Inodes.{Face, Sight}
-use Rattle.inode_machine.specs.World.Op.{Take}
-use Rattle.inodes_on_blocks.specs.Lowering.{Carry, NothingMore, Knowledge, Finds, Has}
+use Rattle.inode_machine.specs.Inodes.{Face}
 use Rattle.inodes_on_blocks.specs.Reading as handlers
-use Rattle.inodes_on_blocks.specs.Reading.{face_in, learned, number_found, search_entries, seen_record}
-use Rattle.path_walk.specs.Asks.{face_of, query_in, sight_in}
-use Rattle.path_walk.specs.Elements.{name_in}
 use Rattle.path_walk.specs.declared.asks.Query.{Query}
 use Rattle.path_walk.specs.declared.asks.Query.TheVariants as query
-use Rattle.path_walk.specs.declared.elements.Element.{Element}
-use Rattle.inode_parts.specs.Carries.{carry_in, had_of}
-use Rattle.inode_parts.specs.Faces.{face_by, face_unless_free}
-use Rattle.inode_parts.specs.OneSteps.{IsAlone, seat_of_reference}
-use Rattle.inode_parts.specs.Parts.{IsPart, Message}
-use Rattle.inode_parts.specs.Sides.{beside_in}
-use Rattle.inode_parts.specs.Takes.{listed_ends, looked, named_ends, seen, TakeBegins}
-use Rattle.inode_parts.specs.declared.note.Note.{Note}
 use Rattle.inode_parts.specs.declared.note.Note.TheVariants as note
-use Rattle.inode_parts.specs.declared.note.Notes.{Notes}
-use Rattle.inode_parts.proofs.Afterwards.{load_then, then_plain}
+use Rattle.inode_parts.proofs.Basics.{load_then, face_same, none_beside}
+use Rattle.inode_parts.proofs.Afterwards.{then_plain}
 use Rattle.inode_parts.proofs.Searched.{plain_entries, plain_lookup}
-use Rattle.inode_parts.proofs.Telling.{face_same}
-use Rattle.inode_parts.proofs.Sides.{none_beside}
 
 -- what is heard of it is what is answered
 faces_same : (d : Dinode) → option_map face_of (face_unless_free d) ≡ (if is_free d then None else Some (face_in d))

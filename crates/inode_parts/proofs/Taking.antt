@@ -1,38 +1,9 @@
 -- How an inode that is taken is looked at.
-use Rattle.std.proofs.Common.{◌≡◌, ℕ, List, Option, sym, ap, subst, ◌∙◌}
-use Rattle.std.specs.Prelude.{Bool}
-use Rattle.fs_layout.specs.declared.inode.Dinode.{Dinode}
-use Rattle.atomic_programs.specs.Prog.{Ret, bind}
-use Rattle.fs_machine.specs.Machines.{P}
+use Rattle.inode_parts.proofs.Vocabulary.{◌≡◌, ℕ, List, Option, sym, ap, subst, ◌∙◌, Bool, Dinode, Ret, bind, P, Aim, Found, Goes, number_at, Hand, Seat, One, Two, record_in, beside_lock, LeavesBuffers as Leaves, HasLocked, goes_to, goes_with, search_left, Search, Carry, Heard, carry_in, handed, with_note, face_unless_free, IsAlone, Part, beside_in, looked, seen, IsTaken, Note, Notes}
 use Rattle.fs_machine.specs.Steps as steps
-use Rattle.directory.specs.Programs.{Aim}
-use Rattle.directory.specs.declared.found.Found.{Found}
-use Rattle.fs_machine.specs.Controls.{Goes}
-use Rattle.fs_machine.specs.Hands.{number_at}
-use Rattle.fs_machine.specs.declared.hand.Hand.{Hand}
-use Rattle.fs_machine.specs.declared.hand.Seat.{Seat}
-use Rattle.fs_machine.specs.declared.hand.Seat.TheVariants.{One, Two}
-use Rattle.inode_table.specs.HeldInodes.{record_in}
-use Rattle.inode_table.specs.LoadingHeld.{beside_lock}
-use Rattle.inode_data.specs.Locating.{Leaves}
-use Rattle.inode_table.specs.LockingInodes.{HasLocked}
-use Rattle.fs_machine.proofs.Goings.{goes_to, goes_with}
-use Rattle.directory.specs.Searching.{search_left}
-use Rattle.directory.specs.declared.search.Search.{Search}
-use Rattle.inodes_on_blocks.specs.Lowering.{Carry}
-use Rattle.path_walk.specs.declared.asks.Heard.{Heard}
 use Rattle.path_walk.specs.declared.asks.Heard.TheVariants as heard
 use Rattle.path_walk.specs.declared.asks.Query.{Query}
-use Rattle.inode_parts.specs.Carries.{carry_in, handed, with_note}
-use Rattle.inode_parts.specs.Faces.{face_unless_free}
-use Rattle.inode_parts.specs.OneSteps.{IsAlone}
-use Rattle.inode_parts.specs.Parts.{Part}
-use Rattle.inode_parts.specs.Sides.{beside_in}
-use Rattle.inode_parts.specs.Takes.{looked, seen, IsTaken}
-use Rattle.inode_parts.specs.declared.note.Note.{Note}
-use Rattle.inode_parts.specs.declared.note.Notes.{Notes}
-use Rattle.inode_parts.proofs.Locking.{had_now, lock_on, lock_over, other_stays}
-use Rattle.inode_parts.proofs.Sides.{alone_still}
+use Rattle.inode_parts.proofs.Basics.{had_now, lock_on, lock_over, other_stays, alone_still}
 
 -- ---- while it is locked the reference stays
 

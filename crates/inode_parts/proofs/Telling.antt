@@ -1,12 +1,6 @@
 -- What a record tells, as it is heard and above.
-use Rattle.std.proofs.Common.{◌≡◌, ℤ, Bool, true, false, if◌then◌else◌, refl}
-use Rattle.fs_layout.specs.declared.inode.Dinode.{Dinode}
-use Rattle.image_tree.specs.Inodes.{is_number}
-use Rattle.inode_machine.specs.Inodes.{OfDevice, OfDirectory, OfFile}
-use Rattle.inodes_on_blocks.specs.Reading.{face_in, sort_at}
-use Rattle.path_walk.specs.Asks.{face_of, sort_of}
+use Rattle.inode_parts.proofs.Vocabulary.{◌≡◌, ℤ, Bool, true, false, if◌then◌else◌, refl, Dinode, is_number, OfDevice, OfDirectory, OfFile, face_in, sort_at, face_of, sort_of, face_by, sort_by}
 use Rattle.path_walk.specs.declared.asks.Sort.TheVariants as sort
-use Rattle.inode_parts.specs.Faces.{face_by, sort_by}
 
 pub sort_same : (kind major : ℤ) → sort_of (sort_by kind major) ≡ sort_at kind major
 sort_same kind major = by (is_number 1 kind) (is_number 2 kind)

@@ -1,30 +1,10 @@
 -- The text of a call, into which a read's part comes.
-use Rattle.std.proofs.Common.{◌≡◌, ℕ, List, ◌++◌, length, take, drop, Some, refl, sym, ap, subst, ◌∙◌, inl, inr}
-use Rattle.std.specs.Prelude.{◌<◌, ◌^◌}
-use Rattle.std.proofs.Math.Seq.{drop-append_seam, take-append_seam}
+use Rattle.inode_parts.proofs.Vocabulary.{◌≡◌, ℕ, List, ◌++◌, length, take, drop, Some, refl, sym, ap, subst, ◌∙◌, inl, inr, ◌<◌, ◌^◌, drop-append_seam, take-append_seam, Super, read_on, read_reply, say, LocksIt, asks, hears, op_in, read_of, HasRoomFor, WholeAsks, WholeFits, text_in, whole_of, Ask, Heard, Whole, whole_with, with_text, FillsOrStays, IsFilled, IsOnWay, IsReading, BeginsWith, FillsFrom, Having, Runs, FillsAs, ReadsInto, hears_in, lowered, with_part, Part, UnderWay, InodePart}
 use Rattle.plain_tree.specs.declared.call.Call.TheVariants as calls
-use Rattle.fs_layout.specs.declared.superblock.Super.{Super}
-use Rattle.inode_machine.specs.Descriptors.{read_on, read_reply}
-use Rattle.inode_machine.specs.Parts.{say}
 use Rattle.inode_machine.specs.World as above
-use Rattle.inode_machine.specs.World.{LocksIt}
-use Rattle.path_walk.specs.Asks.{asks, hears, op_in}
-use Rattle.whole_calls.specs.Reads.{read_of}
-use Rattle.whole_calls.specs.Wholes.{HasRoomFor, WholeAsks, WholeFits, text_in, whole_of}
-use Rattle.path_walk.specs.declared.asks.Ask.{Ask}
 use Rattle.path_walk.specs.declared.asks.Ask.TheVariants as ask
-use Rattle.path_walk.specs.declared.asks.Heard.{Heard}
 use Rattle.whole_calls.specs.declared.reading.Read.TheVariants as reading
-use Rattle.whole_calls.specs.declared.whole.Whole.{Whole}
 use Rattle.whole_calls.specs.declared.whole.Whole.TheVariants as whole
-use Rattle.inode_parts.specs.Calls.{whole_with, with_text, FillsOrStays, IsFilled, IsOnWay, IsReading}
-use Rattle.inode_parts.specs.Expecting.{BeginsWith}
-use Rattle.inode_parts.specs.FileReads.{FillsFrom}
-use Rattle.inode_parts.specs.Holding.{Having, Runs}
-use Rattle.inode_parts.specs.InodeParts.{FillsAs, ReadsInto}
-use Rattle.inode_parts.specs.Parts.{hears_in, lowered, with_part, Part}
-use Rattle.inode_parts.specs.UnderWay.{UnderWay}
-use Rattle.inode_parts.specs.declared.part.InodePart.{InodePart}
 use Rattle.inode_parts.specs.declared.part.InodePart.TheVariants as part
 
 -- ---- what is left, by the text that a part hands over

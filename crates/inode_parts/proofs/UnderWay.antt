@@ -1,47 +1,8 @@
 -- How parts of several steps go on: each is under way, or leaves what its operation does.
-use Rattle.std.proofs.Common.{◌≡◌, ℕ, List, [], Option, Some, None, refl, sym, ◌∙◌, subst}
-use Rattle.fs_machine.specs.Hands.{with_txn}
-use Rattle.fs_machine.specs.declared.hand.Hand.{Hand}
-use Rattle.fs_machine.specs.declared.finish.Finish.{Finish}
-use Rattle.inode_machine.specs.Inodes.{AtNothing, Query, Sort}
+use Rattle.inode_parts.proofs.Vocabulary.{◌≡◌, ℕ, List, [], Option, Some, None, refl, sym, ◌∙◌, subst, with_txn, Hand, Finish, AtNothing, Query, Sort, Name, answer_to, Heard, ClaimAmid, ClearAmid, EmptyAmid, EnterAmid, LockFileAmid, LockOpenAmid, StatAmid, ReadFileAmid, WriteFileAmid, FillAmid, FreeAmid, RelockAmid, StoreAmid, TakeAmid, Having, Leaves, having, StaysOrLeaves, GoesOrLeaves, UnderWay, ClaimPart, ClearPart, EmptyPart, EnterPart, FillPart, FreePart, LockFilePart, LockOpenPart, Notes, InodePart, ReadFilePart, RelockPart, StatFilePart, StorePart, TakePart, WriteFilePart}
 use Rattle.inode_machine.specs.World as above
-use Rattle.plain_tree.specs.Tree.{Name}
-use Rattle.path_walk.specs.Asks.{answer_to}
-use Rattle.path_walk.specs.declared.asks.Heard.{Heard}
 use Rattle.path_walk.specs.declared.asks.Heard.TheVariants as heard
-use Rattle.inode_parts.specs.Claims.{ClaimAmid}
-use Rattle.inode_parts.specs.Clears.{ClearAmid}
-use Rattle.inode_parts.specs.Empties.{EmptyAmid}
-use Rattle.inode_parts.specs.Enters.{EnterAmid}
-use Rattle.inode_parts.specs.FileLocks.{LockFileAmid, LockOpenAmid}
-use Rattle.inode_parts.specs.FileStats.{StatAmid}
-use Rattle.inode_parts.specs.FileReads.{ReadFileAmid}
-use Rattle.inode_parts.specs.FileWrites.{WriteFileAmid}
-use Rattle.inode_parts.specs.Fills.{FillAmid}
-use Rattle.inode_parts.specs.Frees.{FreeAmid}
-use Rattle.inode_parts.specs.Relocks.{RelockAmid}
-use Rattle.inode_parts.specs.Stores.{StoreAmid}
-use Rattle.inode_parts.specs.Takes.{TakeAmid}
-use Rattle.inode_parts.specs.Holding.{Having, Leaves}
-use Rattle.inode_parts.specs.Leaving.{having, StaysOrLeaves}
-use Rattle.inode_parts.specs.UnderWay.{GoesOrLeaves, UnderWay}
-use Rattle.inode_parts.specs.declared.claim_part.ClaimPart.{ClaimPart}
-use Rattle.inode_parts.specs.declared.clear_part.ClearPart.{ClearPart}
-use Rattle.inode_parts.specs.declared.empty_part.EmptyPart.{EmptyPart}
-use Rattle.inode_parts.specs.declared.enter_part.EnterPart.{EnterPart}
-use Rattle.inode_parts.specs.declared.fill_part.FillPart.{FillPart}
-use Rattle.inode_parts.specs.declared.free_part.FreePart.{FreePart}
-use Rattle.inode_parts.specs.declared.lock_file_part.LockFilePart.{LockFilePart}
-use Rattle.inode_parts.specs.declared.lock_open_part.LockOpenPart.{LockOpenPart}
-use Rattle.inode_parts.specs.declared.note.Notes.{Notes}
-use Rattle.inode_parts.specs.declared.part.InodePart.{InodePart}
 use Rattle.inode_parts.specs.declared.part.InodePart.TheVariants as part
-use Rattle.inode_parts.specs.declared.read_file_part.ReadFilePart.{ReadFilePart}
-use Rattle.inode_parts.specs.declared.relock_part.RelockPart.{RelockPart}
-use Rattle.inode_parts.specs.declared.stat_file_part.StatFilePart.{StatFilePart}
-use Rattle.inode_parts.specs.declared.store_part.StorePart.{StorePart}
-use Rattle.inode_parts.specs.declared.take_part.TakePart.{TakePart}
-use Rattle.inode_parts.specs.declared.write_file_part.WriteFilePart.{WriteFilePart}
 
 -- it began with what was learned then, and so it goes on
 went : (path : List ℕ) (op : above.Op) (start : Having) (Amid : Hand → Type 0) (q : InodePart) (m m2 : Notes) (h : Hand) (o : Option Heard) → m ≡ start.notes

@@ -1,29 +1,17 @@
 -- Calls over whole inodes, run below.
 use Rattle.std.specs.Prelude.{◌≡◌, ◌⊎◌, ℕ, List, [], ◌++◌, length, Some}
-use Rattle.plain_tree.specs.declared.answer.Reply.{Reply}
-use Rattle.plain_tree.specs.declared.call.Call.{Call}
+use Rattle.inode_parts.specs.Vocabulary.{Reply, Call, Super, bind, P, Hand, Op, IsEmpty, program, read_of, WholeFits, first_in, second_in, text_in, whole_of, Whole}
 use Rattle.plain_tree.specs.declared.call.Call.TheVariants as calls
-use Rattle.fs_layout.specs.declared.superblock.Super.{Super}
-use Rattle.atomic_programs.specs.Prog.{bind}
-use Rattle.fs_machine.specs.Machines.{P}
-use Rattle.fs_machine.specs.declared.hand.Hand.{Hand}
-use Rattle.fs_machine.specs.declared.op.Op.{Op}
-use Rattle.fs_machine.specs.Empty.{IsEmpty}
 use Rattle.inode_machine.specs.Parts as programs
-use Rattle.inode_machine.specs.Programs.{program}
 use Rattle.inode_machine.specs.World as above
 use Rattle.path_walk.specs.Asks.{asks}
-use Rattle.whole_calls.specs.Reads.{read_of}
-use Rattle.whole_calls.specs.Wholes.{WholeFits, first_in, second_in, text_in, whole_of}
 use Rattle.whole_calls.specs.declared.reading.Read.TheVariants as reading
-use Rattle.whole_calls.specs.declared.whole.Whole.{Whole}
 use Rattle.whole_calls.specs.declared.whole.Whole.TheVariants as whole
 use Rattle.inode_parts.specs.Expecting.{BeginsWith}
 use Rattle.inode_parts.specs.Holding.{Having, Runs}
 use Rattle.inode_parts.specs.InodeParts.{part_left, part_asked, PartReady, PartTold, ReadsInto}
 use Rattle.inode_parts.specs.Leaving.{having}
-use Rattle.inode_parts.specs.Parts.{Part, hears_in, lowered}
-use Rattle.inode_parts.specs.Sizes.{IsSized}
+use Rattle.inode_parts.specs.Basics.{Part, hears_in, lowered, IsSized}
 use Rattle.inode_parts.specs.UnderWay.{UnderWay}
 use Rattle.inode_parts.specs.declared.lowered.Lowered.{Lowered}
 use Rattle.inode_parts.specs.declared.part.InodePart.{InodePart}

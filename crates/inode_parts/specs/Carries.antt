@@ -1,16 +1,7 @@
 -- What a hart has in hand between two operations, as the theory of whole inodes knows it.
 use Rattle.std.specs.Prelude.{ℕ, List, Option, Some, None, ◌==◌, if◌then◌else◌}
-use Rattle.sleep_lock.specs.SleepLock.{GuardState}
-use Rattle.fs_layout.specs.declared.inode.Dinode.{Dinode}
-use Rattle.fs_machine.specs.declared.entries.Inode.{Inode}
-use Rattle.fs_machine.specs.declared.hand.Hand.{Hand}
-use Rattle.inodes_on_blocks.specs.Lowering.{NothingMore, Finds, Opened, Had, Apart, Has, Emptied, Carry}
-use Rattle.path_walk.specs.Elements.{name_in}
-use Rattle.path_walk.specs.declared.asks.Heard.{Heard}
+use Rattle.inode_parts.specs.Vocabulary.{GuardState, Dinode, Inode, Hand, NothingMore, Finds, Opened, Had, Apart, Has, Emptied, Carry, name_in, Heard, Handover, Seat, One, Two}
 use Rattle.inode_parts.specs.Parts.{Message}
-use Rattle.atomic_programs.specs.Joined.{Handover}
-use Rattle.fs_machine.specs.declared.hand.Seat.{Seat}
-use Rattle.fs_machine.specs.declared.hand.Seat.TheVariants.{One, Two}
 use Rattle.inode_parts.specs.declared.note.Note.{Note}
 use Rattle.inode_parts.specs.declared.note.Note.TheVariants as note
 use Rattle.inode_parts.specs.declared.note.Notes.{Notes}

@@ -1,16 +1,6 @@
 -- Operations that change an inode: what each asks of the hand, what stays while it is under way, and how it ends.
 use Rattle.std.specs.Prelude.{◌≡◌, ◌<◌, ◌^◌, ℕ, List, None, IsSome}
-use Rattle.fs_layout.specs.declared.inode.Dinode.{Dinode}
-use Rattle.fs_layout.specs.declared.superblock.Super.{Super}
-use Rattle.atomic_programs.specs.Prog.{Ret}
-use Rattle.inode_table.specs.Programs.{inode_block}
-use Rattle.fs_machine.specs.declared.hand.Hand.{Hand}
-use Rattle.fs_machine.specs.declared.hand.Place.TheVariants.{First, Second}
-use Rattle.fs_machine.specs.declared.hand.Seat.{Seat}
-use Rattle.fs_machine.specs.Hands.{with_buffer, with_record}
-use Rattle.inode_data.specs.Emptying.{HasNoBuffer}
-use Rattle.inode_table.specs.HeldInodes.{unloaded, IsLoadedAt}
-use Rattle.path_walk.specs.declared.asks.Heard.{Heard}
+use Rattle.inode_parts.specs.Vocabulary.{Dinode, Super, Ret, inode_block, Hand, First, Second, Seat, with_buffer, with_record, HasNoBuffer, unloaded, IsLoadedAt, Heard}
 use Rattle.inode_parts.specs.Carries.{handed, with_note}
 use Rattle.inode_parts.specs.OneSteps.{HasLock, seat_of_lock}
 use Rattle.inode_parts.specs.Parts.{Part}

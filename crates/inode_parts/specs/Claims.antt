@@ -1,21 +1,10 @@
 -- A new inode, as a part.
 use Rattle.std.specs.Prelude.{◌≡◌, ◌+◌, ◌<◌, ◌^◌, List, ℕ, IsSome}
-use Rattle.fs_layout.specs.declared.superblock.Super.{Super}
-use Rattle.atomic_programs.specs.Prog.{Ret, bind}
-use Rattle.inode_table.specs.NewInodes.{inode_blocks}
-use Rattle.inode_table.specs.declared.new_inode.Made.{Made}
+use Rattle.inode_parts.specs.Vocabulary.{Super, Ret, bind, inode_blocks, Made, Hand, Op, HasNoBuffer, beside_new, new_left, new_asked, new_seat, NewReady, Carry, Claimed}
 use Rattle.inode_table.specs.declared.new_inode.Made.TheVariants as made
-use Rattle.fs_machine.specs.declared.hand.Hand.{Hand}
-use Rattle.fs_machine.specs.declared.op.Op.{Op}
-use Rattle.inode_data.specs.Emptying.{HasNoBuffer}
-use Rattle.inode_table.specs.Making.{beside_new, new_left, new_asked, new_seat, NewReady}
-use Rattle.inodes_on_blocks.specs.Lowering.{Carry}
-use Rattle.path_walk.specs.declared.asks.Claimed.{Claimed}
 use Rattle.path_walk.specs.declared.asks.Claimed.TheVariants as claimed
 use Rattle.path_walk.specs.declared.asks.Heard.TheVariants as heard
-use Rattle.inode_parts.specs.Carries.{carry_in}
-use Rattle.inode_parts.specs.OneSteps.{HasFreeSeat, free_seat}
-use Rattle.inode_parts.specs.Parts.{Part}
+use Rattle.inode_parts.specs.Basics.{carry_in, HasFreeSeat, free_seat, Part}
 use Rattle.inode_parts.specs.declared.claim_part.ClaimPart.{ClaimPart}
 use Rattle.inode_parts.specs.declared.note.Notes.{Notes}
 

@@ -1,19 +1,8 @@
 -- A name cleared, as a part.
 use Rattle.std.specs.Prelude.{◌≡◌, ◌<◌, ℕ, List, true, IsSome}
-use Rattle.plain_tree.specs.Tree.{Name, same_name}
-use Rattle.fs_layout.specs.declared.superblock.Super.{Super}
-use Rattle.atomic_programs.specs.Prog.{bind}
-use Rattle.directory.specs.Programs.{most_slots}
-use Rattle.fs_machine.specs.declared.hand.Hand.{Hand}
-use Rattle.fs_machine.specs.declared.op.Op.{Op}
-use Rattle.fs_machine.specs.Hands.{inode_at}
-use Rattle.directory.specs.Clearing.{clear_left, clear_asked, ClearReady}
-use Rattle.path_walk.specs.Elements.{name_in}
+use Rattle.inode_parts.specs.Vocabulary.{Name, same_name, Super, bind, most_slots, Hand, Op, inode_at, clear_left, clear_asked, ClearReady, name_in}
 use Rattle.path_walk.specs.declared.asks.Heard.TheVariants as heard
-use Rattle.inode_parts.specs.Carries.{note_at}
-use Rattle.inode_parts.specs.Changes.{changed, IsAmid, MayChange}
-use Rattle.inode_parts.specs.OneSteps.{seat_of_lock}
-use Rattle.inode_parts.specs.Parts.{Part}
+use Rattle.inode_parts.specs.Basics.{note_at, changed, IsAmid, MayChange, seat_of_lock, Part}
 use Rattle.inode_parts.specs.declared.note.Note.{Note}
 use Rattle.inode_parts.specs.declared.note.Note.TheVariants as note
 use Rattle.inode_parts.specs.declared.note.Notes.{Notes}

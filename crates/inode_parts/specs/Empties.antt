@@ -1,14 +1,8 @@
 -- A content emptied, as a part.
 use Rattle.std.specs.Prelude.{ℕ, List}
-use Rattle.fs_layout.specs.declared.superblock.Super.{Super}
-use Rattle.atomic_programs.specs.Prog.{bind}
-use Rattle.fs_machine.specs.declared.hand.Hand.{Hand}
-use Rattle.fs_machine.specs.declared.hand.Seat.{Seat}
-use Rattle.fs_machine.specs.declared.op.Op.{Op}
-use Rattle.inode_data.specs.Emptying.{truncate_left, truncate_asked, emptying_of, TruncateReady}
+use Rattle.inode_parts.specs.Vocabulary.{Super, bind, Hand, Seat, Op, truncate_left, truncate_asked, emptying_of, TruncateReady}
 use Rattle.path_walk.specs.declared.asks.Heard.TheVariants as heard
-use Rattle.inode_parts.specs.Changes.{changed, IsAmid, MayChange}
-use Rattle.inode_parts.specs.Parts.{Part}
+use Rattle.inode_parts.specs.Basics.{changed, IsAmid, MayChange, Part}
 use Rattle.inode_parts.specs.declared.note.Notes.{Notes}
 use Rattle.inode_parts.specs.declared.empty_part.EmptyPart.{EmptyPart}
 

@@ -1,27 +1,10 @@
 -- A name entered, as a part.
 use Rattle.std.specs.Prelude.{◌≡◌, ◌*◌, ◌^◌, ◌<◌, ◌≤◌, ℕ, List, [], length}
-use Rattle.plain_tree.specs.Widths.{piece_len}
-use Rattle.fs_layout.specs.Name.{IsName}
-use Rattle.fs_layout.specs.Widths.{bits_per_block}
-use Rattle.fs_layout.specs.declared.inode.Dinode.{Dinode}
-use Rattle.fs_layout.specs.declared.superblock.Super.{Super}
-use Rattle.atomic_programs.specs.Prog.{Ret, bind}
-use Rattle.directory.specs.Entering.{EnteredState}
-use Rattle.directory.specs.declared.enter.Room.{Room}
-use Rattle.directory.specs.declared.enter.Room.TheVariants.{There, NoBlock, NoSlot}
-use Rattle.fs_machine.specs.declared.hand.Hand.{Hand}
-use Rattle.fs_machine.specs.declared.hand.Seat.{Seat}
-use Rattle.fs_machine.specs.declared.op.Op.{Op}
-use Rattle.inode_table.specs.HeldInodes.{IsLoadedAt}
-use Rattle.directory.specs.EnterParts.{enter_left, enter_asked, EnterReady}
-use Rattle.path_walk.specs.declared.asks.Ask.{Ask}
+use Rattle.inode_parts.specs.Vocabulary.{piece_len, IsName, bits_per_block, Dinode, Super, Ret, bind, EnteredState, Room, There, NoBlock, NoSlot, Hand, Seat, Op, IsLoadedAt, enter_left, enter_asked, EnterReady, Ask}
 use Rattle.path_walk.specs.declared.asks.Ask.TheVariants as ask
 use Rattle.path_walk.specs.declared.asks.Entered.TheVariants as entry
 use Rattle.path_walk.specs.declared.asks.Heard.TheVariants as heard
-use Rattle.inode_parts.specs.Carries.{handed}
-use Rattle.inode_parts.specs.Changes.{changed, IsAmid, MayChange}
-use Rattle.inode_parts.specs.Parts.{Part}
-use Rattle.inode_parts.specs.Texts.{StandsIn}
+use Rattle.inode_parts.specs.Basics.{handed, changed, IsAmid, MayChange, Part, StandsIn}
 use Rattle.inode_parts.specs.declared.note.Notes.{Notes}
 use Rattle.inode_parts.specs.declared.enter_part.EnterPart.{EnterPart}
 

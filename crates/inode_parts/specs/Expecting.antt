@@ -1,19 +1,9 @@
 -- What operations on whole inodes ask of the hand, and calls that find it there.
 use Rattle.std.specs.Prelude.{◌≡◌, ◌<◌, ◌^◌, ◌⊎◌, ℕ, List, None, IsSome}
-use Rattle.fs_layout.specs.Name.{IsName}
-use Rattle.plain_tree.specs.declared.call.Call.{Call}
-use Rattle.fs_machine.specs.declared.hand.Hand.{Hand}
-use Rattle.fs_machine.specs.Hands.{inode_at}
-use Rattle.fs_machine.specs.Empty.{IsEmpty}
-use Rattle.inode_data.specs.Emptying.{HasNoBuffer}
-use Rattle.inode_table.specs.HeldInodes.{IsLoadedAt}
-use Rattle.inode_machine.specs.Inodes.{AtNothing}
-use Rattle.inode_machine.specs.Programs.{program}
+use Rattle.inode_parts.specs.Vocabulary.{IsName, Call, Hand, inode_at, IsEmpty, HasNoBuffer, IsLoadedAt, AtNothing, program, IsCall}
 use Rattle.inode_machine.specs.World as above
-use Rattle.whole_calls.specs.Wholes.{IsCall}
-use Rattle.inode_parts.specs.Carries.{note_at}
+use Rattle.inode_parts.specs.Basics.{note_at, Begins, HasFreeSeat, HasLock, HasReference, IsAlone, other, seat_of_lock, seat_of_reference}
 use Rattle.inode_parts.specs.Clears.{HasFound}
-use Rattle.inode_parts.specs.OneSteps.{Begins, HasFreeSeat, HasLock, HasReference, IsAlone, other, seat_of_lock, seat_of_reference}
 use Rattle.inode_parts.specs.Relocks.{MayRelock}
 use Rattle.inode_parts.specs.declared.note.Note.TheVariants as note
 use Rattle.inode_parts.specs.Holding.{Having, Runs}

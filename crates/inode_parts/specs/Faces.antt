@@ -1,10 +1,6 @@
 -- What an inode's record tells, as a call hears it.
 use Rattle.std.specs.Prelude.{ℤ, Option, None, Some, if◌then◌else◌}
-use Rattle.fs_layout.specs.declared.inode.Dinode.{Dinode}
-use Rattle.image_tree.specs.Inodes.{is_number, is_free}
-use Rattle.inodes_on_blocks.specs.Reading.{natural}
-use Rattle.path_walk.specs.declared.asks.Face.{Face}
-use Rattle.path_walk.specs.declared.asks.Sort.{Sort}
+use Rattle.inode_parts.specs.Vocabulary.{Dinode, is_number, is_free, natural, Face, Sort}
 use Rattle.path_walk.specs.declared.asks.Sort.TheVariants as sort
 
 abbrev pub sort_by : (kind major : ℤ) → Sort

@@ -1,24 +1,9 @@
 -- What a descriptor names locked, to read it and to write it, as parts.
 use Rattle.std.specs.Prelude.{◌≡◌, ℕ, List, Some, None}
-use Rattle.plain_tree.specs.Tree.{put}
-use Rattle.fs_layout.specs.declared.inode.Dinode.{Dinode}
-use Rattle.fs_layout.specs.declared.superblock.Super.{Super}
-use Rattle.atomic_programs.specs.Prog.{Ret, bind}
-use Rattle.fs_machine.specs.Inodes.{LockedState, Refuses, Locks}
-use Rattle.fs_machine.specs.declared.files.OpenFile.{OpenFile}
-use Rattle.fs_machine.specs.declared.hand.Hand.{Hand}
-use Rattle.fs_machine.specs.declared.op.Op.{Op}
-use Rattle.fs_machine.specs.Hands.{inode_at}
-use Rattle.file_table.specs.LockingFiles.{file_left, file_asked, file_seat, open_left, open_asked, open_seat, FileReady, HasInodeBlocks, OpenReady}
-use Rattle.inodes_on_blocks.specs.Handlers.{cause_of}
-use Rattle.inodes_on_blocks.specs.Lowering.{Carry}
+use Rattle.inode_parts.specs.Vocabulary.{put, Dinode, Super, Ret, bind, LockedState, Refuses, Locks, OpenFile, Hand, Op, inode_at, file_left, file_asked, file_seat, open_left, open_asked, open_seat, FileReady, HasInodeBlocks, OpenReady, cause_of, Carry}
 use Rattle.path_walk.specs.declared.asks.Heard.TheVariants as heard
 use Rattle.path_walk.specs.declared.asks.Locked.TheVariants as locked
-use Rattle.inode_parts.specs.Carries.{had_of}
-use Rattle.inode_parts.specs.Coming.{Comes}
-use Rattle.inode_parts.specs.OneSteps.{other}
-use Rattle.inode_parts.specs.Parts.{Part}
-use Rattle.inode_parts.specs.Sides.{beside_in}
+use Rattle.inode_parts.specs.Basics.{had_of, Comes, other, Part, beside_in}
 use Rattle.inode_parts.specs.declared.lock_file_part.LockFilePart.{LockFilePart}
 use Rattle.inode_parts.specs.declared.lock_open_part.LockOpenPart.{LockOpenPart}
 use Rattle.inode_parts.specs.declared.note.Note.TheVariants as note

@@ -1,23 +1,9 @@
 -- A part of an open file read, as a part.
 use Rattle.std.specs.Prelude.{◌≡◌, ◌+◌, ◌<◌, ◌≤◌, ◌^◌, ◌++◌, ℕ, List, length, drop, IsSome}
-use Rattle.plain_tree.specs.declared.answer.Reply.{Reply}
-use Rattle.atomic_programs.specs.Prog.{bind}
-use Rattle.atomic_programs.specs.Joined.{Handover}
-use Rattle.fs_machine.specs.Machines.{P}
-use Rattle.inode_data.specs.Programs.{FilledMemory}
-use Rattle.fs_machine.specs.declared.hand.Hand.{Hand}
-use Rattle.fs_machine.specs.declared.hand.Seat.{Seat}
-use Rattle.fs_machine.specs.declared.op.Op.{Op}
+use Rattle.inode_parts.specs.Vocabulary.{Reply, bind, Handover, P, FilledMemory, Hand, Seat, Op, inode_at, inode_in, HasNoBuffer, record_in, IsLoadedAt, filled_to, read_asked, read_count, read_left, ReadReady, Carry}
 use Rattle.fs_machine.specs.declared.op.Op.TheVariants as ops
-use Rattle.fs_machine.specs.Hands.{inode_at, inode_in}
-use Rattle.inode_data.specs.Emptying.{HasNoBuffer}
-use Rattle.inode_table.specs.HeldInodes.{record_in, IsLoadedAt}
-use Rattle.inode_data.specs.PartReading.{filled_to, read_asked, read_count, read_left, ReadReady}
-use Rattle.inodes_on_blocks.specs.Lowering.{Carry}
 use Rattle.path_walk.specs.declared.asks.Heard.TheVariants as heard
-use Rattle.inode_parts.specs.Changes.{IsAmid}
-use Rattle.inode_parts.specs.LockedFiles.{moved, IsOnly}
-use Rattle.inode_parts.specs.Parts.{Message, Part}
+use Rattle.inode_parts.specs.Basics.{IsAmid, moved, IsOnly, Message, Part}
 use Rattle.inode_parts.specs.declared.locked_file.LockedFile.{LockedFile}
 use Rattle.inode_parts.specs.declared.read_file_part.ReadFilePart.{ReadFilePart}
 use Rattle.inode_parts.specs.declared.read_file_part.ReadFilePart.TheVariants.{Reading, Ending}

@@ -1,23 +1,8 @@
 -- What a descriptor names locked, to tell its state, as a part.
 use Rattle.std.specs.Prelude.{◌≡◌, ℕ, List, None}
-use Rattle.std.specs.Option.{option_map}
-use Rattle.plain_tree.specs.Tree.{put}
-use Rattle.fs_layout.specs.declared.inode.Dinode.{Dinode}
-use Rattle.atomic_programs.specs.Prog.{Ret, bind}
-use Rattle.fs_machine.specs.Inodes.{LockedState, Refuses, Locks}
-use Rattle.fs_machine.specs.declared.hand.Hand.{Hand}
-use Rattle.fs_machine.specs.declared.op.Op.{Op}
-use Rattle.fs_machine.specs.Hands.{inode_at}
-use Rattle.file_table.specs.LockingFiles.{file_left, file_asked, file_seat, FileReady}
-use Rattle.inodes_on_blocks.specs.Lowering.{Carry}
-use Rattle.path_walk.specs.declared.asks.Face.{Face}
+use Rattle.inode_parts.specs.Vocabulary.{option_map, put, Dinode, Ret, bind, LockedState, Refuses, Locks, Hand, Op, inode_at, file_left, file_asked, file_seat, FileReady, Carry, Face}
 use Rattle.path_walk.specs.declared.asks.Heard.TheVariants as heard
-use Rattle.inode_parts.specs.Carries.{had_of}
-use Rattle.inode_parts.specs.Coming.{Comes}
-use Rattle.inode_parts.specs.Faces.{face_by}
-use Rattle.inode_parts.specs.OneSteps.{other}
-use Rattle.inode_parts.specs.Parts.{Part}
-use Rattle.inode_parts.specs.Sides.{beside_in}
+use Rattle.inode_parts.specs.Basics.{had_of, Comes, face_by, other, Part, beside_in}
 use Rattle.inode_parts.specs.declared.note.Note.TheVariants as note
 use Rattle.inode_parts.specs.declared.note.Notes.{Notes}
 use Rattle.inode_parts.specs.declared.stat_file_part.StatFilePart.{StatFilePart}

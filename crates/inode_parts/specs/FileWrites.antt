@@ -1,34 +1,14 @@
 -- A piece of bytes written to an open file, as a part.
 use Rattle.std.specs.Prelude.{◌≡◌, ◌*◌, ◌+◌, ◌-◌, ◌==◌, ◌<◌, ◌≤◌, ◌^◌, ℕ, List, length, if◌then◌else◌, None, Some, IsSome}
-use Rattle.plain_tree.specs.Calls.{piece}
-use Rattle.plain_tree.specs.Widths.{piece_len}
-use Rattle.fs_layout.specs.Widths.{bits_per_block}
-use Rattle.fs_layout.specs.declared.superblock.Super.{Super}
-use Rattle.atomic_programs.specs.Prog.{Ret, Do, bind, unmarked}
+use Rattle.inode_parts.specs.Vocabulary.{piece, piece_len, bits_per_block, Super, Ret, Do, bind, unmarked, inode_block, WriteResult, Hand, Seat, Op, inode_at, inode_in, HasNoBuffer, number_in, IsLoadedAt, write_asked, write_left, WriteReady, WritePart, Written, nothing, Wrote}
 use Rattle.fs_machine.specs.Steps as steps
-use Rattle.inode_table.specs.Programs.{inode_block}
-use Rattle.inode_data.specs.Writing.{WriteResult}
-use Rattle.fs_machine.specs.declared.hand.Hand.{Hand}
-use Rattle.fs_machine.specs.declared.hand.Seat.{Seat}
-use Rattle.fs_machine.specs.declared.op.Op.{Op}
 use Rattle.fs_machine.specs.declared.op.Op.TheVariants as ops
-use Rattle.fs_machine.specs.Hands.{inode_at, inode_in}
-use Rattle.inode_data.specs.Emptying.{HasNoBuffer}
-use Rattle.inode_table.specs.HeldInodes.{number_in, IsLoadedAt}
-use Rattle.inode_data.specs.PartWriting.{write_asked, write_left, WriteReady}
-use Rattle.inode_data.specs.declared.write_part.WritePart.{WritePart}
-use Rattle.inode_data.specs.declared.write_part.Written.{Written}
 use Rattle.inode_data.specs.declared.write_part.WritePart.TheVariants as write
-use Rattle.inodes_on_blocks.specs.Lowering.{nothing}
 use Rattle.path_walk.specs.declared.asks.Heard.TheVariants as heard
-use Rattle.path_walk.specs.declared.asks.Wrote.{Wrote}
 use Rattle.path_walk.specs.declared.asks.Wrote.TheVariants as wrote
-use Rattle.inode_parts.specs.Changes.{IsAmid}
+use Rattle.inode_parts.specs.Basics.{IsAmid, moved, IsOnly, other, Part}
 use Rattle.inode_parts.specs.Expecting.{HasOpened}
 use Rattle.inode_parts.specs.Holding.{Having}
-use Rattle.inode_parts.specs.LockedFiles.{moved, IsOnly}
-use Rattle.inode_parts.specs.OneSteps.{other}
-use Rattle.inode_parts.specs.Parts.{Part}
 use Rattle.inode_parts.specs.declared.locked_file.LockedFile.{LockedFile}
 use Rattle.inode_parts.specs.declared.write_file_part.WriteFilePart.{WriteFilePart}
 use Rattle.inode_parts.specs.declared.write_file_part.WriteFilePart.TheVariants.{Denied, Writing, Ending}

@@ -1,17 +1,8 @@
 -- The names of a new directory written, as a part.
 use Rattle.std.specs.Prelude.{◌≤◌, ℕ, List, IsSome}
-use Rattle.fs_layout.specs.Widths.{bits_per_block}
-use Rattle.fs_layout.specs.declared.superblock.Super.{Super}
-use Rattle.atomic_programs.specs.Prog.{bind}
-use Rattle.fs_machine.specs.declared.hand.Hand.{Hand}
-use Rattle.fs_machine.specs.declared.hand.Seat.{Seat}
-use Rattle.fs_machine.specs.declared.op.Op.{Op}
-use Rattle.fs_machine.specs.Hands.{inode_at}
-use Rattle.directory.specs.Filling.{fill_left, fill_asked, FillReady}
-use Rattle.directory.specs.declared.fill.Filled.{Filled}
+use Rattle.inode_parts.specs.Vocabulary.{bits_per_block, Super, bind, Hand, Seat, Op, inode_at, fill_left, fill_asked, FillReady, Filled}
 use Rattle.path_walk.specs.declared.asks.Heard.TheVariants as heard
-use Rattle.inode_parts.specs.Changes.{changed, IsAmid, MayChange}
-use Rattle.inode_parts.specs.Parts.{Part}
+use Rattle.inode_parts.specs.Basics.{changed, IsAmid, MayChange, Part}
 use Rattle.inode_parts.specs.declared.note.Notes.{Notes}
 use Rattle.inode_parts.specs.declared.fill_part.FillPart.{FillPart}
 

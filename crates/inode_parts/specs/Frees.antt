@@ -1,20 +1,8 @@
 -- An inode freed, as a part.
 use Rattle.std.specs.Prelude.{◌≡◌, ℕ, List, IsSome}
-use Rattle.plain_tree.specs.Tree.{put}
-use Rattle.fs_layout.specs.declared.superblock.Super.{Super}
-use Rattle.atomic_programs.specs.Prog.{Ret, bind}
-use Rattle.fs_machine.specs.declared.hand.Hand.{Hand}
-use Rattle.fs_machine.specs.declared.op.Op.{Op}
-use Rattle.fs_machine.specs.Hands.{inode_at}
-use Rattle.inode_data.specs.Emptying.{IsEmptying, HasNoBuffer}
-use Rattle.inode_data.specs.FreeingInodes.{freeing_left, freeing_asked, freeing_of, FreeingReady}
-use Rattle.inode_table.specs.HeldInodes.{number_in}
-use Rattle.inodes_on_blocks.specs.Lowering.{Carry, Emptied}
+use Rattle.inode_parts.specs.Vocabulary.{put, Super, Ret, bind, Hand, Op, inode_at, IsEmptying, HasNoBuffer, freeing_left, freeing_asked, freeing_of, FreeingReady, number_in, Carry, Emptied}
 use Rattle.path_walk.specs.declared.asks.Heard.TheVariants as heard
-use Rattle.inode_parts.specs.Changes.{IsAmid}
-use Rattle.inode_parts.specs.OneSteps.{HasLock, IsAlone, seat_of_lock}
-use Rattle.inode_parts.specs.Parts.{Part}
-use Rattle.inode_parts.specs.Sides.{beside_in}
+use Rattle.inode_parts.specs.Basics.{IsAmid, HasLock, IsAlone, seat_of_lock, Part, beside_in}
 use Rattle.inode_parts.specs.declared.note.Notes.{Notes}
 use Rattle.inode_parts.specs.declared.free_part.FreePart.{FreePart}
 

@@ -1,20 +1,11 @@
 -- What an operation on whole inodes leaves in hand, and programs that find in hand what their operations ask.
 use Rattle.std.specs.Prelude.{◌≡◌, ◌<◌, ◌^◌, ℕ, List, [], ◌∷◌, ◌++◌, Bool, true, false, Option, Some, None, IsSome, IfSome}
-use Rattle.plain_tree.specs.declared.answer.Reply.{Reply}
-use Rattle.atomic_programs.specs.Prog.{Ret, Do}
-use Rattle.sleep_lock.specs.SleepLock.{GuardState}
-use Rattle.fs_machine.specs.declared.entries.Inode.{Inode}
-use Rattle.fs_machine.specs.declared.hand.Hand.{Hand}
-use Rattle.fs_machine.specs.declared.hand.Seat.{Seat}
-use Rattle.fs_machine.specs.Hands.{inode_at, with_aside, with_first, with_inode, with_listed, with_reference, with_seated, with_txn}
-use Rattle.fs_machine.specs.Empty.{IsEmpty}
-use Rattle.inode_table.specs.HeldInodes.{unloaded, IsLoadedAt}
-use Rattle.inode_machine.specs.Inodes.{AtEntries, AtName, AtNothing, Face, Query, Sight}
+use Rattle.inode_parts.specs.Vocabulary.{Reply, Ret, Do, GuardState, Inode, Hand, Seat, inode_at, with_aside, with_first, with_inode, with_listed, with_reference, with_seated, with_txn, IsEmpty, unloaded, IsLoadedAt, AtEntries, AtName, AtNothing, Query, Sight}
+use Rattle.inode_machine.specs.Inodes.{Face}
 use Rattle.inode_machine.specs.Parts as programs
 use Rattle.inode_machine.specs.World as above
-use Rattle.inode_parts.specs.Carries.{note_at}
+use Rattle.inode_parts.specs.Basics.{note_at, HasFreeSeat, HasReference, free_seat, other, seat_of_lock, seat_of_reference}
 use Rattle.inode_parts.specs.Clears.{HasFound}
-use Rattle.inode_parts.specs.OneSteps.{HasFreeSeat, HasReference, free_seat, other, seat_of_lock, seat_of_reference}
 use Rattle.inode_parts.specs.declared.note.Note.{Note}
 use Rattle.inode_parts.specs.declared.note.Note.TheVariants as note
 use Rattle.inode_parts.specs.declared.note.Notes.{Notes}

@@ -1,18 +1,11 @@
 -- Operations on whole inodes, each as a part over blocks.
 use Rattle.std.specs.Prelude.{◌≡◌, ℕ, Bool, true, false, List, [], Option, Some, None}
-use Rattle.atomic_programs.specs.Prog.{Ret, bind}
-use Rattle.fs_machine.specs.declared.hand.Hand.{Hand}
-use Rattle.fs_machine.specs.declared.op.Op.{Op}
-use Rattle.fs_machine.specs.Finishing.{finish_left, finish_asked, FinishReady}
+use Rattle.inode_parts.specs.Vocabulary.{Ret, bind, Hand, Op, finish_left, finish_asked, FinishReady, Ask, Heard}
 use Rattle.fs_machine.specs.declared.finish.Finish.TheVariants as finish
 use Rattle.inode_machine.specs.World as above
-use Rattle.path_walk.specs.declared.asks.Ask.{Ask}
 use Rattle.path_walk.specs.declared.asks.Ask.TheVariants as ask
-use Rattle.path_walk.specs.declared.asks.Heard.{Heard}
 use Rattle.path_walk.specs.declared.asks.Heard.TheVariants as heard
-use Rattle.inode_parts.specs.Carries.{handed}
-use Rattle.inode_parts.specs.Parts.{Part}
-use Rattle.inode_parts.specs.OneSteps.{step_for, step_left, step_asked, StepReady}
+use Rattle.inode_parts.specs.Basics.{handed, Part, step_for, step_left, step_asked, StepReady}
 use Rattle.inode_parts.specs.Empties.{empty_part_left, empty_part_asked, EmptyPartReady}
 use Rattle.inode_parts.specs.Enters.{enter_part_left, enter_part_asked, EnterPartReady}
 use Rattle.inode_parts.specs.Clears.{clear_part_left, clear_part_asked, ClearPartReady}

@@ -1,9 +1,7 @@
 -- How an operation goes on: it is still under way, or over.
 use Rattle.std.specs.Prelude.{◌≡◌, ℕ, List, [], Bool, true, false, Option, Some, None}
-use Rattle.fs_machine.specs.declared.hand.Hand.{Hand}
+use Rattle.inode_parts.specs.Vocabulary.{Hand, answer_to, Heard}
 use Rattle.inode_machine.specs.World as above
-use Rattle.path_walk.specs.Asks.{answer_to}
-use Rattle.path_walk.specs.declared.asks.Heard.{Heard}
 use Rattle.inode_parts.specs.Holding.{Having, Leaves}
 use Rattle.inode_parts.specs.declared.note.Notes.{Notes}
 

@@ -1,3 +1,5 @@
+pub mod Basics
+pub mod Vocabulary
 pub mod Sizes
 pub mod Carries
 pub mod Parts

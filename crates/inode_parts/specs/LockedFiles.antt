@@ -1,12 +1,7 @@
 -- Files that descriptors name, whose inodes' locks are in hand.
 use Rattle.std.specs.Prelude.{◌≡◌, ℕ, List, Some, None}
-use Rattle.atomic_programs.specs.Prog.{Ret, Do, unmarked}
-use Rattle.fs_machine.specs.declared.entries.Inode.{Inode}
+use Rattle.inode_parts.specs.Vocabulary.{Ret, Do, unmarked, Inode, Hand, inode_at, nothing, Heard}
 use Rattle.fs_machine.specs.Steps as steps
-use Rattle.fs_machine.specs.declared.hand.Hand.{Hand}
-use Rattle.fs_machine.specs.Hands.{inode_at}
-use Rattle.inodes_on_blocks.specs.Lowering.{nothing}
-use Rattle.path_walk.specs.declared.asks.Heard.{Heard}
 use Rattle.inode_parts.specs.OneSteps.{other}
 use Rattle.inode_parts.specs.Parts.{Part}
 use Rattle.inode_parts.specs.declared.locked_file.LockedFile.{LockedFile}

@@ -1,26 +1,11 @@
 -- Operations on whole inodes that are one operation below.
 use Rattle.std.specs.Prelude.{◌≡◌, ◌<◌, ◌⊎◌, ℕ, List, length, Bool, false, Option, Some, None, IsSome, is_some, ◌==◌, if◌then◌else◌, true}
-use Rattle.std.specs.Option.{MatchOption, option_map_or}
-use Rattle.plain_tree.specs.Tree.{put}
-use Rattle.plain_tree.specs.Widths.{root, descriptor_count}
-use Rattle.sleep_lock.specs.SleepLock.{GuardState}
-use Rattle.fs_machine.specs.Limits.{listed_places}
-use Rattle.fs_machine.specs.declared.entries.Inode.{Inode}
+use Rattle.inode_parts.specs.Vocabulary.{MatchOption, option_map_or, put, root, descriptor_count, GuardState, listed_places, Inode, Given, Hand, Seat, One, Two, Op, inode_at, inode_in, number_at, reference_at, new_file, cause_of, cause_if, doubled_to, shut_to, is_listed, is_dying, old_directory, with_dying, Apart, Carry, Heard}
 use Rattle.fs_machine.specs.declared.files.Want.TheVariants as want
-use Rattle.fs_machine.specs.declared.slots.Given.{Given}
 use Rattle.fs_machine.specs.declared.slots.Given.TheVariants as given
 use Rattle.fs_machine.specs.Steps as steps
-use Rattle.fs_machine.specs.declared.hand.Hand.{Hand}
-use Rattle.fs_machine.specs.declared.hand.Seat.{Seat}
-use Rattle.fs_machine.specs.declared.hand.Seat.TheVariants.{One, Two}
-use Rattle.fs_machine.specs.declared.op.Op.{Op}
 use Rattle.fs_machine.specs.declared.op.Op.TheVariants as ops
-use Rattle.fs_machine.specs.Hands.{inode_at, inode_in, number_at, reference_at}
 use Rattle.inode_machine.specs.World as above
-use Rattle.inodes_on_blocks.specs.ShownTables.{new_file}
-use Rattle.inodes_on_blocks.specs.Handlers.{cause_of, cause_if, doubled_to, shut_to, is_listed, is_dying, old_directory, with_dying}
-use Rattle.inodes_on_blocks.specs.Lowering.{Apart, Carry}
-use Rattle.path_walk.specs.declared.asks.Heard.{Heard}
 use Rattle.path_walk.specs.declared.asks.Heard.TheVariants as heard
 use Rattle.path_walk.specs.declared.asks.Joined.TheVariants as joined
 use Rattle.path_walk.specs.declared.asks.Loan.TheVariants as loan

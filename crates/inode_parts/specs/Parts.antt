@@ -1,19 +1,9 @@
 -- A call over whole inodes, run below by parts.
 use Rattle.std.specs.Prelude.{ℕ, List}
-use Rattle.plain_tree.specs.declared.answer.Reply.{Reply}
-use Rattle.fs_layout.specs.declared.superblock.Super.{Super}
-use Rattle.atomic_programs.specs.Prog.{Ret, Do, unmarked}
-use Rattle.atomic_programs.specs.Joined.{Handover}
+use Rattle.inode_parts.specs.Vocabulary.{Reply, Super, Ret, Do, unmarked, Handover, P, machine, OpAbove as Op, Answer, Carry, below, handlers, answer_to, Heard}
 use Rattle.atomic_programs.specs.Below as layers
 use Rattle.fs_machine.specs.Steps as steps
-use Rattle.fs_machine.specs.Machines.{P}
 use Rattle.inode_machine.specs.Parts as above
-use Rattle.inode_machine.specs.Rules.{machine}
-use Rattle.inode_machine.specs.World.{Op, Answer}
-use Rattle.inodes_on_blocks.specs.Lowering.{Carry, below}
-use Rattle.inodes_on_blocks.specs.Programs.{handlers}
-use Rattle.path_walk.specs.Asks.{answer_to}
-use Rattle.path_walk.specs.declared.asks.Heard.{Heard}
 
 -- what a part hands over: the call's text, into which bytes may have been read, and what is heard
 abbrev pub Message : Type 0

@@ -1,19 +1,9 @@
 -- The first listed inode locked, as a part.
 use Rattle.std.specs.Prelude.{◌≡◌, ◌≢◌, ◌<◌, ◌^◌, ℕ, List, [], ◌∷◌, None}
-use Rattle.fs_layout.specs.declared.superblock.Super.{Super}
-use Rattle.atomic_programs.specs.Prog.{bind}
-use Rattle.inode_table.specs.Programs.{inode_block}
-use Rattle.fs_machine.specs.declared.hand.Hand.{Hand}
-use Rattle.fs_machine.specs.declared.op.Op.{Op}
+use Rattle.inode_parts.specs.Vocabulary.{Super, bind, inode_block, Hand, Op, first_listed, inode_at, number_at, reference_at, with_first, HasNoBuffer, lock_left, lock_loaded, lock_asked, lock_seat, LockReady}
 use Rattle.fs_machine.specs.declared.op.Op.TheVariants as ops
-use Rattle.fs_machine.specs.Hands.{first_listed, inode_at, number_at, reference_at, with_first}
-use Rattle.inode_data.specs.Emptying.{HasNoBuffer}
-use Rattle.inode_table.specs.LockingInodes.{lock_left, lock_loaded, lock_asked, lock_seat, LockReady}
 use Rattle.path_walk.specs.declared.asks.Query.TheVariants as query
-use Rattle.inode_parts.specs.Coming.{Comes}
-use Rattle.inode_parts.specs.OneSteps.{HasReference, IsAlone, free_seat}
-use Rattle.inode_parts.specs.Parts.{Part}
-use Rattle.inode_parts.specs.Sides.{beside_in}
+use Rattle.inode_parts.specs.Basics.{Comes, HasReference, IsAlone, free_seat, Part, beside_in}
 use Rattle.inode_parts.specs.Takes.{looked}
 use Rattle.inode_parts.specs.declared.note.Notes.{Notes}
 use Rattle.inode_parts.specs.declared.relock_part.RelockPart.{RelockPart}

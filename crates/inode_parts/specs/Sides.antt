@@ -1,11 +1,6 @@
 -- What is in hand of one inode, and beside it what is at the other seat.
 use Rattle.std.specs.Prelude.{◌≡◌, ℕ, List, Option, IfSome}
-use Rattle.sleep_lock.specs.SleepLock.{GuardState}
-use Rattle.fs_machine.specs.declared.entries.Inode.{Inode}
-use Rattle.fs_machine.specs.declared.hand.Hand.{Hand}
-use Rattle.fs_machine.specs.declared.hand.Seat.{Seat}
-use Rattle.fs_machine.specs.Hands.{inode_at}
-use Rattle.inodes_on_blocks.specs.Lowering.{Apart, Carry}
+use Rattle.inode_parts.specs.Vocabulary.{GuardState, Inode, Hand, Seat, inode_at, Apart, Carry}
 use Rattle.inode_parts.specs.Carries.{had_at, note_at}
 use Rattle.inode_parts.specs.OneSteps.{other}
 use Rattle.inode_parts.specs.declared.note.Notes.{Notes}

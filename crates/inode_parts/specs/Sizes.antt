@@ -1,7 +1,6 @@
 -- The sizes of a disk on which calls run.
 use Rattle.std.specs.Prelude.{◌<◌, ◌≤◌, ◌^◌}
-use Rattle.fs_layout.specs.Widths.{bits_per_block}
-use Rattle.fs_layout.specs.declared.superblock.Super.{Super}
+use Rattle.inode_parts.specs.Vocabulary.{bits_per_block, Super}
 
 -- every inode's block has a number, every block has a bit, and there are inodes
 pub record IsSized (sizes : Super) : Type 0 where

@@ -1,15 +1,8 @@
 -- An inode's count put, as a part.
 use Rattle.std.specs.Prelude.{◌≡◌, ◌<◌, ◌^◌, ℕ, List, None}
-use Rattle.fs_layout.specs.declared.superblock.Super.{Super}
-use Rattle.atomic_programs.specs.Prog.{Ret, bind}
-use Rattle.fs_machine.specs.declared.hand.Hand.{Hand}
-use Rattle.fs_machine.specs.declared.hand.Place.TheVariants.{First}
-use Rattle.fs_machine.specs.declared.op.Op.{Op}
-use Rattle.inode_table.specs.StoringRecords.{record_left, record_asked, record_place, record_seat, RecordReady}
+use Rattle.inode_parts.specs.Vocabulary.{Super, Ret, bind, Hand, First, Op, record_left, record_asked, record_place, record_seat, RecordReady}
 use Rattle.path_walk.specs.declared.asks.Heard.TheVariants as heard
-use Rattle.inode_parts.specs.Carries.{handed, with_note}
-use Rattle.inode_parts.specs.Changes.{IsAmid, MayChange}
-use Rattle.inode_parts.specs.Parts.{Part}
+use Rattle.inode_parts.specs.Basics.{handed, with_note, IsAmid, MayChange, Part}
 use Rattle.inode_parts.specs.declared.note.Note.TheVariants as note
 use Rattle.inode_parts.specs.declared.note.Notes.{Notes}
 use Rattle.inode_parts.specs.declared.store_part.StorePart.{StorePart}

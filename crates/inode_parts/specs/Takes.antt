@@ -1,40 +1,12 @@
 -- An inode locked, and what is looked for found in it, as a part.
 use Rattle.std.specs.Prelude.{◌≡◌, ◌<◌, ◌^◌, ℕ, List, Bool, true, not, Option, Some, None, is_some}
-use Rattle.plain_tree.specs.Tree.{put}
-use Rattle.fs_layout.specs.declared.inode.Dinode.{Dinode}
-use Rattle.fs_layout.specs.declared.superblock.Super.{Super}
-use Rattle.atomic_programs.specs.Prog.{Ret, bind}
-use Rattle.inode_table.specs.Programs.{inode_block}
-use Rattle.inode_data.specs.Beginnings.{begun_of}
-use Rattle.inode_data.specs.declared.begun.Begun.{Begun}
-use Rattle.directory.specs.Programs.{Entry, Named, lookup}
-use Rattle.directory.specs.declared.found.Found.{Found}
-use Rattle.fs_machine.specs.declared.hand.Hand.{Hand}
-use Rattle.fs_machine.specs.declared.hand.Seat.{Seat}
-use Rattle.fs_machine.specs.declared.op.Op.{Op}
-use Rattle.fs_machine.specs.Hands.{inode_at, number_at}
-use Rattle.inode_data.specs.Emptying.{HasNoBuffer}
-use Rattle.inode_table.specs.HeldInodes.{number_in, record_in, IsLoadedAt}
-use Rattle.inode_table.specs.LockingInodes.{lock_left, lock_asked, lock_seat, LockReady}
-use Rattle.directory.specs.Searching.{entries, search_left, search_asked, SearchReady}
+use Rattle.inode_parts.specs.Vocabulary.{put, Dinode, Super, Ret, bind, inode_block, begun_of, Begun, Entry, Named, lookup, Found, Hand, Seat, Op, inode_at, number_at, HasNoBuffer, number_in, record_in, IsLoadedAt, lock_left, lock_asked, lock_seat, LockReady, entries, search_left, search_asked, SearchReady, Carry, number_found, query_in, sight_in, name_in, Heard, Element}
 use Rattle.inode_machine.specs.Inodes as whole
-use Rattle.inodes_on_blocks.specs.Lowering.{Carry}
-use Rattle.inodes_on_blocks.specs.Reading.{number_found}
-use Rattle.path_walk.specs.Asks.{query_in, sight_in}
-use Rattle.path_walk.specs.Elements.{name_in}
-use Rattle.path_walk.specs.declared.asks.Heard.{Heard}
 use Rattle.path_walk.specs.declared.asks.Heard.TheVariants as heard
 use Rattle.path_walk.specs.declared.asks.Query.{Query}
 use Rattle.path_walk.specs.declared.asks.Query.TheVariants as query
-use Rattle.path_walk.specs.declared.elements.Element.{Element}
-use Rattle.inode_parts.specs.Carries.{had_of, handed, note_at}
-use Rattle.inode_parts.specs.Coming.{Comes}
-use Rattle.inode_parts.specs.Faces.{face_unless_free}
+use Rattle.inode_parts.specs.Basics.{had_of, handed, note_at, Comes, face_unless_free, HasReference, IsAlone, other, seat_of_reference, Part, beside_in, StandsIn}
 use Rattle.inode_parts.specs.Holding.{IsCounted, Learns}
-use Rattle.inode_parts.specs.OneSteps.{HasReference, IsAlone, other, seat_of_reference}
-use Rattle.inode_parts.specs.Parts.{Part}
-use Rattle.inode_parts.specs.Sides.{beside_in}
-use Rattle.inode_parts.specs.Texts.{StandsIn}
 use Rattle.inode_parts.specs.declared.note.Note.{Note}
 use Rattle.inode_parts.specs.declared.note.Note.TheVariants as note
 use Rattle.inode_parts.specs.declared.note.Notes.{Notes}

@@ -1,7 +1,6 @@
 -- The text of a call: a path, and where the call has two the second one behind it.
 use Rattle.std.specs.Prelude.{ℕ, List, ◌++◌}
-use Rattle.path_walk.specs.Elements.{IsElement, IsInOne}
-use Rattle.path_walk.specs.declared.elements.Element.{Element}
+use Rattle.inode_parts.specs.Vocabulary.{IsElement, IsInOne, Element}
 
 -- an element is one of the two's
 abbrev pub StandsIn : List ℕ → List ℕ → Element → Type 0

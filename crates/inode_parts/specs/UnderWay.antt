@@ -1,11 +1,7 @@
 -- An operation on whole inodes under way in its part.
 use Rattle.std.specs.Prelude.{◌≡◌, ℕ, List, [], Option, Some, None}
-use Rattle.fs_machine.specs.declared.hand.Hand.{Hand}
-use Rattle.fs_machine.specs.Hands.{with_txn}
-use Rattle.inode_machine.specs.Inodes.{AtNothing}
+use Rattle.inode_parts.specs.Vocabulary.{Hand, with_txn, AtNothing, answer_to, Heard}
 use Rattle.inode_machine.specs.World as above
-use Rattle.path_walk.specs.Asks.{answer_to}
-use Rattle.path_walk.specs.declared.asks.Heard.{Heard}
 use Rattle.inode_parts.specs.Claims.{ClaimAmid}
 use Rattle.inode_parts.specs.Clears.{ClearAmid}
 use Rattle.inode_parts.specs.Empties.{EmptyAmid}
@@ -19,7 +15,7 @@ use Rattle.inode_parts.specs.Frees.{FreeAmid}
 use Rattle.inode_parts.specs.Relocks.{RelockAmid}
 use Rattle.inode_parts.specs.Stores.{StoreAmid}
 use Rattle.inode_parts.specs.Takes.{TakeAmid}
-use Rattle.inode_parts.specs.OneSteps.{Begins, step_for}
+use Rattle.inode_parts.specs.Basics.{Begins, step_for}
 use Rattle.inode_parts.specs.Holding.{Having, Leaves}
 use Rattle.inode_parts.specs.declared.one_step.OneStep.{OneStep}
 use Rattle.inode_parts.specs.declared.part.InodePart.{InodePart}

@@ -1,12 +1,10 @@
 //! What the answers of operations below tell of those on whole inodes.
 ghost use Rattle.std.specs.Prelude.{◌≡◌};
-ghost use Rattle.fs_machine.specs.Ops.{doubled_by, given_by, joined_by, number_by, refused_by, shut_by};
-ghost use Rattle.inodes_on_blocks.specs.Handlers.{cause_if, cause_of, doubled_to, old_directory, shut_to};
+ghost use Rattle.inode_parts.specs.Vocabulary.{doubled_by, given_by, joined_by, number_by, refused_by, shut_by, cause_if, cause_of, doubled_to, old_directory, shut_to};
 ghost use Rattle.inode_parts.specs.OneSteps.{joining_heard, loan_heard};
 ghost use Rattle.path_walk.specs.declared.asks.Heard.TheVariants as heard;
 
-use fs_machine::{Doubled, ROOT, Refused};
-use fs_machine::Answer;
+use fs_machine::{Answer, Doubled, ROOT, Refused};
 use path_walk::{Joined, Loan};
 use plain_tree::Cause;
 

@@ -1,18 +1,12 @@
 //! A new inode.
 ghost use Rattle.std.specs.Prelude.{◌≡◌, ℕ, List, Some, IfNone};
-ghost use Rattle.atomic_programs.specs.Prog.{asks};
-ghost use Rattle.fs_machine.specs.Ops.{op_in, answer_in, CanDo, Prepared, IsAfter};
-ghost use Rattle.fs_machine.specs.Controls.{Goes, left_after, bare};
-ghost use Rattle.fs_machine.specs.declared.hand.Hand.{Hand as HandState};
-ghost use Rattle.inode_table.specs.Making.{new_value};
+ghost use Rattle.inode_parts.specs.Vocabulary.{asks, op_in, answer_in, CanDo, Prepared, IsAfter, Goes, left_after, bare, Hand as HandState, new_value, Claim, sort_of};
 ghost use Rattle.inode_machine.specs.Inodes as whole;
-ghost use Rattle.inode_machine.specs.World.Op.{Claim};
 ghost use Rattle.inode_parts.specs.Carries.{carry_in, handed};
 ghost use Rattle.inode_parts.specs.Claims.{claim_left, claim_asked, claimed_by, ClaimAmid, ClaimBegins, ClaimReady};
 ghost use Rattle.inode_parts.specs.Leaving.{heard_if, having, StaysOrLeaves};
 ghost use Rattle.inode_parts.specs.Parts.{IsPart};
 ghost use Rattle.inode_parts.specs.declared.note.Notes.{Notes as NotesState};
-ghost use Rattle.path_walk.specs.Asks.{sort_of};
 
 use crate::note::Notes;
 use crate::opening::kind;

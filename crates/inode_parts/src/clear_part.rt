@@ -1,10 +1,6 @@
 //! A name cleared, as a part.
 ghost use Rattle.std.specs.Prelude.{◌≡◌, ℕ, List, Some, None, IfNone};
-ghost use Rattle.plain_tree.specs.Tree.{Name};
-ghost use Rattle.atomic_programs.specs.Prog.{asks};
-ghost use Rattle.fs_machine.specs.Ops.{op_in, answer_in, CanDo, Prepared, IsAfter};
-ghost use Rattle.fs_machine.specs.Controls.{Goes, bare, left_after};
-ghost use Rattle.fs_machine.specs.declared.hand.Hand.{Hand as HandState};
+ghost use Rattle.inode_parts.specs.Vocabulary.{Name, asks, op_in, answer_in, CanDo, Prepared, IsAfter, Goes, bare, left_after, Hand as HandState};
 ghost use Rattle.inode_machine.specs.World as above;
 ghost use Rattle.inode_parts.specs.Carries.{carry_in, handed, note_at};
 ghost use Rattle.inode_parts.specs.Clears.{clear_part_left, clear_part_asked, slot_in, ClearAmid, ClearBegins, ClearPartReady, HasFound};

@@ -1,13 +1,6 @@
 //! A name entered, as a part.
 ghost use Rattle.std.specs.Prelude.{◌≡◌, ℕ, List, Some, None, IfNone};
-ghost use Rattle.plain_tree.specs.Tree.{Name};
-ghost use Rattle.atomic_programs.specs.Prog.{Ret, asks};
-ghost use Rattle.fs_machine.specs.Ops.{op_in, answer_in, CanDo, Prepared, IsAfter};
-ghost use Rattle.fs_machine.specs.Controls.{Goes, bare, left_after};
-ghost use Rattle.fs_machine.specs.declared.hand.Hand.{Hand as HandState};
-ghost use Rattle.inode_data.specs.Emptying.{HasNoBuffer};
-ghost use Rattle.inode_table.specs.HeldInodes.{IsLoadedAt};
-ghost use Rattle.directory.specs.EnterParts.{entered_as};
+ghost use Rattle.inode_parts.specs.Vocabulary.{Name, Ret, asks, op_in, answer_in, CanDo, Prepared, IsAfter, Goes, bare, left_after, Hand as HandState, HasNoBuffer, IsLoadedAt, entered_as};
 ghost use Rattle.inode_machine.specs.World as above;
 ghost use Rattle.inode_parts.specs.Carries.{carry_in, handed};
 ghost use Rattle.inode_parts.specs.Changes.{IsAmid};

@@ -1,6 +1,6 @@
 //! What an inode's record tells.
 ghost use Rattle.std.specs.Prelude.{◌≡◌, ◌<◌, ◌^◌, IfSome};
-ghost use Rattle.inodes_on_blocks.specs.Reading.{natural};
+ghost use Rattle.inode_parts.specs.Vocabulary.{natural};
 ghost use Rattle.inode_parts.specs.Faces.{face_by, face_unless_free, sort_by};
 
 use fs_layout::Dinode;

@@ -1,10 +1,6 @@
 //! What a descriptor names locked, to read it.
 ghost use Rattle.std.specs.Prelude.{◌≡◌, ℕ, List, Some, IfNone};
-ghost use Rattle.atomic_programs.specs.Prog.{asks};
-ghost use Rattle.fs_machine.specs.Ops.{op_in, answer_in, CanDo, Prepared, IsAfter};
-ghost use Rattle.fs_machine.specs.Controls.{Goes, left_after, bare};
-ghost use Rattle.fs_machine.specs.declared.hand.Hand.{Hand as HandState};
-ghost use Rattle.inode_machine.specs.World.Op.{LockFile as Locks};
+ghost use Rattle.inode_parts.specs.Vocabulary.{asks, op_in, answer_in, CanDo, Prepared, IsAfter, Goes, left_after, bare, Hand as HandState, LockFile as Locks};
 ghost use Rattle.inode_parts.specs.Carries.{carry_in, handed};
 ghost use Rattle.inode_parts.specs.FileLocks.{lock_file_left, lock_file_asked, LockBegins, LockFileAmid, LockFileReady};
 ghost use Rattle.inode_parts.specs.Leaving.{heard_if, having, StaysOrLeaves};
@@ -15,8 +11,7 @@ use crate::answers::cause;
 use crate::note::{Note, Notes};
 use file_table::{FileLocked, LockFile};
 use fs_layout::Super;
-use fs_machine::Want;
-use fs_machine::{Answer, Hand, Op, Routine, Seat};
+use fs_machine::{Answer, Hand, Op, Routine, Seat, Want};
 use path_walk::{Heard, Locked};
 
 /// The lock of what this descriptor names is taken, where that may be read.

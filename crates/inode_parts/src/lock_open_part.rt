@@ -1,10 +1,6 @@
 //! What a descriptor names locked, to write it.
 ghost use Rattle.std.specs.Prelude.{◌≡◌, ℕ, List, Some, IfNone};
-ghost use Rattle.atomic_programs.specs.Prog.{asks};
-ghost use Rattle.fs_machine.specs.Ops.{op_in, answer_in, CanDo, Prepared, IsAfter};
-ghost use Rattle.fs_machine.specs.Controls.{Goes, left_after, bare};
-ghost use Rattle.fs_machine.specs.declared.hand.Hand.{Hand as HandState};
-ghost use Rattle.inode_machine.specs.World.Op.{LockOpen as Locks};
+ghost use Rattle.inode_parts.specs.Vocabulary.{asks, op_in, answer_in, CanDo, Prepared, IsAfter, Goes, left_after, bare, Hand as HandState, LockOpen as Locks};
 ghost use Rattle.inode_parts.specs.Carries.{carry_in, handed};
 ghost use Rattle.inode_parts.specs.FileLocks.{lock_open_left, lock_open_asked, LockBegins, LockOpenAmid, LockOpenReady};
 ghost use Rattle.inode_parts.specs.Leaving.{heard_if, having, StaysOrLeaves};

@@ -1,15 +1,6 @@
 //! A call over whole inodes, run below.
 ghost use Rattle.std.specs.Prelude.{◌≡◌, Some, None, IfSome, IfNone};
-ghost use Rattle.plain_tree.specs.declared.answer.Reply.{Reply as ReplyState};
-ghost use Rattle.inode_machine.specs.Programs.{program};
-ghost use Rattle.inode_machine.specs.World.{Op as OpAbove};
-ghost use Rattle.path_walk.specs.Asks.{reply_to};
-ghost use Rattle.whole_calls.specs.Wholes.{call_in, first_in, second_in, text_in, HasRoomFor, IsCall};
-ghost use Rattle.inodes_on_blocks.specs.Lowering.{nothing};
-ghost use Rattle.fs_machine.specs.Empty.{IsEmpty};
-ghost use Rattle.fs_machine.specs.Controls.{bare, Goes};
-ghost use Rattle.fs_machine.specs.Ops.{answer_in, IsAfter};
-ghost use Rattle.fs_machine.specs.declared.hand.Hand.{Hand as HandState};
+ghost use Rattle.inode_parts.specs.Vocabulary.{Reply as ReplyState, program, OpAbove, reply_to, call_in, first_in, second_in, text_in, HasRoomFor, IsCall, nothing, IsEmpty, bare, Goes, answer_in, IsAfter, Hand as HandState};
 ghost use Rattle.inode_parts.specs.Parts.{lowered};
 ghost use Rattle.inode_parts.specs.Calls.{lowered_left, lowered_asked, path_of, FillsOrStays, IsReading, LoweredReady, RunsByParts};
 ghost use Rattle.inode_parts.specs.Holding.{Having};

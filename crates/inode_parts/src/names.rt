@@ -1,6 +1,6 @@
 //! Names in the text of a call, which is one path or two.
 ghost use Rattle.std.specs.Prelude.{◌≡◌, ◌++◌};
-ghost use Rattle.path_walk.specs.Elements.{name_in};
+ghost use Rattle.inode_parts.specs.Vocabulary.{name_in};
 ghost use Rattle.inode_parts.specs.Texts.{StandsIn};
 
 use path_walk::Element;

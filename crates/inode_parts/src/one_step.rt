@@ -1,12 +1,8 @@
 //! Operations on whole inodes that are one operation below.
 ghost use Rattle.std.specs.Prelude.{◌≡◌, ℕ, List, Some, if◌then◌else◌};
-ghost use Rattle.atomic_programs.specs.Prog.{Ret, asks};
-ghost use Rattle.fs_machine.specs.Ops.{op_in, answer_in, CanDo, Prepared, IsAfter, yes_in};
-ghost use Rattle.fs_machine.specs.Controls.{Goes};
-ghost use Rattle.fs_machine.specs.declared.hand.Hand.{Hand as HandState};
+ghost use Rattle.inode_parts.specs.Vocabulary.{Ret, asks, op_in, answer_in, CanDo, Prepared, IsAfter, yes_in, Goes, Hand as HandState, above_op};
 ghost use Rattle.inode_parts.specs.Carries.{handed, with_note};
 ghost use Rattle.inode_parts.specs.OneSteps.{step_for, step_left, step_asked, step_notes, up_for, StepReady};
-ghost use Rattle.path_walk.specs.Asks.{op_in as above_op};
 ghost use Rattle.inode_parts.specs.declared.note.Notes.{Notes as NotesState};
 ghost use Rattle.inode_parts.specs.declared.note.Note.TheVariants as note;
 
@@ -14,8 +10,7 @@ use crate::answers::{checked_in, doubled_in, joined_in, loan_in, number_in, old_
 use crate::note::{Note, Notes};
 use crate::opening::new_file;
 use crate::places::{free_seat, known_number, lock_seat, number_to, reference_seat};
-use fs_machine::{DESCRIPTORS, NewFile, ROOT, Want};
-use fs_machine::{Answer, Hand, Op, Seat};
+use fs_machine::{Answer, DESCRIPTORS, Hand, NewFile, Op, ROOT, Seat, Want};
 use path_walk::{Ask, Heard};
 
 /// Such an operation, with the place of what it is about.

@@ -1,9 +1,6 @@
 //! What is told of a file that is opened.
 ghost use Rattle.std.specs.Prelude.{◌≡◌, ℕ};
-ghost use Rattle.plain_tree.specs.Steps.{has};
-ghost use Rattle.inode_machine.specs.Opening.{file_for};
-ghost use Rattle.inodes_on_blocks.specs.ShownTables.{kind_of, new_file as told_of};
-ghost use Rattle.path_walk.specs.Asks.{sort_of};
+ghost use Rattle.inode_parts.specs.Vocabulary.{has, file_for, kind_of, new_file as told_of, sort_of};
 
 use fs_machine::NewFile;
 use path_walk::Sort;

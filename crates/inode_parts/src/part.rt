@@ -1,13 +1,6 @@
 //! Operations on whole inodes, each as a part over blocks.
 ghost use Rattle.std.specs.Prelude.{◌≡◌, ◌++◌, ℕ, List, Some, None, IfSome, IfNone};
-ghost use Rattle.atomic_programs.specs.Prog.{Ret, asks};
-ghost use Rattle.fs_machine.specs.Ops.{op_in, answer_in, CanDo, Prepared, IsAfter};
-ghost use Rattle.fs_machine.specs.Controls.{Goes, bare};
-ghost use Rattle.fs_machine.specs.declared.hand.Hand.{Hand as HandState};
-ghost use Rattle.inode_machine.specs.World.{Op as OpAbove};
-ghost use Rattle.inode_machine.specs.World.Op.{Take};
-ghost use Rattle.path_walk.specs.Asks.{op_in as above_op, query_in};
-ghost use Rattle.whole_calls.specs.Wholes.{first_in, second_in, text_in};
+ghost use Rattle.inode_parts.specs.Vocabulary.{Ret, asks, op_in, answer_in, CanDo, Prepared, IsAfter, Goes, bare, Hand as HandState, OpAbove, Take, above_op, query_in, first_in, second_in, text_in};
 ghost use Rattle.inode_parts.specs.Expecting.{BeginsWith};
 ghost use Rattle.inode_parts.specs.Carries.{carry_in, handed};
 ghost use Rattle.inode_parts.specs.Holding.{Having};

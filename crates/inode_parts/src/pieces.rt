@@ -1,7 +1,6 @@
 //! The pieces in which a call's bytes are written.
 ghost use Rattle.std.specs.Prelude.{◌≡◌, ◌≤◌, ◌*◌, length};
-ghost use Rattle.plain_tree.specs.Calls.{piece};
-ghost use Rattle.plain_tree.specs.Widths.{piece_len};
+ghost use Rattle.inode_parts.specs.Vocabulary.{piece, piece_len};
 
 const PIECE_LEN: usize = 3072;
 

@@ -1,10 +1,9 @@
 //! Where in hand an inode's lock is, or a reference to it.
 ghost use Rattle.std.specs.Prelude.{◌≡◌};
-ghost use Rattle.fs_machine.specs.Hands.{number_at, reference_at};
+ghost use Rattle.inode_parts.specs.Vocabulary.{number_at, reference_at};
 ghost use Rattle.inode_parts.specs.OneSteps.{free_seat, locks, refers, seat_of_lock, seat_of_reference};
 
-use fs_machine::{Inode, Reference};
-use fs_machine::{Hand, Seat};
+use fs_machine::{Hand, Inode, Reference, Seat};
 use sleep_lock::Guard;
 
 fn number_of(reference: &Option<Reference>) -> Option<u32>

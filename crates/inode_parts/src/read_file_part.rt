@@ -1,12 +1,6 @@
 //! A part of an open file read.
 ghost use Rattle.std.specs.Prelude.{◌≡◌, ◌<◌, ◌≤◌, ◌^◌, ℕ, List, length, Some, IfNone, IfSome};
-ghost use Rattle.fs_layout.specs.declared.superblock.Super.{Super as SuperState};
-ghost use Rattle.atomic_programs.specs.Prog.{asks};
-ghost use Rattle.fs_machine.specs.Ops.{op_in, answer_in, CanDo, Prepared, IsAfter};
-ghost use Rattle.fs_machine.specs.Controls.{Goes, left_after};
-ghost use Rattle.fs_machine.specs.declared.hand.Hand.{Hand as HandState};
-ghost use Rattle.inode_machine.specs.World.Op.{ReadFile as Reads};
-ghost use Rattle.path_walk.specs.Asks.{count_in};
+ghost use Rattle.inode_parts.specs.Vocabulary.{Super as SuperState, asks, op_in, answer_in, CanDo, Prepared, IsAfter, Goes, left_after, Hand as HandState, Reads, count_in};
 ghost use Rattle.inode_parts.specs.Carries.{carry_in, handed};
 ghost use Rattle.inode_parts.specs.Expecting.{HasOpened};
 ghost use Rattle.inode_parts.specs.FileReads.{read_file_left, read_file_asked, FillsFrom, ReadFileAmid, ReadFileReady, ReadFileTold};

@@ -1,17 +1,12 @@
 // Inodes changed whose locks are in hand.
 ghost use Rattle.std.specs.Prelude.{◌≡◌, IsSome};
-ghost use Rattle.std.specs.Option.{MatchOption, option_map_or};
-ghost use Rattle.inode_table.specs.Programs.{record_of};
-ghost use Rattle.fs_machine.specs.Controls.{bare};
-ghost use Rattle.fs_machine.specs.Hands.{inode_at, no_inode, with_record};
-ghost use Rattle.inode_table.specs.HeldInodes.{record_in, IsLoadedAt};
+ghost use Rattle.inode_parts.specs.Vocabulary.{MatchOption, option_map_or, record_of, bare, inode_at, no_inode, with_record, record_in, IsLoadedAt};
 ghost use Rattle.inode_parts.specs.Carries.{with_note};
 ghost use Rattle.inode_parts.specs.declared.note.Note.TheVariants as note;
 
 use crate::note::{Note, Notes};
 use fs_layout::Dinode;
-use fs_machine::Inode;
-use fs_machine::{Hand, Seat};
+use fs_machine::{Hand, Inode, Seat};
 use inode_table::record;
 use sleep_lock::Guard;
 

@@ -1,13 +1,6 @@
 //! The first listed inode locked, to be freed.
 ghost use Rattle.std.specs.Prelude.{◌≡◌, ℕ, List, Some, IfNone};
-ghost use Rattle.atomic_programs.specs.Prog.{Ret, asks};
-ghost use Rattle.fs_machine.specs.Hands.{number_at};
-ghost use Rattle.fs_machine.specs.Ops.{op_in, answer_in, CanDo, Prepared, IsAfter};
-ghost use Rattle.fs_machine.specs.Controls.{Goes, left_after, bare};
-ghost use Rattle.fs_machine.specs.declared.hand.Hand.{Hand as HandState};
-ghost use Rattle.inode_table.specs.HeldInodes.{record_in};
-ghost use Rattle.inode_machine.specs.Inodes.{AtNothing};
-ghost use Rattle.inode_machine.specs.World.Op.{Take};
+ghost use Rattle.inode_parts.specs.Vocabulary.{Ret, asks, number_at, op_in, answer_in, CanDo, Prepared, IsAfter, Goes, left_after, bare, Hand as HandState, record_in, AtNothing, Take};
 ghost use Rattle.inode_parts.specs.Carries.{carry_in, handed};
 ghost use Rattle.inode_parts.specs.Leaving.{heard_if, having, StaysOrLeaves};
 ghost use Rattle.inode_parts.specs.Parts.{IsPart};

@@ -1,10 +1,6 @@
 //! What a descriptor names locked, to tell its state.
 ghost use Rattle.std.specs.Prelude.{◌≡◌, ℕ, List, Some, IfNone};
-ghost use Rattle.atomic_programs.specs.Prog.{asks};
-ghost use Rattle.fs_machine.specs.Ops.{op_in, answer_in, CanDo, Prepared, IsAfter};
-ghost use Rattle.fs_machine.specs.Controls.{Goes, left_after, bare};
-ghost use Rattle.fs_machine.specs.declared.hand.Hand.{Hand as HandState};
-ghost use Rattle.inode_machine.specs.World.Op.{StatFile as Stats};
+ghost use Rattle.inode_parts.specs.Vocabulary.{asks, op_in, answer_in, CanDo, Prepared, IsAfter, Goes, left_after, bare, Hand as HandState, Stats};
 ghost use Rattle.inode_parts.specs.Carries.{carry_in, handed};
 ghost use Rattle.inode_parts.specs.FileLocks.{LockBegins};
 ghost use Rattle.inode_parts.specs.FileStats.{stat_left, stat_asked, StatAmid, StatReady};
@@ -17,8 +13,7 @@ use crate::note::{Note, Notes};
 use crate::records::record_at;
 use file_table::{FileLocked, LockFile};
 use fs_layout::Super;
-use fs_machine::Want;
-use fs_machine::{Answer, Hand, Op, Routine, Seat};
+use fs_machine::{Answer, Hand, Op, Routine, Seat, Want};
 use path_walk::Heard;
 
 /// The lock of what a descriptor names is taken, where that has a state to tell.

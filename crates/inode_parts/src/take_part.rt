@@ -1,15 +1,7 @@
 //! An inode locked, and what is looked for found in it.
 ghost use Rattle.std.specs.Prelude.{◌≡◌, ◌++◌, ℕ, List, true, not, Some, None, is_some, IfNone};
-ghost use Rattle.atomic_programs.specs.Prog.{asks};
-ghost use Rattle.fs_machine.specs.Hands.{number_at};
-ghost use Rattle.fs_machine.specs.Ops.{op_in, answer_in, CanDo, Prepared, IsAfter};
-ghost use Rattle.fs_machine.specs.Controls.{Goes, left_after, bare};
-ghost use Rattle.fs_machine.specs.declared.hand.Hand.{Hand as HandState};
-ghost use Rattle.inode_data.specs.Emptying.{HasNoBuffer};
-ghost use Rattle.inode_table.specs.HeldInodes.{record_in};
-ghost use Rattle.inode_data.specs.Beginnings.{IfBegun};
+ghost use Rattle.inode_parts.specs.Vocabulary.{asks, number_at, op_in, answer_in, CanDo, Prepared, IsAfter, Goes, left_after, bare, Hand as HandState, HasNoBuffer, record_in, IfBegun, Take, number_found, query_in, sight_in};
 ghost use Rattle.inode_machine.specs.Inodes as whole;
-ghost use Rattle.inode_machine.specs.World.Op.{Take};
 ghost use Rattle.inode_parts.specs.Carries.{carry_in, handed, with_note};
 ghost use Rattle.inode_parts.specs.Faces.{face_unless_free};
 ghost use Rattle.inode_parts.specs.Holding.{IsCounted};
@@ -19,8 +11,6 @@ ghost use Rattle.inode_parts.specs.Parts.{IsPart};
 ghost use Rattle.inode_parts.specs.Takes.{looked, note_of, taken_left, take_left, take_asked, take_query, take_seat, IsTaken, IsTold, Sees, TakeAmid, TakeBegins, TakeReady, TakeTold};
 ghost use Rattle.inode_parts.specs.declared.note.Note.TheVariants as note;
 ghost use Rattle.inode_parts.specs.declared.note.Notes.{Notes as NotesState};
-ghost use Rattle.inodes_on_blocks.specs.Reading.{number_found};
-ghost use Rattle.path_walk.specs.Asks.{query_in, sight_in};
 ghost use Rattle.path_walk.specs.declared.asks.Heard.TheVariants as heard;
 
 use crate::faces::face_unless_free;

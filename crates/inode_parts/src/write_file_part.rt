@@ -1,16 +1,6 @@
 //! A piece of bytes written to an open file.
 ghost use Rattle.std.specs.Prelude.{◌≡◌, ◌*◌, ◌+◌, ◌<◌, ◌≤◌, ◌^◌, ℕ, List, length, Some, None, IfNone, IsSome};
-ghost use Rattle.plain_tree.specs.Calls.{piece};
-ghost use Rattle.plain_tree.specs.Widths.{piece_len};
-ghost use Rattle.atomic_programs.specs.Prog.{asks};
-ghost use Rattle.inode_data.specs.Widths.{most_bytes};
-ghost use Rattle.fs_machine.specs.Ops.{op_in, answer_in, CanDo, Prepared, IsAfter};
-ghost use Rattle.fs_machine.specs.Controls.{Goes, bare, left_after};
-ghost use Rattle.fs_machine.specs.Hands.{inode_at, with_record};
-ghost use Rattle.fs_machine.specs.declared.hand.Hand.{Hand as HandState};
-ghost use Rattle.inode_data.specs.PartWriting.{IsWithin};
-ghost use Rattle.inode_machine.specs.World.Op.{WriteFile as Writes};
-ghost use Rattle.inodes_on_blocks.specs.Writing.{refused_in};
+ghost use Rattle.inode_parts.specs.Vocabulary.{piece, piece_len, asks, most_bytes, op_in, answer_in, CanDo, Prepared, IsAfter, Goes, bare, left_after, inode_at, with_record, Hand as HandState, IsWithin, Writes, refused_in};
 ghost use Rattle.inode_parts.specs.Carries.{carry_in, handed};
 ghost use Rattle.inode_parts.specs.FileWrites.{ended_as, write_file_left, write_file_asked, WriteBegins, WriteFileAmid, WriteFileReady, WriteFileTold};
 ghost use Rattle.inode_parts.specs.Leaving.{having, heard_if, StaysOrLeaves};

@@ -1,17 +1,5 @@
 -- How what was loaded stands in hand.
-use Rattle.std.proofs.Common.{◌≡◌, ℕ, Option, refl, None}
-use Rattle.std.specs.Option.{option_map, option_map_or, MatchOption}
-use Rattle.inode_table.specs.HeldInodes.{IsLoadedAt}
-use Rattle.fs_layout.specs.declared.inode.Dinode.{Dinode}
-use Rattle.std.specs.Prelude.{false, Some, IsSome, is_some}
-use Rattle.fs_machine.specs.declared.hand.Seat.{Seat}
-use Rattle.fs_machine.specs.declared.hand.Seat.TheVariants.{One, Two}
-use Rattle.sleep_lock.specs.SleepLock.{GuardState}
-use Rattle.fs_machine.specs.declared.entries.Inode.{Inode}
-use Rattle.inode_table.specs.Programs.{load, load_unless}
-use Rattle.fs_machine.specs.Machines.{P}
-use Rattle.fs_machine.specs.declared.hand.Hand.{Hand}
-use Rattle.fs_machine.specs.Hands.{inode_in, no_inode, recorded, with_record}
+use Rattle.inode_table.proofs.Vocabulary.{◌≡◌, ℕ, Option, refl, None, option_map, option_map_or, MatchOption, IsLoadedAt, Dinode, false, Some, IsSome, is_some, Seat, One, Two, GuardState, Inode, load, load_unless, P, Hand, inode_in, no_inode, recorded, with_record}
 
 -- a record that was set
 pub recorded-in : (k : Seat) (d : Dinode) (h : Hand) → IsLoadedAt k h → inode_in k (with_record k d h) ≡ record { number = (inode_in k h).number; content = Some d }

@@ -1,21 +1,9 @@
 -- Each part has an operation to make.
-use Rattle.fs_machine.proofs.HasOnes.{HasOne, first, fetch_has}
-use Rattle.fs_machine.specs.declared.hand.Hand.{Hand}
-use Rattle.fs_machine.specs.Fetching.{fetch_left}
-use Rattle.inode_table.specs.Loading.{load_left}
-use Rattle.inode_table.specs.LockingInodes.{lock_left}
-use Rattle.inode_table.specs.Making.{new_left}
-use Rattle.inode_table.specs.Storing.{store_left}
-use Rattle.inode_table.specs.StoringRecords.{record_left}
-use Rattle.inode_table.specs.declared.load_inode.LoadInode.{LoadInode}
+use Rattle.inode_table.proofs.Vocabulary.{HasOne, first, fetch_has, Hand, fetch_left, load_left, lock_left, new_left, store_left, record_left, LoadInode, LockInode, NewInode, StoreInode, StoreRecord}
 use Rattle.inode_table.specs.declared.load_inode.LoadInode.TheVariants as load
-use Rattle.inode_table.specs.declared.lock_inode.LockInode.{LockInode}
 use Rattle.inode_table.specs.declared.lock_inode.LockInode.TheVariants as lock
-use Rattle.inode_table.specs.declared.new_inode.NewInode.{NewInode}
 use Rattle.inode_table.specs.declared.new_inode.NewInode.TheVariants as new
-use Rattle.inode_table.specs.declared.store_inode.StoreInode.{StoreInode}
 use Rattle.inode_table.specs.declared.store_inode.StoreInode.TheVariants as store
-use Rattle.inode_table.specs.declared.store_record.StoreRecord.{StoreRecord}
 use Rattle.inode_table.specs.declared.store_record.StoreRecord.TheVariants as stored
 
 pub load_has : (m : LoadInode) (h : Hand) → HasOne (load_left m h)

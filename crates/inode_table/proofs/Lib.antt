@@ -1,3 +1,5 @@
+pub mod Lemmas
+pub mod Vocabulary
 pub mod Goings
 pub mod HasOnes
 pub mod Stored

@@ -1,10 +1,5 @@
 -- An inode block after an inode was stored in it.
-use Rattle.std.proofs.Common.{◌*◌, ap, ◌∙◌, arith}
-use Rattle.fs_layout.specs.Inode.{spell_dinode, dinode_of}
-use Rattle.fs_layout.proofs.Overwrites.{part-overwrite, record_at-overwrite}
-use Rattle.fs_layout.proofs.Inodes.{dinode_of-spell, length-spell_dinode}
-use Rattle.inode_table.specs.Programs.{place_of, with_dinode}
-use Rattle.inode_table.specs.Laws.{StoresOneInode}
+use Rattle.inode_table.proofs.Vocabulary.{◌*◌, ap, ◌∙◌, arith, spell_dinode, dinode_of, part-overwrite, record_at-overwrite, dinode_of-spell, length-spell_dinode, place_of, with_dinode, StoresOneInode}
 
 pub stores_one : StoresOneInode
 unfolding with_dinode

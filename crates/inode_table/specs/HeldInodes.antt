@@ -1,13 +1,7 @@
 -- Inodes whose locks are in hand.
 use Rattle.std.specs.Prelude.{◌<◌, ◌^◌, ℕ, pos, None, IsSome}
-use Rattle.std.specs.Option.{MatchOption, option_map}
-use Rattle.fs_layout.specs.declared.inode.Dinode.{Dinode}
-use Rattle.sleep_lock.specs.SleepLock.{GuardState}
-use Rattle.fs_machine.specs.declared.entries.Inode.{Inode}
+use Rattle.inode_table.specs.Vocabulary.{MatchOption, option_map, Dinode, GuardState, Inode, Hand, Seat, inode_at, inode_in, with_inode}
 use Rattle.inode_table.specs.Programs.{record_of, inode_block}
-use Rattle.fs_machine.specs.declared.hand.Hand.{Hand}
-use Rattle.fs_machine.specs.declared.hand.Seat.{Seat}
-use Rattle.fs_machine.specs.Hands.{inode_at, inode_in, with_inode}
 
 -- the number and the record of the inode at a seat
 abbrev pub number_in : Seat → Hand → ℕ

@@ -1,8 +1,6 @@
 -- What an inode block has after an inode was stored in it.
 use Rattle.std.specs.Prelude.{◌≡◌, ◌≢◌, ◌<◌, ℕ, List, length}
-use Rattle.fs_layout.specs.declared.inode.Dinode.{Dinode}
-use Rattle.fs_layout.specs.Inode.{dinode_at, IsDinode}
-use Rattle.fs_layout.specs.Widths.{block_len, inodes_per_block}
+use Rattle.inode_table.specs.Vocabulary.{Dinode, dinode_at, IsDinode, block_len, inodes_per_block}
 use Rattle.inode_table.specs.Programs.{place_of, with_dinode}
 
 -- that inode, and the others of the block as they were

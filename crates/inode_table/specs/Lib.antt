@@ -1,3 +1,4 @@
+pub mod Vocabulary
 pub mod HeldInodes
 pub mod Laws
 pub mod Loading

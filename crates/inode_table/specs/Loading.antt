@@ -1,16 +1,9 @@
 -- An inode loaded.
 use Rattle.std.specs.Prelude.{None, IsSome}
-use Rattle.fs_layout.specs.declared.inode.Dinode.{Dinode}
-use Rattle.atomic_programs.specs.Prog.{Ret, Do, bind, unmarked}
+use Rattle.inode_table.specs.Vocabulary.{Dinode, Ret, Do, bind, unmarked, P, Hand, Place, Op, buffer_at, block_at, fetch_left, fetch_asked, fetch_block, fetch_place, FetchReady}
 use Rattle.fs_machine.specs.Steps as steps
-use Rattle.fs_machine.specs.Machines.{P}
 use Rattle.inode_table.specs.Programs.{give_back}
-use Rattle.fs_machine.specs.declared.hand.Hand.{Hand}
-use Rattle.fs_machine.specs.declared.hand.Place.{Place}
-use Rattle.fs_machine.specs.declared.op.Op.{Op}
 use Rattle.fs_machine.specs.declared.op.Op.TheVariants as ops
-use Rattle.fs_machine.specs.Hands.{buffer_at, block_at}
-use Rattle.fs_machine.specs.Fetching.{fetch_left, fetch_asked, fetch_block, fetch_place, FetchReady}
 use Rattle.inode_table.specs.declared.load_inode.LoadInode.{LoadInode}
 use Rattle.inode_table.specs.declared.load_inode.LoadInode.TheVariants.{Fetching, Give}
 

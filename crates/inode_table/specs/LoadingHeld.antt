@@ -1,12 +1,6 @@
 -- The inode whose lock is at a seat, loaded where it isn't.
 use Rattle.std.specs.Prelude.{◌≡◌, Option, Some, None, IsSome}
-use Rattle.fs_layout.specs.declared.inode.Dinode.{Dinode}
-use Rattle.atomic_programs.specs.Prog.{Ret}
-use Rattle.fs_machine.specs.Machines.{P}
-use Rattle.fs_machine.specs.declared.hand.Hand.{Hand}
-use Rattle.fs_machine.specs.declared.hand.Place.TheVariants.{First}
-use Rattle.fs_machine.specs.declared.hand.Seat.{Seat}
-use Rattle.fs_machine.specs.Hands.{inode_at, with_buffer, with_inode}
+use Rattle.inode_table.specs.Vocabulary.{Dinode, Ret, P, Hand, First, Seat, inode_at, with_buffer, with_inode}
 use Rattle.inode_table.specs.HeldInodes.{record_in, IsLoadedAt}
 use Rattle.inode_table.specs.Loading.{load_left, load_place, LoadReady}
 use Rattle.inode_table.specs.declared.load_inode.LoadInode.{LoadInode}

@@ -1,15 +1,9 @@
 -- An inode locked, and loaded.
 use Rattle.std.specs.Prelude.{◌≡◌, ◌<◌, ◌^◌, ℕ, Option, Some, None, IsSome}
-use Rattle.fs_layout.specs.declared.inode.Dinode.{Dinode}
-use Rattle.atomic_programs.specs.Prog.{Ret, Do, unmarked}
+use Rattle.inode_table.specs.Vocabulary.{Dinode, Ret, Do, unmarked, P, Hand, Seat, Op, inode_at, number_at, reference_at}
 use Rattle.fs_machine.specs.Steps as steps
-use Rattle.fs_machine.specs.Machines.{P}
 use Rattle.inode_table.specs.Programs.{inode_block, load_unless}
-use Rattle.fs_machine.specs.declared.hand.Hand.{Hand}
-use Rattle.fs_machine.specs.declared.hand.Seat.{Seat}
-use Rattle.fs_machine.specs.declared.op.Op.{Op}
 use Rattle.fs_machine.specs.declared.op.Op.TheVariants as ops
-use Rattle.fs_machine.specs.Hands.{inode_at, number_at, reference_at}
 use Rattle.inode_table.specs.HeldInodes.{number_in, record_in, IsLoadedAt}
 use Rattle.inode_table.specs.Loading.{load_left, load_asked}
 use Rattle.inode_table.specs.LoadingHeld.{IsLoading}

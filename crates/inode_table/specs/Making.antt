@@ -1,21 +1,11 @@
 -- A new inode.
 use Rattle.std.specs.Prelude.{◌≡◌, ◌<◌, ◌≤◌, ◌+◌, ◌^◌, ℕ, [], take, Option, Some, None, IsSome}
-use Rattle.std.specs.Option.{MatchOption}
-use Rattle.fs_layout.specs.Widths.{inodes_per_block}
-use Rattle.atomic_programs.specs.Prog.{bind}
-use Rattle.fs_machine.specs.Steps.{Claims, NoPlace}
-use Rattle.fs_machine.specs.Machines.{P}
+use Rattle.inode_table.specs.Vocabulary.{MatchOption, inodes_per_block, bind, Claims, NoPlace, P, Hand, First, Seat, Op, block_at, bytes_at, reference_at, with_buffer, with_reference, fetch_left, fetch_asked, fetch_block, fetch_place, FetchReady}
 use Rattle.inode_table.specs.NewInodes.{free_in, look_in, make_in, new_from}
 use Rattle.inode_table.specs.declared.new_inode.Looking.{Looking}
 use Rattle.inode_table.specs.declared.new_inode.Made.{Made}
 use Rattle.inode_table.specs.declared.new_inode.Made.TheVariants as made
-use Rattle.fs_machine.specs.declared.hand.Hand.{Hand}
-use Rattle.fs_machine.specs.declared.hand.Place.TheVariants.{First}
-use Rattle.fs_machine.specs.declared.hand.Seat.{Seat}
-use Rattle.fs_machine.specs.declared.op.Op.{Op}
 use Rattle.fs_machine.specs.declared.op.Op.TheVariants as ops
-use Rattle.fs_machine.specs.Hands.{block_at, bytes_at, reference_at, with_buffer, with_reference}
-use Rattle.fs_machine.specs.Fetching.{fetch_left, fetch_asked, fetch_block, fetch_place, FetchReady}
 use Rattle.inode_table.specs.declared.new_inode.NewInode.{NewInode}
 use Rattle.inode_table.specs.declared.new_inode.NewInode.TheVariants.{Fetching, Look, Record, GiveBack}
 

@@ -1,12 +1,7 @@
 -- A new inode: programs over what all harts share. Nothing is marked in them.
 use Rattle.std.specs.Prelude.{ℕ, zero, suc, ◌+◌, ◌-◌, ◌*◌, ◌/◌, ◌==◌, ◌&&◌, nat_lt, ℤ, pos, negsuc, Bool, false, if◌then◌else◌, List, [], ◌∷◌, ◌++◌, replicate, Some, None}
-use Rattle.fs_layout.specs.declared.inode.Dinode.{Dinode}
-use Rattle.fs_layout.specs.declared.superblock.Super.{Super}
-use Rattle.fs_layout.specs.Inode.{dinode_at}
-use Rattle.fs_layout.specs.Widths.{addresses, inodes_per_block}
-use Rattle.atomic_programs.specs.Prog.{Prog, Ret, Do, bind, unmarked}
-use Rattle.fs_machine.specs.Steps.{Op, Answer, Put, Claim, ClaimResult, Claims, NoPlace as HasNoPlace, NoInode as HasNoInode}
-use Rattle.fs_machine.specs.Programs.{fetch}
+use Rattle.inode_table.specs.Vocabulary.{Dinode, Super, dinode_at, addresses, inodes_per_block, Prog, Ret, Do, bind, unmarked, Answer, Put, Claim, ClaimResult, Claims, NoPlace as HasNoPlace, HasNoInode, fetch}
+use Rattle.fs_machine.specs.Steps.{Op}
 use Rattle.inode_table.specs.Programs.{place_of, with_dinode}
 use Rattle.inode_table.specs.declared.new_inode.Made.{Made}
 use Rattle.inode_table.specs.declared.new_inode.Made.TheVariants.{Inode, NoPlace, NoInode}

@@ -1,14 +1,7 @@
 -- Inodes loaded from their blocks and stored into them: programs over what all harts share. Nothing is marked in them.
 use Rattle.std.specs.Prelude.{ℕ, ◌+◌, ◌*◌, ◌/◌, ◌%◌, pos, List, [], Option, Some, None}
-use Rattle.std.specs.Option.{unwrap_or}
-use Rattle.fs_layout.specs.declared.inode.Dinode.{Dinode}
-use Rattle.fs_layout.specs.Bytes.{overwrite}
-use Rattle.fs_layout.specs.Inode.{dinode_at, spell_dinode}
-use Rattle.fs_layout.specs.Widths.{inode_len, inodes_per_block}
-use Rattle.atomic_programs.specs.Prog.{Prog, Ret, Do, bind, unmarked}
-use Rattle.fs_machine.specs.declared.entries.Inode.{Inode}
-use Rattle.fs_machine.specs.Steps.{Op, Answer, Put}
-use Rattle.fs_machine.specs.Programs.{fetch}
+use Rattle.inode_table.specs.Vocabulary.{unwrap_or, Dinode, overwrite, dinode_at, spell_dinode, inode_len, inodes_per_block, Prog, Ret, Do, bind, unmarked, Inode, Answer, Put, fetch}
+use Rattle.fs_machine.specs.Steps.{Op}
 
 -- an inode that isn't loaded has no record
 abbrev pub no_record : Dinode

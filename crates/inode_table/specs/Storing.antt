@@ -1,15 +1,8 @@
 -- An inode stored.
 use Rattle.std.specs.Prelude.{IsSome}
-use Rattle.std.specs.Option.{MatchOption}
-use Rattle.atomic_programs.specs.Prog.{bind}
-use Rattle.fs_machine.specs.Machines.{P}
+use Rattle.inode_table.specs.Vocabulary.{MatchOption, bind, P, Hand, Place, Op, buffer_at, block_at, bytes_at, fetch_left, fetch_asked, FetchReady, fetch_block, fetch_place}
 use Rattle.inode_table.specs.Programs.{put_inode}
-use Rattle.fs_machine.specs.declared.hand.Hand.{Hand}
-use Rattle.fs_machine.specs.declared.hand.Place.{Place}
-use Rattle.fs_machine.specs.declared.op.Op.{Op}
 use Rattle.fs_machine.specs.declared.op.Op.TheVariants as ops
-use Rattle.fs_machine.specs.Hands.{buffer_at, block_at, bytes_at}
-use Rattle.fs_machine.specs.Fetching.{fetch_left, fetch_asked, FetchReady, fetch_block, fetch_place}
 use Rattle.inode_table.specs.declared.store_inode.StoreInode.{StoreInode}
 use Rattle.inode_table.specs.declared.store_inode.StoreInode.TheVariants.{Fetching, Write}
 

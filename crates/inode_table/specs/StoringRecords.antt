@@ -1,16 +1,8 @@
 -- The inode at a seat stored.
 use Rattle.std.specs.Prelude.{IsSome}
-use Rattle.std.specs.Option.{MatchOption}
-use Rattle.atomic_programs.specs.Prog.{bind}
-use Rattle.fs_machine.specs.Machines.{P}
+use Rattle.inode_table.specs.Vocabulary.{MatchOption, bind, P, Hand, Place, Seat, Op, buffer_at, block_at, bytes_at, fetch_left, fetch_asked, fetch_block, fetch_place, FetchReady}
 use Rattle.inode_table.specs.Programs.{put_inode}
-use Rattle.fs_machine.specs.declared.hand.Hand.{Hand}
-use Rattle.fs_machine.specs.declared.hand.Place.{Place}
-use Rattle.fs_machine.specs.declared.hand.Seat.{Seat}
-use Rattle.fs_machine.specs.declared.op.Op.{Op}
 use Rattle.fs_machine.specs.declared.op.Op.TheVariants as ops
-use Rattle.fs_machine.specs.Hands.{buffer_at, block_at, bytes_at}
-use Rattle.fs_machine.specs.Fetching.{fetch_left, fetch_asked, fetch_block, fetch_place, FetchReady}
 use Rattle.inode_table.specs.HeldInodes.{number_in, record_in, IsLoadedAt}
 use Rattle.inode_table.specs.declared.store_record.StoreRecord.{StoreRecord}
 use Rattle.inode_table.specs.declared.store_record.StoreRecord.TheVariants.{Fetching, Write}

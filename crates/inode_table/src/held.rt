@@ -1,13 +1,11 @@
 // Inodes whose locks are in hand.
 ghost use Rattle.std.specs.Prelude.{◌≡◌, Some, None, IsSome};
-ghost use Rattle.std.specs.Option.{option_map, option_map_or, MatchOption};
+ghost use Rattle.inode_table.specs.Vocabulary.{option_map, option_map_or, MatchOption, inode_at, no_inode};
 ghost use Rattle.inode_table.specs.Programs.{record_of};
-ghost use Rattle.fs_machine.specs.Hands.{inode_at, no_inode};
 ghost use Rattle.inode_table.specs.HeldInodes.{record_in, without_content, unloaded, IsLoadedAt};
 
 use fs_layout::Dinode;
-use fs_machine::Inode;
-use fs_machine::{Hand, Seat};
+use fs_machine::{Hand, Inode, Seat};
 use sleep_lock::Guard;
 
 /// The record of an inode that is loaded, as the holder of its lock has it.

@@ -1,11 +1,7 @@
 //! An inode loaded.
 ghost use Rattle.std.specs.Prelude.{◌≡◌, ◌<◌, ◌^◌, None, IfSome, IfNone};
-ghost use Rattle.fs_layout.specs.declared.inode.Dinode.{Dinode as DinodeState};
+ghost use Rattle.inode_table.specs.Vocabulary.{Dinode as DinodeState, buffer_at, IsAfter, answer_in, Goes, left_after, bare, Hand as HandState};
 ghost use Rattle.inode_table.specs.Programs.{inode_block, load};
-ghost use Rattle.fs_machine.specs.Hands.{buffer_at};
-ghost use Rattle.fs_machine.specs.Ops.{IsAfter, answer_in};
-ghost use Rattle.fs_machine.specs.Controls.{Goes, left_after, bare};
-ghost use Rattle.fs_machine.specs.declared.hand.Hand.{Hand as HandState};
 ghost use Rattle.inode_table.specs.Loading.{load_left, load_asked, load_place, LoadReady};
 
 use crate::place::{block_of, dinode_at};

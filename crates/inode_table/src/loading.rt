@@ -1,7 +1,7 @@
 // The inode whose lock is at a seat, loaded where it isn't.
 ghost use Rattle.std.specs.Prelude.{◌≡◌, None, IsSome};
 ghost use Rattle.inode_table.specs.Programs.{load_unless};
-ghost use Rattle.fs_machine.specs.Hands.{inode_at, inode_in};
+ghost use Rattle.inode_table.specs.Vocabulary.{inode_at, inode_in};
 ghost use Rattle.inode_table.specs.HeldInodes.{number_in, HasBlock};
 ghost use Rattle.inode_table.specs.LoadingHeld.{begun_left, HasBegun};
 

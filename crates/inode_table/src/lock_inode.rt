@@ -1,12 +1,7 @@
 //! An inode locked, and loaded.
 ghost use Rattle.std.specs.Prelude.{◌≡◌, ◌<◌, ◌^◌, None, IsSome, IfSome, IfNone, MatchOption};
-ghost use Rattle.fs_layout.specs.declared.inode.Dinode.{Dinode as DinodeState};
+ghost use Rattle.inode_table.specs.Vocabulary.{Dinode as DinodeState, inode_at, inode_in, number_at, reference_at, IsAfter, answer_in, Goes, left_after, bare, Hand as HandState, Seat as SeatState};
 ghost use Rattle.inode_table.specs.Programs.{inode_block, load_unless};
-ghost use Rattle.fs_machine.specs.Hands.{inode_at, inode_in, number_at, reference_at};
-ghost use Rattle.fs_machine.specs.Ops.{IsAfter, answer_in};
-ghost use Rattle.fs_machine.specs.Controls.{Goes, left_after, bare};
-ghost use Rattle.fs_machine.specs.declared.hand.Hand.{Hand as HandState};
-ghost use Rattle.fs_machine.specs.declared.hand.Seat.{Seat as SeatState};
 ghost use Rattle.inode_table.specs.HeldInodes.{number_in, record_in, HasBlock};
 ghost use Rattle.inode_table.specs.LoadingHeld.{beside_lock};
 ghost use Rattle.inode_table.specs.LockingInodes.{held_left, lock_loaded, lock_left, lock_asked, lock_seat, HasLocked, LockReady};

@@ -1,18 +1,8 @@
 //! A new inode.
 ghost use Rattle.std.specs.Prelude.{◌≡◌, ◌<◌, ◌≤◌, ◌+◌, ◌-◌, ◌*◌, ◌^◌, take, None, IsSome, IfSome, IfNone};
-ghost use Rattle.std.specs.Option.{MatchOption};
-ghost use Rattle.fs_layout.specs.Bytes.{i16_at};
-ghost use Rattle.fs_layout.specs.Widths.{inode_len, inodes_per_block};
-ghost use Rattle.atomic_programs.specs.Prog.{Ret};
-ghost use Rattle.fs_machine.specs.Tied.{bytes_of};
+ghost use Rattle.inode_table.specs.Vocabulary.{MatchOption, i16_at, inode_len, inodes_per_block, Ret, bytes_of, bytes_at, reference_at, IsAfter, answer_in, Goes, left_after, bare, Hand as HandState, First, Seat as SeatState};
 ghost use Rattle.inode_table.specs.NewInodes.{free_in, inode_blocks, is_free_in, new_from, new_inode, new_record};
 ghost use Rattle.inode_table.specs.declared.new_inode.Made.{Made as MadeState};
-ghost use Rattle.fs_machine.specs.Hands.{bytes_at, reference_at};
-ghost use Rattle.fs_machine.specs.Ops.{IsAfter, answer_in};
-ghost use Rattle.fs_machine.specs.Controls.{Goes, left_after, bare};
-ghost use Rattle.fs_machine.specs.declared.hand.Hand.{Hand as HandState};
-ghost use Rattle.fs_machine.specs.declared.hand.Place.TheVariants.{First};
-ghost use Rattle.fs_machine.specs.declared.hand.Seat.{Seat as SeatState};
 ghost use Rattle.inode_table.specs.Making.{new_left, new_value, new_asked, new_seat, beside_new, claimed_of, rest_of, HasFree, HasInodes, IsLooking, NewEnds, NewReady};
 
 use crate::place::write_dinode_at;

@@ -1,12 +1,7 @@
 // Where an inode stands, and what its block's buffer has there.
 ghost use Rattle.std.specs.Prelude.{◌≡◌, ◌<◌, ◌^◌, Some, IsSome, ◌+◌, None};
-ghost use Rattle.std.specs.Option.{MatchOption};
-ghost use Rattle.fs_layout.specs.Widths.{inodes_per_block};
-ghost use Rattle.fs_machine.specs.Tied.{bytes_of};
+ghost use Rattle.inode_table.specs.Vocabulary.{MatchOption, inodes_per_block, bytes_of, buffer_at, bytes_at, with_bytes, with_content, dinode_at, First};
 ghost use Rattle.inode_table.specs.Programs.{inode_block, place_of, with_dinode};
-ghost use Rattle.fs_machine.specs.Hands.{buffer_at, bytes_at, with_bytes, with_content};
-ghost use Rattle.fs_layout.specs.Inode.{dinode_at};
-ghost use Rattle.fs_machine.specs.declared.hand.Place.TheVariants.{First};
 
 use buffer_cache::Buffer;
 use fs_layout::widths::INODES_PER_BLOCK;

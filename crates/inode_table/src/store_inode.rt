@@ -2,10 +2,7 @@
 ghost use Rattle.std.specs.Prelude.{◌≡◌, ◌<◌, ◌^◌, ℕ, None, IsSome, IfSome, IfNone};
 ghost use Rattle.inode_table.specs.Programs.{inode_block, store};
 ghost use Rattle.inode_table.specs.Storing.{store_left, store_asked, store_place, StoreReady};
-ghost use Rattle.fs_machine.specs.Hands.{buffer_at, with_buffer};
-ghost use Rattle.fs_machine.specs.Ops.{IsAfter, answer_in};
-ghost use Rattle.fs_machine.specs.Controls.{Goes, left_after, bare};
-ghost use Rattle.fs_machine.specs.declared.hand.Hand.{Hand as HandState};
+ghost use Rattle.inode_table.specs.Vocabulary.{buffer_at, with_buffer, IsAfter, answer_in, Goes, left_after, bare, Hand as HandState};
 
 use crate::place::{block_of, write_dinode_at};
 use fs_layout::Dinode;

@@ -1,11 +1,7 @@
 //! The inode at a seat stored.
 ghost use Rattle.std.specs.Prelude.{◌≡◌, ◌<◌, ◌^◌, ℕ, None, IsSome, IfSome, IfNone};
 ghost use Rattle.inode_table.specs.Programs.{inode_block, store};
-ghost use Rattle.fs_machine.specs.Hands.{buffer_at, with_buffer, with_record};
-ghost use Rattle.fs_machine.specs.Ops.{IsAfter, answer_in};
-ghost use Rattle.fs_machine.specs.Controls.{Goes, left_after, bare};
-ghost use Rattle.fs_machine.specs.declared.hand.Hand.{Hand as HandState};
-ghost use Rattle.fs_machine.specs.declared.hand.Seat.{Seat as SeatState};
+ghost use Rattle.inode_table.specs.Vocabulary.{buffer_at, with_buffer, with_record, IsAfter, answer_in, Goes, left_after, bare, Hand as HandState, Seat as SeatState};
 ghost use Rattle.inode_table.specs.HeldInodes.{counted, number_in, record_in, HasBlock, IsLoadedAt};
 ghost use Rattle.inode_table.specs.StoringRecords.{record_left, record_asked, record_place, record_seat, RecordReady};
 

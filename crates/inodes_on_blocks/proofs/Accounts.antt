@@ -1,17 +1,8 @@
 -- A transaction has room for what its call's program may spend.
-use Rattle.std.proofs.Common.{◌≡◌, inl, inr, ℕ, zero, suc, ◌+◌, ◌<◌, ◌≤◌, ◌==◌, ◌&&◌, ◌||◌, List, [], ◌∷◌, ◌++◌, length, Bool, true, false, Option, Some, None, refl, sym, ◌∙◌, ap, subst, arith, if◌then◌else◌}
-use Rattle.std.specs.Prelude.{slice_get, slice_set}
-use Rattle.fs_layout.specs.declared.superblock.Super.{Super}
-use Rattle.tree_laws.specs.WellFormed.{one_if}
-use Rattle.tree_laws.proofs.Maps.{either, eq_is}
-use Rattle.group_log.specs.Group.{has, one_more, HasRoom, IsMember}
-use Rattle.inode_table.specs.Programs.{inode_block}
-use Rattle.inode_machine.specs.Budget.{Spent, unspent, size, with_number, with_record, with_bitmap, with_contents}
+use Rattle.inodes_on_blocks.proofs.Vocabulary.{◌≡◌, inl, inr, ℕ, zero, suc, ◌+◌, ◌<◌, ◌≤◌, ◌==◌, ◌&&◌, ◌||◌, List, [], ◌∷◌, ◌++◌, length, Bool, true, false, Option, Some, None, refl, sym, ◌∙◌, ap, subst, arith, if◌then◌else◌, slice_get, slice_set, Super, one_if, either, eq_is, has, one_more, HasRoom, IsMember, inode_block, Spent, unspent, size, with_number, with_inode as with_record, with_bitmap, with_contents, LogPart, put_block, recorded_in, used, Accounts, IsSpent, RoomLaws, TransactionsHaveRoom}
 use Rattle.inode_machine.specs.Budget as budget
-use Rattle.fs_machine.specs.LogPart.{LogPart, put_block}
 use Rattle.inodes_on_blocks.proofs.Groups.{has_more, has_last, has_members, member_at}
 use Rattle.inodes_on_blocks.proofs.Rooms.{room_of}
-use Rattle.inodes_on_blocks.specs.Accounts.{recorded_in, used, Accounts, IsSpent, RoomLaws, TransactionsHaveRoom}
 
 -- ---- members
 

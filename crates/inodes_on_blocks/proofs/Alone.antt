@@ -1,15 +1,7 @@
 -- With the history that is the operations themselves.
-use Rattle.std.proofs.Common.{◌<◌, ◌≡◌, inl, ℕ, List, [], ◌∷◌, ◌++◌, Option, refl, sym, ◌∙◌, ap, subst}
-use Rattle.fs_layout.specs.declared.superblock.Super.{Super}
-use Rattle.plain_tree.specs.Widths.{hart_count}
-use Rattle.atomic_programs.specs.Logic.{Laws, onto}
-use Rattle.atomic_programs.specs.Joined.{Lasts}
+use Rattle.inodes_on_blocks.proofs.Vocabulary.{◌<◌, ◌≡◌, inl, ℕ, List, [], ◌∷◌, ◌++◌, Option, refl, sym, ◌∙◌, ap, subst, Super, hart_count, Laws, onto, Lasts, files_then, Kept, Keeps, Handler, ActsOnceAt, ActsOnce, alone, Done, whole, IsDone, Answers, DoesItAt, DoesIt}
 use Rattle.inode_machine.specs.World as above
 use Rattle.inode_machine.specs.Rules.{Own}
-use Rattle.inode_machine.proofs.Frame.{files_then}
-use Rattle.inodes_on_blocks.specs.Lowering.{Kept, Keeps}
-use Rattle.inodes_on_blocks.specs.Handlers.{Handler}
-use Rattle.inodes_on_blocks.specs.Acting.{ActsOnceAt, ActsOnce, alone, Done, whole, IsDone, Answers, DoesItAt, DoesIt}
 
 pub kept_then : (h : ℕ) (u v w : above.World) → Kept h u v → Kept h v w → Kept h u w
 kept_then h u v w a b = record {

@@ -1,9 +1,5 @@
 -- An operation below that acts or not, and as what lies outside has it, by what it answers.
-use Rattle.std.proofs.Common.{◌≡◌, ◌≢◌, ◌⊎◌, inl, inr, ℕ, suc, List, Option, Some, None, [], ◌∷◌, refl, sym, subst, arith}
-use Rattle.atomic_programs.specs.Prog.{Do, Did, Ran}
-use Rattle.atomic_programs.specs.Logic.{Machine, Laws, P, Fine, Goes, Good, Wp, onto, own, placed_with}
-use Rattle.atomic_programs.specs.Joined.{ActOf, Both, both, joined, Lasts, Lower, LowerLaws, act_places, placed_at, ran_to, seen_after}
-use Rattle.atomic_programs.proofs.Joined.{Here, ToAct, may_act, s-step, to_act}
+use Rattle.inodes_on_blocks.proofs.Vocabulary.{◌≡◌, ◌≢◌, ◌⊎◌, inl, inr, ℕ, suc, List, Option, Some, None, [], ◌∷◌, refl, sym, subst, arith, Do, Did, Ran, Machine, Laws, P, Fine, Goes, Good, Wp, onto, own, placed_with, ActOf, Both, both, joined, Lasts, Lower, LowerLaws, act_places, placed_at, ran_to, seen_after, Here, ToAct, may_act, s-step, to_act}
 
 goes_below : (U : Machine) (R : Lower U.World) (t : U.Tree) (ps : List (ℕ × U.Step)) (u : U.Tree) → Goes U t ps u → Goes (joined U R) t ps u
 goes_below U R t [] u g = g

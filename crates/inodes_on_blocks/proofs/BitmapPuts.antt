@@ -1,19 +1,7 @@
 -- The bits of the bitmap as it is seen, and of one that is put.
-use Rattle.std.proofs.Common.{◌≡◌, ℕ, ◌*◌, ◌<◌, ◌==◌, Bool, true, false, List, length, inr, sym, ◌∙◌, ap, subst, arith, if◌then◌else◌}
-use Rattle.fs_layout.specs.declared.superblock.Super.{Super}
-use Rattle.fs_layout.specs.Bits.{bit_of}
-use Rattle.fs_layout.specs.Recovered.{recovered, sizes_of, IsOutsideLog}
-use Rattle.bitmap_alloc.specs.Bytes.{with_bit, without_bit}
-use Rattle.bitmap_alloc.proofs.OneBit.{sets_one, clears_one}
-use Rattle.image_tree.specs.Checks.{is_marked}
-use Rattle.inodes_on_blocks.specs.Puts.{IsPut, IsBitPut}
+use Rattle.inodes_on_blocks.proofs.Vocabulary.{◌≡◌, ℕ, ◌*◌, ◌<◌, ◌==◌, Bool, true, false, List, length, inr, sym, ◌∙◌, ap, subst, arith, if◌then◌else◌, Super, bit_of, recovered, sizes_of, IsOutsideLog, with_bit, without_bit, sets_one, clears_one, is_marked, IsPut, IsBitPut, LogPart, seen_of, World, log_of, disk_of, CanPut, log_with, MarksAreBits, BitmapsPutBits, Shows}
 use Rattle.inodes_on_blocks.proofs.SeenDisks.{good_seen}
-use Rattle.fs_machine.specs.LogPart.{LogPart}
-use Rattle.fs_machine.specs.Shown.{seen_of}
 use Rattle.inode_machine.specs.World as above
-use Rattle.inodes_on_blocks.specs.Below.{World, log_of, disk_of}
-use Rattle.inodes_on_blocks.specs.Recording.{CanPut, log_with, MarksAreBits, BitmapsPutBits}
-use Rattle.inodes_on_blocks.specs.Shown.{Shows}
 use Rattle.inodes_on_blocks.proofs.Recorded.{disk_put, good_then, put_bytes}
 
 module _ (r : World) (g : above.World) (shows : Shows r g) where

@@ -1,50 +1,9 @@
 -- A block taken for an inode that a hart is changing: its bit is set, and it is filled with zeros; or the bitmap has none. Nothing of it is seen above.
-use Rattle.std.proofs.Common.{◌≡◌, ◌≢◌, ⊎_elim, ℕ, suc, ◌<◌, ◌≤◌, Bool, true, false, not, List, ◌∷◌, length, length-append, Option, Some, None, refl, sym, ◌∙◌, ap, subst, arith}
-use Rattle.std.specs.Prelude.{slice_index}
-use Rattle.std.proofs.lemmas.Bool.{cases_lt}
-use Rattle.std.proofs.lemmas.List.{get_or_append_left, length-replicate}
-use Rattle.fs_layout.specs.declared.inode.Dinode.{Dinode}
-use Rattle.fs_layout.specs.declared.superblock.Super.{Super}
-use Rattle.fs_layout.specs.Bits.{bit_of}
-use Rattle.fs_layout.specs.Bytes.{IsBytes}
-use Rattle.fs_layout.specs.Recovered.{IsOutsideLog, recovered, sizes_of}
-use Rattle.buffer_cache.specs.Seats.{holder_of}
-use Rattle.image_tree.specs.Checks.{IsData}
-use Rattle.image_tree.specs.Inodes.{numbers_of, indirect_numbers}
-use Rattle.inodes_on_blocks.specs.Holds.{IsOwned, NamesOwned}
-use Rattle.inodes_on_blocks.proofs.HeldFrames.{spare_put}
-use Rattle.inodes_on_blocks.proofs.ImageNodes.{at_index}
-use Rattle.inodes_on_blocks.proofs.SeenDisks.{good_seen}
-use Rattle.inodes_on_blocks.specs.Puts.{IsLaidOut, IsSpare}
-use Rattle.plain_tree.specs.declared.node.Node.{Node}
-use Rattle.plain_tree.specs.Widths.{hart_count}
-use Rattle.atomic_programs.specs.Prog.{Do, bind, unmarked}
-use Rattle.atomic_programs.specs.Logic.{Machine, Laws, P, Wp}
-use Rattle.atomic_programs.specs.Joined.{Both, joined}
-use Rattle.atomic_programs.proofs.Joined.{Stable}
-use Rattle.atomic_programs.proofs.Prog.{bind-assoc}
-use Rattle.atomic_programs.proofs.Sound.{Wp-more}
-use Rattle.fs_machine.specs.Programs.{fetch}
-use Rattle.fs_machine.specs.Shown.{seen_of}
-use Rattle.fs_machine.specs.Steps.{Put}
-use Rattle.bitmap_alloc.specs.Bytes.{marked_by, zeros}
-use Rattle.bitmap_alloc.specs.First.{first_clear_below}
-use Rattle.bitmap_alloc.specs.Programs.{give_zeros, zero_found, take_first, take_block}
-use Rattle.bitmap_alloc.proofs.First.{FirstIs, first_is}
+use Rattle.inodes_on_blocks.proofs.Vocabulary.{◌≡◌, ◌≢◌, ⊎_elim, ℕ, suc, ◌<◌, ◌≤◌, Bool, true, false, not, List, ◌∷◌, length, length-append, Option, Some, None, refl, sym, ◌∙◌, ap, subst, arith, slice_index, cases_lt, get_or_append_left, length-replicate, Dinode, Super, bit_of, IsBytes, IsOutsideLog, recovered, sizes_of, holder_of, IsData, numbers_of, indirect_numbers, IsOwned, NamesOwned, IsLaidOut, IsSpare, Node, hart_count, Do, bind, unmarked, Machine, Laws, P, Wp, Both, joined, Stable, bind-assoc, Wp-more, fetch, seen_of, Put, marked_by, zeros, first_clear_below, give_zeros, zero_found, take_first, take_block, FirstIs, first_is, if_kept, Inv, World, log_of, disk_of, world_with, KeepsRoom, in_hand, IsFetched, Kept, Carry, buffer_in, below, Labels, labelled, Keeps, IsChanging, Shows}
+use Rattle.inodes_on_blocks.proofs.Basics.{spare_put, at_index, good_seen, kept_then, marks_are_bits, s-fetch, s-back, below_laws, held_back, through_put}
 use Rattle.inode_machine.specs.World as above
-use Rattle.inode_machine.specs.Rules.{if_kept, Inv}
-use Rattle.inodes_on_blocks.specs.Below.{World, log_of, disk_of}
-use Rattle.inodes_on_blocks.specs.Giving.{world_with, KeepsRoom}
-use Rattle.inodes_on_blocks.specs.Holding.{in_hand, IsFetched}
-use Rattle.inodes_on_blocks.specs.Lowering.{Kept, Carry, buffer_in, below, Labels, labelled, Keeps}
-use Rattle.inodes_on_blocks.specs.Recording.{IsChanging}
-use Rattle.inodes_on_blocks.specs.Shown.{Shows}
-use Rattle.inodes_on_blocks.proofs.Alone.{kept_then}
-use Rattle.inodes_on_blocks.proofs.BitmapPuts.{marks_are_bits}
 use Rattle.inodes_on_blocks.proofs.Changing.{owner_with, Changing, left_but, changing_then, others_put}
 use Rattle.inodes_on_blocks.proofs.DataPuts.{data_home}
-use Rattle.inodes_on_blocks.proofs.Fetching.{s-fetch, s-back}
-use Rattle.inodes_on_blocks.proofs.Layer.{below_laws, held_back, through_put}
 use Rattle.inodes_on_blocks.proofs.OwnPuts.{IsOwnPut, s-own}
 use Rattle.inodes_on_blocks.proofs.PutSteps.{bitmap_home}
 use Rattle.inodes_on_blocks.proofs.SlotPuts.{zero_bytes}

@@ -1,17 +1,6 @@
 -- Room of a transaction beside blocks that it has recorded, however often: each of them counts once.
-use Rattle.std.proofs.Common.{◌≡◌, ◌⊎◌, inl, inr, ℕ, suc, ◌+◌, ◌<◌, ◌≤◌, ◌==◌, ◌||◌, ◌&&◌, not, ◌≢◌, Bool, true, false, List, [], ◌∷◌, ◌++◌, length, Option, Some, refl, sym, ◌∙◌, ap, subst, arith, if◌then◌else◌}
-use Rattle.std.specs.Prelude.{slice_get}
-use Rattle.fs_layout.specs.declared.superblock.Super.{Super}
-use Rattle.tree_laws.proofs.Maps.{eq_is, eq_not}
-use Rattle.group_log.specs.Group.{has, with_block, one_more}
-use Rattle.group_log.proofs.Seats.{pick}
-use Rattle.inode_machine.specs.Budget.{Spent, size, with_number, with_contents, most_recorded}
+use Rattle.inodes_on_blocks.proofs.Vocabulary.{◌≡◌, ◌⊎◌, inl, inr, ℕ, suc, ◌+◌, ◌<◌, ◌≤◌, ◌==◌, ◌||◌, ◌&&◌, not, ◌≢◌, Bool, true, false, List, [], ◌∷◌, ◌++◌, length, Option, Some, refl, sym, ◌∙◌, ap, subst, arith, if◌then◌else◌, slice_get, Super, eq_is, eq_not, has, with_block, one_more, pick, Spent, size, with_number, with_contents, most_recorded, LogPart, put_block, used, Accounts, IsSpent, LeavesGroup, World, log_of, KeepsRoom, world_with, HasSpent}
 use Rattle.inode_machine.specs.Budget as budget
-use Rattle.fs_machine.specs.LogPart.{LogPart, put_block}
-use Rattle.inodes_on_blocks.specs.Accounts.{used, Accounts, IsSpent, LeavesGroup}
-use Rattle.inodes_on_blocks.specs.Below.{World, log_of}
-use Rattle.inodes_on_blocks.specs.Giving.{KeepsRoom, world_with}
-use Rattle.inodes_on_blocks.specs.Room.{HasSpent}
 use Rattle.inodes_on_blocks.proofs.Accounts.{one_more_at, transactions_have_room}
 use Rattle.inodes_on_blocks.proofs.Committing.{is_member}
 use Rattle.inodes_on_blocks.proofs.Groups.{has_last, has_members, member_at, put_grows}

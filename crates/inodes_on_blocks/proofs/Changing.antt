@@ -1,32 +1,8 @@
 -- What a hart has of an inode that it is changing, block by block, until it puts the record: with the blocks that it has taken it is laid out for a node.
-use Rattle.std.proofs.Common.{◌≡◌, ◌≢◌, inl, inr, ℕ, ◌<◌, ◌==◌, Bool, true, false, List, length, Option, Some, None, is_some, refl, sym, ◌∙◌, ap, subst, if◌then◌else◌}
-use Rattle.fs_layout.specs.declared.inode.Dinode.{Dinode}
-use Rattle.fs_layout.specs.declared.superblock.Super.{Super}
-use Rattle.fs_layout.specs.Recovered.{recovered, sizes_of}
-use Rattle.image_tree.specs.Checks.{IsData}
-use Rattle.image_tree.specs.Inodes.{numbers_of}
-use Rattle.inodes_on_blocks.specs.Holds.{HoldsAt, NamesOwned}
-use Rattle.inodes_on_blocks.specs.Puts.{IsUntouched, IsLaidOut}
-use Rattle.inodes_on_blocks.proofs.HeldFrames.{untouched, untouched_change}
-use Rattle.inodes_on_blocks.proofs.LaidInodes.{laid_before}
-use Rattle.inodes_on_blocks.proofs.SeenDisks.{good_seen}
-use Rattle.plain_tree.specs.declared.node.Node.{Node}
-use Rattle.tree_laws.proofs.Maps.{either}
-use Rattle.fs_machine.specs.Tables.{holder_of as lock_holder}
-use Rattle.fs_machine.specs.Shown.{seen_of}
+use Rattle.inodes_on_blocks.proofs.Vocabulary.{◌≡◌, ◌≢◌, inl, inr, ℕ, ◌<◌, ◌==◌, Bool, true, false, List, length, Option, Some, None, is_some, refl, sym, ◌∙◌, ap, subst, if◌then◌else◌, Dinode, Super, recovered, sizes_of, IsData, numbers_of, HoldsAt, NamesOwned, IsUntouched, IsLaidOut, Node, either, lock_holder, seen_of, if_kept, is_hart, Idle, World, log_of, tables_of, disk_of, inode_in, owners_of, world_with, SameBut, KeepsInode, Kept, undertaken, IsThrough, Same, Carry, IsLoaded, InHand, Base, PutLeaves, log_with, owners_with, Shows}
+use Rattle.inodes_on_blocks.proofs.Basics.{untouched, untouched_change, laid_before, good_seen, data_place, hart_is, held_back, kept_disk, hand_then, lent_then, through_then, through_put, block_shown, lock_range}
 use Rattle.inode_machine.specs.World as above
-use Rattle.inode_machine.specs.Rules.{if_kept, is_hart, Idle}
-use Rattle.inodes_on_blocks.specs.Below.{World, log_of, tables_of, disk_of, inode_in, owners_of}
-use Rattle.inodes_on_blocks.specs.Giving.{world_with}
-use Rattle.inodes_on_blocks.specs.Holding.{SameBut}
-use Rattle.inodes_on_blocks.specs.Lowering.{KeepsInode, Kept, undertaken, IsThrough, Same, Carry, IsLoaded, InHand, Base}
-use Rattle.inodes_on_blocks.specs.Recording.{PutLeaves, log_with, owners_with}
-use Rattle.inodes_on_blocks.specs.Shown.{Shows}
-use Rattle.inodes_on_blocks.proofs.ContentBlocks.{data_place}
-use Rattle.inodes_on_blocks.proofs.Layer.{hart_is, held_back, kept_disk, hand_then, lent_then, through_then, through_put}
-use Rattle.inodes_on_blocks.proofs.Loading.{block_shown}
 use Rattle.inodes_on_blocks.proofs.PutLaws.{behind}
-use Rattle.inodes_on_blocks.proofs.Putting.{lock_range}
 
 -- ---- whose the blocks are
 

@@ -1,67 +1,12 @@
 -- An inode claimed, and its record put with a type: what is shown of both.
-use Rattle.std.proofs.Common.{◌≡◌, ◌≢◌, inl, inr, ℕ, ◌+◌, ◌<◌, ◌≤◌, Bool, true, false, ◌&&◌, ◌==◌, List, length, Option, Some, None, refl, sym, ◌∙◌, ap, subst, arith, if◌then◌else◌, zero, suc, replicate, ◌^◌, w16, FitsSigned}
-use Rattle.std.specs.List.{AllByRecursion}
-use Rattle.std.specs.Prelude.{IsSome}
-use Rattle.std.proofs.lemmas.Option.{none-some, same_Some}
-use Rattle.fs_layout.specs.declared.inode.Dinode.{Dinode}
-use Rattle.fs_layout.specs.declared.superblock.Super.{Super}
-use Rattle.fs_layout.specs.Inode.{IsDinode}
-use Rattle.fs_layout.specs.Recovered.{sizes_of}
-use Rattle.plain_tree.specs.declared.node.Node.{Node}
-use Rattle.plain_tree.specs.Tree.{put}
-use Rattle.plain_tree.specs.Widths.{hart_count}
-use Rattle.tree_laws.proofs.Maps.{same_or, eq_not, put_same, put_other}
-use Rattle.image_tree.specs.Inodes.{is_free, is_number}
-use Rattle.inodes_on_blocks.specs.Holds.{HoldsAt, IsRecord}
-use Rattle.inodes_on_blocks.specs.Puts.{IsInodePut}
-use Rattle.inodes_on_blocks.specs.Running.{IsRunning}
-use Rattle.inodes_on_blocks.proofs.HeldFrames.{untouched}
-use Rattle.inodes_on_blocks.proofs.HeldPuts.{inode_is}
-use Rattle.inodes_on_blocks.proofs.SeenDisks.{good_seen}
+use Rattle.inodes_on_blocks.proofs.Vocabulary.{◌≡◌, ◌≢◌, inl, inr, ℕ, ◌+◌, ◌<◌, ◌≤◌, Bool, true, false, ◌&&◌, ◌==◌, List, length, Option, Some, None, refl, sym, ◌∙◌, ap, subst, arith, if◌then◌else◌, zero, suc, replicate, ◌^◌, w16, FitsSigned, AllByRecursion, IsSome, none-some, same_Some, Dinode, Super, IsDinode, sizes_of, Node, put, hart_count, same_or, eq_not, put_same, put_other, is_free, is_number, HoldsAt, IsRecord, IsInodePut, IsRunning, is_held_by, holder_of, kept, has, HasRoom, IsHome, Put, IsGoodSeen, Owners, TablesState, lock_holder, LogPart, put_block, Own, seen_of, new_record, inode_block, with_dinode, Sort, OfDirectory, OfFile, OfDevice, is_nothing, blank, claimed, counted_up, is_hart, if_kept, Inv, Idle, one_refs, opens_slots, loaded, kind_of, is_joined, AreOnBlocks, World, log_of, tables_of, disk_of, inode_in, owners_of, untyped, owners_after, Shows, IsNew, if_joined, ghost_of, on_blocks, unless_new, Same, Kept, Carry, IsLoaded, commit_in, Base, IsMade, CanPut, PutLeaves}
+use Rattle.inodes_on_blocks.proofs.Basics.{untouched, inode_is, good_seen, is_member, nobody_commits, commit_none, put_grows, same_view, AllInHand, hands_marked, hart_is, held_back, in_hand_then, is_here, kept_disk, tables_left, SameCode, new_holds, new_kept, old_node, unkept_old, open_alike, open_then, lock_range, load_range, whole_put, own_put, seen_then, good_then, bytes_then, members_joined, put_hand, record_put, quiet_leaves, quiet_owners, inode_home, untaken, stored_long, stored_bytes, with_tables, unlocked_holds}
 use Rattle.buffer_cache.specs.Lists.{count_of}
-use Rattle.buffer_cache.specs.Seats.{is_held_by, holder_of, kept}
-use Rattle.group_log.specs.Group.{has, HasRoom}
-use Rattle.group_log.specs.Soundness.{IsHome}
-use Rattle.fs_machine.specs.Steps.{Put}
-use Rattle.inodes_on_blocks.specs.Seen.{IsGoodSeen}
-use Rattle.inodes_on_blocks.specs.Owners.{Owners}
-use Rattle.fs_machine.specs.Tables.{TablesState, holder_of as lock_holder}
-use Rattle.fs_machine.specs.LogPart.{LogPart, put_block}
-use Rattle.fs_machine.specs.Own.{Own}
-use Rattle.fs_machine.specs.Shown.{seen_of}
-use Rattle.inode_table.specs.NewInodes.{new_record}
-use Rattle.inode_table.specs.Programs.{inode_block, with_dinode}
-use Rattle.inode_machine.specs.Inodes.{Sort, OfDirectory, OfFile, OfDevice}
 use Rattle.inode_machine.specs.World as above
 use Rattle.inode_machine.specs.Exec as above_exec
-use Rattle.inode_machine.specs.Exec.{is_nothing, blank, claimed, counted_up}
 use Rattle.inode_machine.specs.Rules as rules
-use Rattle.inode_machine.specs.Rules.{is_hart, if_kept, Inv, Idle}
-use Rattle.inode_machine.proofs.Frame.{one_refs}
-use Rattle.inode_machine.proofs.Rules.{opens_slots}
 use Rattle.inodes_on_blocks.specs.ShownTables as tables
-use Rattle.inodes_on_blocks.specs.ShownTables.{loaded, kind_of}
-use Rattle.inodes_on_blocks.specs.OnBlocks.{is_joined, AreOnBlocks}
-use Rattle.inodes_on_blocks.specs.Below.{World, log_of, tables_of, disk_of, inode_in, owners_of, untyped, owners_after}
-use Rattle.inodes_on_blocks.specs.Shown.{Shows, IsNew, if_joined, ghost_of, on_blocks, unless_new}
-use Rattle.inodes_on_blocks.specs.Lowering.{Same, Kept, Carry, IsLoaded, commit_in, Base}
-use Rattle.inodes_on_blocks.specs.Making.{IsMade}
-use Rattle.inodes_on_blocks.specs.Recording.{CanPut, PutLeaves}
-use Rattle.inodes_on_blocks.proofs.Committing.{is_member, nobody_commits, commit_none}
-use Rattle.inodes_on_blocks.proofs.Groups.{put_grows}
-use Rattle.inodes_on_blocks.proofs.Hands.{same_view}
-use Rattle.inodes_on_blocks.proofs.Layer.{AllInHand, hands_marked, hart_is, held_back, in_hand_then, is_here, kept_disk, tables_left}
-use Rattle.inodes_on_blocks.proofs.Marked.{SameCode}
-use Rattle.inodes_on_blocks.proofs.NewInodes.{new_holds}
-use Rattle.inodes_on_blocks.proofs.News.{new_kept, old_node, unkept_old}
-use Rattle.inodes_on_blocks.proofs.OpenFiles.{open_alike, open_then}
-use Rattle.inodes_on_blocks.proofs.Putting.{lock_range, load_range}
-use Rattle.inodes_on_blocks.proofs.Recorded.{whole_put, own_put, seen_then, good_then, bytes_then, members_joined, put_hand}
-use Rattle.inodes_on_blocks.proofs.RecordPuts.{record_put, quiet_leaves, quiet_owners}
-use Rattle.inodes_on_blocks.proofs.RecordThen.{inode_home, untaken}
-use Rattle.inodes_on_blocks.proofs.Records.{stored_long, stored_bytes}
 use Rattle.inodes_on_blocks.proofs.StatSteps.{in_use}
-use Rattle.inodes_on_blocks.proofs.Tables.{with_tables, unlocked_holds}
 
 -- ---- the claim
 

@@ -1,67 +1,19 @@
 -- The operation that takes a new inode acts where a block of the table is looked through; its record is put in a step of its own.
-use Rattle.std.proofs.Common.{◌≡◌, ◌≢◌, inl, inr, ℕ, zero, suc, ℤ, pos, negsuc, ◌+◌, ◌*◌, ◌/◌, ◌<◌, ◌≤◌, ◌||◌, ◌&&◌, Bool, true, false, List, Option, Some, None, is_some, refl, sym, ◌∙◌, ap, subst, arith, if◌then◌else◌, []}
-use Rattle.std.specs.Prelude.{IsSome, nat_lt, is_none, Contains}
-use Rattle.std.proofs.lemmas.Bool.Decides.{nat_tests}
-use Rattle.fs_layout.specs.declared.superblock.Super.{Super}
-use Rattle.fs_layout.specs.Inode.{dinode_at}
-use Rattle.fs_layout.specs.Recovered.{IsOutsideLog}
-use Rattle.buffer_cache.specs.Seats.{SeatState, kept, given_back, holder_of}
-use Rattle.group_log.specs.Group.{has, HasRoom}
-use Rattle.image_tree.specs.Inodes.{is_free, is_number}
-use Rattle.plain_tree.specs.Widths.{hart_count}
-use Rattle.tree_laws.proofs.Maps.{and_true, put_same, put_other}
-use Rattle.atomic_programs.specs.Prog.{Do, unmarked, Did, Ran}
-use Rattle.atomic_programs.specs.Logic.{Machine, Laws, P, Wp}
-use Rattle.atomic_programs.specs.Joined.{Both, joined, Below, Handover, Lasts}
-use Rattle.atomic_programs.proofs.Joined.{Here, Silent, ToAct, to_act, acted, s-silent}
-use Rattle.atomic_programs.proofs.Sound.{Wp-more}
+use Rattle.inodes_on_blocks.proofs.Vocabulary.{◌≡◌, ◌≢◌, inl, inr, ℕ, zero, suc, ℤ, pos, negsuc, ◌+◌, ◌*◌, ◌/◌, ◌<◌, ◌≤◌, ◌||◌, ◌&&◌, Bool, true, false, List, Option, Some, None, is_some, refl, sym, ◌∙◌, ap, subst, arith, if◌then◌else◌, [], IsSome, nat_lt, is_none, nat_tests, Super, dinode_at, IsOutsideLog, SeatState, kept, given_back, holder_of, has, HasRoom, is_free, is_number, hart_count, and_true, put_same, put_other, Do, unmarked, Did, Ran, Machine, Laws, P, Wp, Both, joined, Below, Handover, Lasts, Here, Silent, ToAct, to_act, acted, s-silent, Wp-more, TablesState, references_in, lock_holder, up_inode, first_free, is_unreferenced, Outside, Passes, seen_of, keeps_whole, leaves_own, shows_its_puts, free_in, inode_blocks, new_record, inode_block, with_dinode, Spent, size, most_recorded, Sort, Claim, claimed, counted_up, has_place, place_count, referenced, blank, marked, with_mark, Idle, Inv, more, loaded, kind_of, World, log_of, tables_of, inode_in, came_to, exec, alone, Answers, IsDone, in_hand, HasBuffer, SameBut, Carry, IsThrough, Keeps, Kept, Labels, Same, Stands, below, labelled, IsMade, answers, claim, claim_at, claim_from, claim_in, claim_mark, HasInodes, Owners, GivesRoom, HasSpent, Shows, ActsWithin, DoesItWithin}
+use Rattle.std.specs.Prelude.{Contains}
 use Rattle.fs_machine.specs.Tables as places
-use Rattle.fs_machine.specs.Tables.{TablesState, references_in, holder_of as lock_holder}
-use Rattle.fs_machine.specs.Inodes.{up_inode, first_free, is_unreferenced}
-use Rattle.fs_machine.specs.LogPart.{Outside, Passes}
-use Rattle.fs_machine.specs.Shown.{seen_of}
 use Rattle.fs_machine.specs.Premises as premises
 use Rattle.fs_machine.specs.Steps as steps
-use Rattle.fs_machine.proofs.Keeping.{keeps_whole}
-use Rattle.fs_machine.proofs.Owned.{leaves_own}
-use Rattle.fs_machine.proofs.Showing.{shows_its_puts}
-use Rattle.inode_table.specs.NewInodes.{free_in, is_zero, inode_blocks, new_record}
-use Rattle.inode_table.specs.Programs.{inode_block, place_of, with_dinode}
-use Rattle.inode_machine.specs.Budget.{Spent, size, most_recorded}
-use Rattle.inode_machine.specs.Inodes.{Sort}
+use Rattle.inode_table.specs.NewInodes.{is_zero}
+use Rattle.inode_table.specs.Programs.{place_of}
 use Rattle.inode_machine.specs.World as above
-use Rattle.inode_machine.specs.World.Op.{Claim}
-use Rattle.inode_machine.specs.Exec.{claimed, counted_up, has_place, place_count, referenced, blank}
-use Rattle.inode_machine.specs.Marks.{marked, with_mark}
 use Rattle.inode_machine.specs.Rules as rules
-use Rattle.inode_machine.specs.Rules.{Idle, Inv, more}
 use Rattle.inodes_on_blocks.specs.ShownTables as tables
-use Rattle.inodes_on_blocks.specs.ShownTables.{loaded, kind_of}
-use Rattle.inodes_on_blocks.proofs.References.{by_place}
-use Rattle.inodes_on_blocks.specs.Below.{World, log_of, tables_of, inode_in, came_to, exec}
-use Rattle.inodes_on_blocks.specs.Acting.{alone, Answers, IsDone}
-use Rattle.inodes_on_blocks.specs.Holding.{in_hand, HasBuffer, SameBut}
-use Rattle.inodes_on_blocks.specs.Lowering.{Carry, IsThrough, Keeps, Kept, Labels, Same, Stands, below, labelled}
-use Rattle.inodes_on_blocks.specs.Making.{IsMade, answers, claim, claim_at, claim_from, claim_in, claim_mark, HasInodes}
-use Rattle.inodes_on_blocks.specs.Owners.{Owners}
-use Rattle.inodes_on_blocks.specs.Room.{GivesRoom, HasSpent}
-use Rattle.inodes_on_blocks.specs.Shown.{Shows}
-use Rattle.inodes_on_blocks.specs.Spending.{ActsWithin, DoesItWithin}
-use Rattle.inodes_on_blocks.proofs.Alone.{alone_keeps, alone_laws, lasts_done, kept_same}
-use Rattle.inodes_on_blocks.proofs.Answering.{Answered, s-answered}
+use Rattle.inodes_on_blocks.proofs.Basics.{by_place, alone_keeps, alone_laws, lasts_done, kept_same, Answered, s-answered, IsQuiet, buffer_seen, buffer_then, quiet_but, quiet_others, quiet_shows, s-back, s-fetch, with_buffers, back_hand, AllInHand, base_marked, below_laws, in_hand_then, lent_then, through_then, hands_marked, empty_hand, inode_place, inode_read, marked_same, shows_marked, among_free, found_passes, may_put, untaken, other_spends}
 use Rattle.inodes_on_blocks.proofs.Changing.{LeftTo, left_but, left_same}
 use Rattle.inodes_on_blocks.proofs.ClaimPuts.{HasClaimed, can_put_new, claimed_below, claimed_hands, claimed_marked, claimed_same, claimed_shows, claimed_then, free_above, put_base, put_owners, put_same_others, put_shows, put_with, stored}
-use Rattle.inodes_on_blocks.proofs.Fetching.{IsQuiet, buffer_seen, buffer_then, quiet_but, quiet_others, quiet_shows, s-back, s-fetch, with_buffers}
-use Rattle.inodes_on_blocks.proofs.Hands.{back_hand}
-use Rattle.inodes_on_blocks.proofs.Layer.{AllInHand, base_marked, below_laws, in_hand_then, lent_then, through_then, hands_marked}
-use Rattle.inodes_on_blocks.proofs.Loading.{empty_hand, inode_place, inode_read}
-use Rattle.inodes_on_blocks.proofs.Marked.{marked_same, shows_marked}
-use Rattle.inodes_on_blocks.proofs.NewInodes.{among_free, found_passes}
-use Rattle.inodes_on_blocks.proofs.Recorded.{may_put}
-use Rattle.inodes_on_blocks.proofs.RecordThen.{untaken}
 use Rattle.inodes_on_blocks.proofs.Spending.{stays_within}
 use Rattle.inodes_on_blocks.proofs.Spends.{programs_spend}
-use Rattle.inodes_on_blocks.proofs.SpentRoom.{other_spends}
 
 -- ---- an inode that is picked
 

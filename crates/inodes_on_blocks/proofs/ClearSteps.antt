@@ -1,74 +1,19 @@
 -- A name cleared acts where the directory's record is put, after its slot was put free.
-use Rattle.std.proofs.Common.{◌≡◌, ◌≢◌, ℕ, zero, suc, ◌+◌, ◌-◌, ◌*◌, ◌/◌, ◌%◌, ◌<◌, ◌≤◌, ◌==◌, ◌&&◌, nat_lt, Bool, true, false, List, [], ◌∷◌, length, max, Option, Some, None, refl, sym, ◌∙◌, ap, subst, arith, if◌then◌else◌}
-use Rattle.std.specs.Prelude.{IsSome}
-use Rattle.std.specs.Option.{option_map, unwrap_or}
-use Rattle.std.proofs.lemmas.Option.{none-some}
-use Rattle.directory.specs.declared.found.Found.{Found}
-use Rattle.directory.specs.Programs.{Named, block_count, search, search_from, with_dirent, with_slot}
-use Rattle.fs_layout.specs.declared.entry.Dirent.TheVariants.{Free}
-use Rattle.fs_layout.specs.declared.inode.Dinode.{Dinode}
-use Rattle.fs_layout.specs.declared.superblock.Super.{Super}
-use Rattle.fs_layout.specs.Bytes.{IsBytes}
-use Rattle.fs_layout.specs.Inode.{IsDinode}
-use Rattle.fs_layout.specs.Recovered.{recovered}
-use Rattle.std.specs.List.{All}
-use Rattle.image_tree.specs.Checks.{IsData}
-use Rattle.image_tree.specs.Inodes.{is_free, numbers_of, block_number, content_block}
-use Rattle.inodes_on_blocks.specs.Holds.{HoldsAt, IsOwned, size_in}
-use Rattle.inodes_on_blocks.specs.Puts.{IsPut, IsLaidOut, Becomes, slots_with}
-use Rattle.inodes_on_blocks.proofs.ImageNodes.{at_index}
-use Rattle.inodes_on_blocks.proofs.SeenDisks.{good_seen}
-use Rattle.plain_tree.specs.declared.node.Slot.{Slot}
-use Rattle.plain_tree.specs.declared.node.Node.{Node}
-use Rattle.plain_tree.specs.declared.node.Kind.{Kind}
-use Rattle.plain_tree.specs.declared.node.Kind.TheVariants.{Directory, File, Device}
-use Rattle.plain_tree.specs.Steps.{cleared, node_or}
+use Rattle.inodes_on_blocks.proofs.Vocabulary.{◌≡◌, ◌≢◌, ℕ, zero, suc, ◌+◌, ◌-◌, ◌*◌, ◌/◌, ◌%◌, ◌<◌, ◌≤◌, ◌==◌, ◌&&◌, nat_lt, Bool, true, false, List, [], ◌∷◌, length, max, Option, Some, None, refl, sym, ◌∙◌, ap, subst, arith, if◌then◌else◌, IsSome, option_map, unwrap_or, none-some, Found, Named, block_count, search, search_from, with_dirent, with_slot, Free, Dinode, Super, IsBytes, IsDinode, recovered, All, IsData, is_free, numbers_of, block_number, content_block, HoldsAt, IsOwned, size_in, IsPut, IsLaidOut, Becomes, slots_with, Slot, Node, Kind, Directory, File, Device, cleared, node_or, Name, same_name, live_directory, look, first_slot, all_slots, put, hart_count, eq_is, Ret, bind, Ran, Laws, Machine, P, Wp, Both, joined, Below, Lasts, Handover, ToAct, to_act, may_act, bind-assoc, Wp-more, lock_holder, fetch, seen_of, Direct, InTable, BlockInHand, fetch_at, fetch_block, no_record, inode_block, Clear, without_entry, with_record, Inv, World, log_of, tables_of, disk_of, inode_in, KeepsRoom, in_hand, HasBuffer, KeepsInode, NothingMore, Finds, Opened, Had, Apart, Has, Emptied, Same, Kept, Carry, record_had, IsFirstNamed, IsKnown, InHand, Stands, below, Labels, labelled, Keeps, put_named, slot_found, clear_in, clear_slot, clear, learned, number_found, IsChanging, GivesRoom, Shows, record_in}
+use Rattle.inodes_on_blocks.proofs.Basics.{at_index, good_seen, kept_then, kept_same, same_inode, same_numbers, holds_now, used_now, block_stays, but_same, but_then, below_laws, lock_range, seen_dinode, TakesStep, s-here}
 use Rattle.plain_tree.specs.Tree as tree
-use Rattle.plain_tree.specs.Tree.{Name, same_name, live_directory, look, first_slot, all_slots, slots_of, put}
-use Rattle.plain_tree.specs.Widths.{hart_count}
-use Rattle.tree_laws.proofs.Maps.{eq_is}
-use Rattle.atomic_programs.specs.Prog.{Ret, bind, Ran}
-use Rattle.atomic_programs.specs.Logic.{Laws, Machine, P, Wp}
-use Rattle.atomic_programs.specs.Joined.{Both, joined, Below, Lasts, Handover}
-use Rattle.atomic_programs.proofs.Joined.{ToAct, to_act, may_act}
-use Rattle.atomic_programs.proofs.Prog.{bind-assoc}
-use Rattle.atomic_programs.proofs.Sound.{Wp-more}
-use Rattle.fs_machine.specs.Tables.{holder_of as lock_holder}
-use Rattle.fs_machine.specs.Programs.{fetch}
-use Rattle.fs_machine.specs.Shown.{seen_of}
-use Rattle.inode_data.specs.declared.addresses.Address.TheVariants.{Direct, InTable}
-use Rattle.inode_data.specs.Programs.{FetchedBlock as BlockInHand, fetch_at, fetch_block}
-use Rattle.inode_table.specs.Programs.{no_record, inode_block}
+use Rattle.plain_tree.specs.Tree.{slots_of}
 use Rattle.inode_machine.specs.World as above
-use Rattle.inode_machine.specs.World.Op.{Clear}
-use Rattle.inode_machine.specs.Exec.{without_entry, with_record}
 use Rattle.inode_machine.specs.Rules as rules
-use Rattle.inode_machine.specs.Rules.{Inv}
-use Rattle.inodes_on_blocks.specs.Below.{World, log_of, tables_of, disk_of, inode_in}
-use Rattle.inodes_on_blocks.specs.Giving.{KeepsRoom}
-use Rattle.inodes_on_blocks.specs.Holding.{in_hand, HasBuffer}
-use Rattle.inodes_on_blocks.specs.Lowering.{KeepsInode, NothingMore, Finds, Opened, Had, Apart, Has, Emptied, Same, Kept, Carry, record_had, IsFirstNamed, IsKnown, InHand, Stands, below, Labels, labelled, Keeps}
-use Rattle.inodes_on_blocks.specs.Naming.{put_named, slot_found, slot_of, clear_in, clear_slot, clear}
-use Rattle.inodes_on_blocks.specs.Reading.{learned, number_found}
-use Rattle.inodes_on_blocks.specs.Recording.{IsChanging}
-use Rattle.inodes_on_blocks.specs.Room.{GivesRoom}
-use Rattle.inodes_on_blocks.specs.Shown.{Shows}
-use Rattle.inodes_on_blocks.specs.Storing.{record_in}
-use Rattle.inodes_on_blocks.proofs.Alone.{kept_then, kept_same}
+use Rattle.inodes_on_blocks.specs.Naming.{slot_of}
 use Rattle.inodes_on_blocks.proofs.Changing.{owner_with, Changing, LeftTo, left_but, changing_start, changing_then, numbers_stay}
 use Rattle.inodes_on_blocks.proofs.ContentFetch.{s-content}
 use Rattle.inodes_on_blocks.proofs.ContentReads.{touches, touches_are}
-use Rattle.inodes_on_blocks.proofs.ContentStays.{same_inode, same_numbers, holds_now, used_now, block_stays}
 use Rattle.inodes_on_blocks.proofs.DataPuts.{data_home, s-data}
 use Rattle.inodes_on_blocks.proofs.DirectorySearches.{s-search}
-use Rattle.inodes_on_blocks.proofs.Fetching.{but_same, but_then}
-use Rattle.inodes_on_blocks.proofs.Layer.{below_laws}
 use Rattle.inodes_on_blocks.proofs.Looks as looks
 use Rattle.inodes_on_blocks.proofs.NamingSteps.{naming_acts}
-use Rattle.inodes_on_blocks.proofs.Putting.{lock_range}
-use Rattle.inodes_on_blocks.proofs.RecordThen.{seen_dinode}
 use Rattle.inodes_on_blocks.proofs.SlotPuts.{dirent_long, dirent_bytes, free_bytes, slot_makes, cleared_first}
-use Rattle.inodes_on_blocks.proofs.Starting.{TakesStep, s-here}
 use Rattle.inodes_on_blocks.proofs.StatSteps.{in_use}
 
 -- one name

@@ -1,33 +1,8 @@
 -- A write of a commit changes nothing that is seen outside the log, and nothing of the other harts.
-use Rattle.std.proofs.Common.{◌≡◌, ◌≢◌, ◌⊎◌, inl, inr, ℕ, zero, suc, ◌+◌, ◌<◌, ◌≤◌, ◌==◌, Bool, true, false, List, [], ◌∷◌, Option, Some, None, length, refl, sym, ◌∙◌, ap, subst, arith, is_some, if◌then◌else◌}
-use Rattle.std.specs.Option.{option_and_then}
-use Rattle.std.proofs.lemmas.Bool.Decides.{nat_tests}
-use Rattle.std.specs.Prelude.{nat_lt}
-use Rattle.fs_layout.specs.declared.superblock.Super.{Super}
-use Rattle.fs_layout.specs.Recovered.{IsOutsideLog}
-use Rattle.fs_layout.specs.Bytes.{IsBytes}
-use Rattle.buffer_cache.specs.Seats.{SeatState, is_number, seat_of, holder_of, kept}
-use Rattle.group_log.specs.declared.phase.Phase.{Phase}
-use Rattle.group_log.specs.declared.phase.Phase.TheVariants.{Open, Staging, Installing, Halted}
-use Rattle.group_log.specs.Group.{IsMember}
-use Rattle.group_log.specs.Soundness.{PinsFit}
-use Rattle.group_log.proofs.Seats.{pick}
-use Rattle.group_log.proofs.Steps.{open_of}
-use Rattle.tree_laws.proofs.Maps.{eq_not}
-use Rattle.image_tree.specs.Inodes.{inode_of}
-use Rattle.inodes_on_blocks.specs.Seen.{seen_blocks}
+use Rattle.inodes_on_blocks.proofs.Vocabulary.{◌≡◌, ◌≢◌, ◌⊎◌, inl, inr, ℕ, zero, suc, ◌+◌, ◌<◌, ◌≤◌, ◌==◌, Bool, true, false, List, [], ◌∷◌, Option, Some, None, length, refl, sym, ◌∙◌, ap, subst, arith, is_some, if◌then◌else◌, option_and_then, nat_tests, nat_lt, Super, IsOutsideLog, IsBytes, SeatState, seat_of, holder_of, kept, Phase, Open, Staging, Installing, Halted, IsMember, PinsFit, pick, open_of, eq_not, inode_of, seen_blocks, LogPart, Own, own_of, mine_of, seen_of, IsWholeLog, if_kept, is_hart, is_joined, loaded, World, log_of, disk_of, tables_of, Shows, CommitShows, ghost_of, on_blocks, Same, commit_in, buffer_in}
+use Rattle.buffer_cache.specs.Seats.{is_number}
 use Rattle.inodes_on_blocks.proofs.SeenDisks.{seen_stays}
-use Rattle.fs_machine.specs.LogPart.{LogPart}
-use Rattle.fs_machine.specs.Own.{Own, own_of, mine_of}
-use Rattle.fs_machine.specs.Shown.{seen_of}
-use Rattle.fs_machine.specs.Whole.{IsWholeLog}
 use Rattle.inode_machine.specs.World as above
-use Rattle.inode_machine.specs.Rules.{if_kept, is_hart}
-use Rattle.inodes_on_blocks.specs.OnBlocks.{is_joined}
-use Rattle.inodes_on_blocks.specs.ShownTables.{loaded}
-use Rattle.inodes_on_blocks.specs.Below.{World, log_of, disk_of, tables_of}
-use Rattle.inodes_on_blocks.specs.Shown.{Shows, CommitShows, ghost_of, on_blocks}
-use Rattle.inodes_on_blocks.specs.Lowering.{Same, commit_in, buffer_in}
 use Rattle.inodes_on_blocks.proofs.Groups.{has_members}
 use Rattle.inodes_on_blocks.proofs.Layer.{kept_alike}
 use Rattle.inodes_on_blocks.proofs.News.{new_alike}

@@ -1,25 +1,9 @@
 -- The blocks of the content of an inode that holds its node: where the number of each stands, and what is seen of it.
-use Rattle.std.proofs.Common.{◌≡◌, ◌≢◌, inr, ℕ, zero, suc, ◌+◌, ◌-◌, ◌*◌, ◌<◌, ◌≤◌, ◌==◌, nat_lt, Bool, true, false, List, [], ◌++◌, All, length, refl, sym, ◌∙◌, ap, subst, arith, Option, slice_index, if◌then◌else◌}
-use Rattle.std.proofs.lemmas.Bool.Decides.{nat_tests}
-use Rattle.std.proofs.lemmas.List.{get_or_append_left, get_or-append_right, get_or_past}
-use Rattle.fs_layout.specs.declared.inode.Dinode.{Dinode}
-use Rattle.fs_layout.specs.declared.superblock.Super.{Super}
-use Rattle.fs_layout.specs.Bytes.{u32s_at}
-use Rattle.fs_layout.specs.Indirect.{numbers_in}
-use Rattle.fs_layout.specs.Recovered.{IsOutsideLog, recovered, sizes_of}
-use Rattle.fs_layout.specs.Widths.{block_len}
-use Rattle.image_tree.specs.Checks.{IsData}
-use Rattle.image_tree.specs.Inodes.{inode_of, is_free, numbers_of, indirect_numbers, block_number, content_block}
-use Rattle.image_tree.proofs.Nodes.{numbers_by_node}
-use Rattle.inodes_on_blocks.specs.Holds.{HoldsAt, IsOwned}
+use Rattle.inodes_on_blocks.proofs.Vocabulary.{◌≡◌, ◌≢◌, inr, ℕ, zero, suc, ◌+◌, ◌-◌, ◌*◌, ◌<◌, ◌≤◌, ◌==◌, nat_lt, Bool, true, false, List, [], ◌++◌, length, refl, sym, ◌∙◌, ap, subst, arith, Option, slice_index, if◌then◌else◌, nat_tests, get_or_append_left, get_or-append_right, get_or_past, Dinode, Super, u32s_at, numbers_in, IsOutsideLog, recovered, sizes_of, block_len, IsData, inode_of, is_free, numbers_of, indirect_numbers, block_number, content_block, numbers_by_node, HoldsAt, IsOwned, seen_in, Node, seen_of, World, log_of, disk_of, inode_in, Shows}
+use Rattle.std.proofs.Common.{All}
 use Rattle.inodes_on_blocks.proofs.ImageNodes.{at_index}
 use Rattle.inodes_on_blocks.proofs.SeenDisks.{good_seen}
-use Rattle.buffer_cache.specs.Seats.{seen_in}
-use Rattle.plain_tree.specs.declared.node.Node.{Node}
-use Rattle.fs_machine.specs.Shown.{seen_of}
 use Rattle.inode_machine.specs.World as above
-use Rattle.inodes_on_blocks.specs.Below.{World, log_of, disk_of, inode_in}
-use Rattle.inodes_on_blocks.specs.Shown.{Shows}
 use Rattle.inodes_on_blocks.proofs.Loading.{block_shown}
 
 u32s_long : (n : ℕ) (bytes : List ℕ) (at : ℕ) → length (u32s_at n bytes at) ≡ n

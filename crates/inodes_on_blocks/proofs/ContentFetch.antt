@@ -1,38 +1,7 @@
 -- A block of a locked inode's content is taken as code takes it: after a touch of the indirect block, where its number stands there.
-use Rattle.std.proofs.Common.{◌≡◌, ℕ, suc, ◌-◌, ◌*◌, ◌<◌, ◌≤◌, nat_lt, Bool, true, false, List, Option, Some, None, refl, sym, ◌∙◌, ap, subst, arith, slice_index, if◌then◌else◌}
-use Rattle.std.proofs.lemmas.Bool.Decides.{nat_tests}
-use Rattle.fs_layout.specs.declared.inode.Dinode.{Dinode}
-use Rattle.fs_layout.specs.declared.superblock.Super.{Super}
-use Rattle.fs_layout.specs.Indirect.{numbers_in}
-use Rattle.fs_layout.specs.Widths.{block_len}
-use Rattle.image_tree.specs.Inodes.{is_free, numbers_of, block_number, content_block}
-use Rattle.inodes_on_blocks.specs.Holds.{HoldsAt}
-use Rattle.plain_tree.specs.declared.node.Node.{Node}
-use Rattle.plain_tree.specs.Widths.{hart_count}
-use Rattle.atomic_programs.specs.Prog.{Do, bind, unmarked}
-use Rattle.atomic_programs.specs.Logic.{Machine, Laws, P, Wp}
-use Rattle.atomic_programs.specs.Joined.{Both, joined}
-use Rattle.atomic_programs.proofs.Joined.{Stable}
-use Rattle.atomic_programs.proofs.Prog.{bind-assoc}
-use Rattle.atomic_programs.proofs.Sound.{Wp-more}
-use Rattle.fs_machine.specs.Tables.{holder_of as lock_holder}
-use Rattle.fs_machine.specs.Programs.{fetch}
-use Rattle.fs_machine.specs.Shown.{seen_of}
-use Rattle.fs_machine.specs.Steps.{Put}
-use Rattle.inode_data.specs.declared.addresses.Address.TheVariants.{Direct, InTable}
-use Rattle.inode_data.specs.Programs.{FetchedBlock as BlockInHand, give_fetched, fetch_number, fetch_named, fetch_at, fetch_block}
+use Rattle.inodes_on_blocks.proofs.Vocabulary.{◌≡◌, ℕ, suc, ◌-◌, ◌*◌, ◌<◌, ◌≤◌, nat_lt, Bool, true, false, List, Option, Some, None, refl, sym, ◌∙◌, ap, subst, arith, slice_index, if◌then◌else◌, nat_tests, Dinode, Super, numbers_in, block_len, is_free, numbers_of, block_number, content_block, HoldsAt, Node, hart_count, Do, bind, unmarked, Machine, Laws, P, Wp, Both, joined, Stable, bind-assoc, Wp-more, lock_holder, fetch, seen_of, Put, Direct, InTable, BlockInHand, give_fetched, fetch_number, fetch_named, fetch_at, fetch_block, Inv, World, log_of, tables_of, disk_of, inode_in, Shows, Same, Kept, below, Labels, labelled, Keeps, in_hand, IsFetched}
 use Rattle.inode_machine.specs.World as above
-use Rattle.inode_machine.specs.Rules.{Inv}
-use Rattle.inodes_on_blocks.specs.Below.{World, log_of, tables_of, disk_of, inode_in}
-use Rattle.inodes_on_blocks.specs.Shown.{Shows}
-use Rattle.inodes_on_blocks.specs.Lowering.{Same, Kept, below, Labels, labelled, Keeps}
-use Rattle.inodes_on_blocks.specs.Holding.{in_hand, IsFetched}
-use Rattle.inodes_on_blocks.proofs.Alone.{kept_same, kept_then}
-use Rattle.inodes_on_blocks.proofs.ContentBlocks.{direct_number}
-use Rattle.inodes_on_blocks.proofs.ContentStays.{block_stays}
-use Rattle.inodes_on_blocks.proofs.Fetching.{but_same, but_then, s-fetch, s-back}
-use Rattle.inodes_on_blocks.proofs.Layer.{below_laws}
-use Rattle.inodes_on_blocks.proofs.Loading.{empty_hand, same_again}
+use Rattle.inodes_on_blocks.proofs.Basics.{kept_same, kept_then, direct_number, block_stays, but_same, but_then, s-fetch, s-back, below_laws, empty_hand, same_again}
 
 -- A block of the content was looked at and given back as it was: the hart has nothing in hand again, and nothing of its own changed.
 pub record Touched (h : ℕ) (Stage : above.World → Type 0) (w v : Both World above.World) : Type 0 where

@@ -1,46 +1,8 @@
 -- The content of an inode given back: the blocks of its own numbers, those in its indirect block while that block's buffer is in hand, and that block.
-use Rattle.std.proofs.Common.{◌≡◌, ◌≢◌, ℕ, suc, ◌+◌, ◌*◌, ◌<◌, ◌≤◌, ◌==◌, Bool, true, false, List, [], ◌∷◌, ◌++◌, length, take, refl, sym, ◌∙◌, ap, subst, arith, Some, if◌then◌else◌}
-use Rattle.fs_layout.specs.declared.superblock.Super.{Super}
-use Rattle.fs_layout.specs.declared.inode.Dinode.{Dinode}
-use Rattle.fs_layout.specs.Indirect.{numbers_in}
-use Rattle.fs_layout.specs.Recovered.{recovered, sizes_of, IsOutsideLog}
-use Rattle.fs_layout.proofs.Numbers.{length-u32s_at}
-use Rattle.buffer_cache.specs.Seats.{holder_of}
-use Rattle.plain_tree.specs.Widths.{hart_count}
-use Rattle.tree_laws.proofs.Maps.{eq_is, eq_not}
-use Rattle.image_tree.specs.Checks.{IsData}
-use Rattle.image_tree.specs.Inodes.{indirect_numbers}
-use Rattle.inodes_on_blocks.specs.Holds.{NamesOwned}
-use Rattle.inodes_on_blocks.specs.Puts.{IsUntouched}
-use Rattle.inodes_on_blocks.proofs.HeldPuts.{nothing_owed}
-use Rattle.inodes_on_blocks.proofs.SeenDisks.{good_seen}
-use Rattle.atomic_programs.specs.Prog.{bind}
-use Rattle.atomic_programs.specs.Logic.{Machine, Laws, P, Wp}
-use Rattle.atomic_programs.specs.Joined.{Both, joined}
-use Rattle.atomic_programs.proofs.Joined.{Stable}
-use Rattle.atomic_programs.proofs.Sound.{Wp-more}
-use Rattle.fs_machine.specs.Tables.{holder_of as lock_holder}
-use Rattle.fs_machine.specs.Programs.{fetch}
-use Rattle.fs_machine.specs.Shown.{seen_of}
-use Rattle.bitmap_alloc.specs.Programs.{free_block}
-use Rattle.inode_data.specs.Addresses.{table_of}
-use Rattle.inode_data.specs.Freeing.{free_numbers, free_table, free_in_table, free_indirect}
-use Rattle.inode_data.specs.Widths.{direct}
+use Rattle.inodes_on_blocks.proofs.Vocabulary.{◌≡◌, ◌≢◌, ℕ, suc, ◌+◌, ◌*◌, ◌<◌, ◌≤◌, ◌==◌, Bool, true, false, List, [], ◌∷◌, ◌++◌, length, take, refl, sym, ◌∙◌, ap, subst, arith, Some, if◌then◌else◌, Super, Dinode, numbers_in, recovered, sizes_of, IsOutsideLog, length-u32s_at, holder_of, hart_count, eq_is, eq_not, IsData, indirect_numbers, NamesOwned, IsUntouched, bind, Machine, Laws, P, Wp, Both, joined, Stable, Wp-more, lock_holder, fetch, seen_of, free_block, table_of, free_numbers, free_table, free_in_table, free_indirect, direct, if_kept, Inv, World, log_of, tables_of, disk_of, inode_in, Shows, KeepsInode, Kept, below, buffer_in, undertaken, Labels, labelled, Keeps, in_hand, SameBut, IsFetched, PutBack, IsChanging, Owns, KeepsRoom, GaveBlocks}
+use Rattle.inodes_on_blocks.proofs.Basics.{nothing_owed, good_seen, kept_same, kept_then, data_place, s-fetch, s-back, below_laws, held_back, untouched_then, block_shown, empty_hand, given_order}
 use Rattle.inode_machine.specs.World as above
-use Rattle.inode_machine.specs.Rules.{if_kept, Inv}
-use Rattle.inodes_on_blocks.specs.Below.{World, log_of, tables_of, disk_of, inode_in}
-use Rattle.inodes_on_blocks.specs.Shown.{Shows}
-use Rattle.inodes_on_blocks.specs.Lowering.{KeepsInode, Kept, below, buffer_in, undertaken, Labels, labelled, Keeps}
-use Rattle.inodes_on_blocks.specs.Holding.{in_hand, SameBut, IsFetched, PutBack}
-use Rattle.inodes_on_blocks.specs.Recording.{IsChanging}
-use Rattle.inodes_on_blocks.specs.Giving.{Owns, KeepsRoom, GaveBlocks}
-use Rattle.inodes_on_blocks.proofs.Alone.{kept_same, kept_then}
-use Rattle.inodes_on_blocks.proofs.ContentBlocks.{data_place}
 use Rattle.inodes_on_blocks.proofs.Emptying.{none_yet, s-numbers}
-use Rattle.inodes_on_blocks.proofs.Fetching.{s-fetch, s-back}
-use Rattle.inodes_on_blocks.proofs.Layer.{below_laws, held_back, untouched_then}
-use Rattle.inodes_on_blocks.proofs.Loading.{block_shown, empty_hand}
-use Rattle.inodes_on_blocks.proofs.OwnedNumbers.{given_order}
 
 -- ---- numbers that are left
 

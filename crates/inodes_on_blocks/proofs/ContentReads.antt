@@ -1,28 +1,8 @@
 -- The blocks of a locked inode's content, read one after the other: what is read is the content as it was when the lock was had.
-use Rattle.std.proofs.Common.{◌≡◌, ℕ, zero, suc, ◌+◌, ◌*◌, ◌/◌, ◌<◌, false, List, Option, Some, None, sym, ◌∙◌, ap, subst, arith}
-use Rattle.fs_layout.specs.declared.inode.Dinode.{Dinode}
-use Rattle.fs_layout.specs.declared.superblock.Super.{Super}
-use Rattle.fs_layout.specs.Widths.{block_len}
-use Rattle.image_tree.specs.Inodes.{is_free, content_block}
-use Rattle.inodes_on_blocks.specs.Holds.{HoldsAt}
-use Rattle.plain_tree.specs.declared.node.Node.{Node}
-use Rattle.plain_tree.specs.Widths.{hart_count}
-use Rattle.atomic_programs.specs.Prog.{Do, bind, unmarked}
-use Rattle.atomic_programs.specs.Logic.{Machine, Laws, P, Wp}
-use Rattle.atomic_programs.specs.Joined.{Both, joined}
-use Rattle.atomic_programs.proofs.Joined.{Stable}
-use Rattle.atomic_programs.proofs.Prog.{bind-assoc}
-use Rattle.fs_machine.specs.Tables.{holder_of as lock_holder}
-use Rattle.fs_machine.specs.Steps.{Put}
-use Rattle.inode_data.specs.Programs.{FetchedBlock as BlockInHand, FilledMemory, filled_with, next_block, part_of, fetch_block, read_blocks, read_part}
+use Rattle.inodes_on_blocks.proofs.Vocabulary.{◌≡◌, ℕ, zero, suc, ◌+◌, ◌*◌, ◌/◌, ◌<◌, false, List, Option, Some, None, sym, ◌∙◌, ap, subst, arith, Dinode, Super, block_len, is_free, content_block, HoldsAt, Node, hart_count, Do, bind, unmarked, Machine, Laws, P, Wp, Both, joined, Stable, bind-assoc, lock_holder, Put, BlockInHand, FilledMemory, filled_with, next_block, part_of, fetch_block, read_blocks, read_part, World, log_of, tables_of, disk_of, inode_in, KeepsInode, Same, Kept, below, Labels, labelled, Keeps, in_hand}
 use Rattle.inode_machine.specs.World as above
-use Rattle.inodes_on_blocks.specs.Below.{World, log_of, tables_of, disk_of, inode_in}
-use Rattle.inodes_on_blocks.specs.Lowering.{KeepsInode, Same, Kept, below, Labels, labelled, Keeps}
-use Rattle.inodes_on_blocks.specs.Holding.{in_hand}
-use Rattle.inodes_on_blocks.proofs.Alone.{kept_then}
+use Rattle.inodes_on_blocks.proofs.Basics.{kept_then, same_inode, holds_now, used_now, content_stays, below_laws}
 use Rattle.inodes_on_blocks.proofs.ContentFetch.{s-touch}
-use Rattle.inodes_on_blocks.proofs.ContentStays.{same_inode, holds_now, used_now, content_stays}
-use Rattle.inodes_on_blocks.proofs.Layer.{below_laws}
 
 -- the memory with the parts of so many blocks
 unfoldable pub filled_from : (ℕ → List ℕ) → ℕ → (from upto : ℕ) → FilledMemory → FilledMemory

@@ -1,20 +1,9 @@
 -- A block of a locked inode's content stays, while others step: where it is, and what is seen of it.
-use Rattle.std.proofs.Common.{◌≡◌, ◌≢◌, ℕ, ◌+◌, ◌-◌, ◌*◌, ◌<◌, ◌≤◌, nat_lt, false, List, All, sym, ◌∙◌, ap, subst, Option, slice_index, get_or, if◌then◌else◌}
-use Rattle.fs_layout.specs.declared.inode.Dinode.{Dinode}
-use Rattle.fs_layout.specs.Indirect.{numbers_in}
-use Rattle.fs_layout.specs.Recovered.{IsOutsideLog, recovered}
-use Rattle.fs_layout.specs.Widths.{block_len}
-use Rattle.image_tree.specs.Inodes.{is_free, numbers_of, numbers_by, block_number, content_block}
-use Rattle.inodes_on_blocks.specs.Holds.{HoldsAt}
-use Rattle.image_tree.proofs.Nodes.{numbers_by_node}
+use Rattle.inodes_on_blocks.proofs.Vocabulary.{◌≡◌, ◌≢◌, ℕ, ◌+◌, ◌-◌, ◌*◌, ◌<◌, ◌≤◌, nat_lt, false, List, sym, ◌∙◌, ap, subst, Option, slice_index, get_or, if◌then◌else◌, Dinode, numbers_in, IsOutsideLog, recovered, block_len, is_free, numbers_of, numbers_by, block_number, content_block, HoldsAt, numbers_by_node, Node, seen_of, World, log_of, disk_of, inode_in, Shows, KeepsInode}
+use Rattle.std.proofs.Common.{All}
 use Rattle.inodes_on_blocks.proofs.HeldFrames.{numbers_kept, untouched}
 use Rattle.inodes_on_blocks.proofs.ImageNodes.{at_index}
-use Rattle.plain_tree.specs.declared.node.Node.{Node}
-use Rattle.fs_machine.specs.Shown.{seen_of}
 use Rattle.inode_machine.specs.World as above
-use Rattle.inodes_on_blocks.specs.Below.{World, log_of, disk_of, inode_in}
-use Rattle.inodes_on_blocks.specs.Shown.{Shows}
-use Rattle.inodes_on_blocks.specs.Lowering.{KeepsInode}
 use Rattle.inodes_on_blocks.proofs.ContentBlocks.{data_place, block_data, block_seen, table_data, table_number}
 
 -- where a block is, and another one outside the log

@@ -1,49 +1,17 @@
 -- The operations that count references act at their one step.
-use Rattle.std.proofs.Common.{◌≡◌, ◌≢◌, inl, inr, ℕ, pos, ◌+◌, ◌-◌, ◌^◌, ◌<◌, ◌==◌, nat_lt, Bool, true, false, Option, Some, None, refl, sym, ◌∙◌, ap, subst, arith, if◌then◌else◌}
-use Rattle.std.specs.Prelude.{IsSome, is_some, slice_get}
-use Rattle.std.proofs.lemmas.Bool.Decides.{nat_tests}
-use Rattle.std.proofs.lemmas.Option.{none-some}
-use Rattle.fs_layout.specs.declared.inode.Dinode.{Dinode}
-use Rattle.plain_tree.specs.declared.node.Node.{Node}
-use Rattle.plain_tree.specs.Tree.{put}
-use Rattle.plain_tree.specs.Widths.{hart_count, root}
-use Rattle.tree_laws.proofs.Maps.{same_or, and_true, eq_is, eq_not, put_same, put_other}
-use Rattle.tree_laws.proofs.Sums.{sum_part}
-use Rattle.inodes_on_blocks.specs.Holds.{HoldsAt, IsRecord}
-use Rattle.atomic_programs.specs.Prog.{Did, Waits, Ran, Stops, did_in}
-use Rattle.atomic_programs.specs.Logic.{Laws}
-use Rattle.atomic_programs.specs.Joined.{Both}
-use Rattle.fs_machine.specs.Tables.{TablesState, references_of}
-use Rattle.fs_machine.specs.Inodes.{up_inode, up_directory, directory_of, dead_of, is_positive, DroppedState, Counts, Keeps as Stays, Dies, drop_inode, drop_walked}
+use Rattle.inodes_on_blocks.proofs.Vocabulary.{◌≡◌, ◌≢◌, inl, inr, ℕ, pos, ◌+◌, ◌-◌, ◌^◌, ◌<◌, ◌==◌, nat_lt, Bool, true, false, Option, Some, None, refl, sym, ◌∙◌, ap, subst, arith, if◌then◌else◌, IsSome, is_some, slice_get, nat_tests, none-some, Dinode, Node, put, hart_count, root, same_or, and_true, eq_is, eq_not, put_same, put_other, sum_part, HoldsAt, IsRecord, Did, Waits, Ran, Stops, did_in, Laws, Both, TablesState, references_of, up_inode, up_directory, directory_of, dead_of, DroppedState, Counts, Stays, Dies, drop_inode, drop_walked, Whom, Number, Walked, UpStart, Up, WalkDown, Down, counted_up, has_place, up_if, start_if, start_number, counted_down, reserved, is_last, walk_down_if, down_if, Inv, put_elim, ours_none, ours_some, two_refs, opens_slots, Numbered, found_number, start_is_number, loaded, BothCame, MayDie, load_after, World, log_of, tables_of, disk_of, inode_in, Shows, Had, Carry, IsLoaded, Base, Labels, labelled, Keeps, IsOpened, up_start, walk_down, down, is_listed, is_dying, had_of, with_dying, ActsOnce}
+use Rattle.fs_machine.specs.Inodes.{is_positive}
 use Rattle.fs_machine.specs.Steps as steps
-use Rattle.fs_machine.specs.Steps.{Whom, Number, Directory, Held, Walked}
+use Rattle.fs_machine.specs.Steps.{Directory, Held}
 use Rattle.fs_machine.specs.Premises as premises
 use Rattle.inode_machine.specs.World as above
-use Rattle.inode_machine.specs.World.Op.{UpStart, Up, WalkDown, Down}
 use Rattle.inode_machine.specs.Exec as above_exec
-use Rattle.inode_machine.specs.Exec.{counted_up, has_place, up_if, start_if, start_number, counted_down, reserved, is_last, walk_down_if, down_if}
 use Rattle.inode_machine.specs.Rules as rules
-use Rattle.inode_machine.specs.Rules.{Inv}
-use Rattle.inode_machine.proofs.Frame.{put_elim, ours_none, ours_some, two_refs}
-use Rattle.inode_machine.proofs.Rules.{opens_slots}
-use Rattle.inode_machine.proofs.Numbers.{Number as Numbered, found_number, start_is_number}
 use Rattle.inodes_on_blocks.specs.ShownTables as tables
-use Rattle.inodes_on_blocks.specs.ShownTables.{loaded, BothCame}
-use Rattle.inodes_on_blocks.specs.TableLaws.{MayDie, load_after}
-use Rattle.inodes_on_blocks.proofs.References.{by_place, directories_are_starts}
+use Rattle.inodes_on_blocks.proofs.Basics.{by_place, directories_are_starts, unkept_old, tables_left, Came, CameTo, one_step, with_tables, unlocked_holds, shows_then, base_then, fewer_owed, open_alike}
 use Rattle.inodes_on_blocks.proofs.Drops.{walks_drop_references, references_are_dropped}
-use Rattle.inodes_on_blocks.specs.Below.{World, log_of, tables_of, disk_of, inode_in}
-use Rattle.inodes_on_blocks.specs.Shown.{Shows}
-use Rattle.inodes_on_blocks.specs.Lowering.{Had, Carry, IsLoaded, Base, Labels, labelled, Keeps, IsOpened}
-use Rattle.inodes_on_blocks.specs.Handlers.{up_start, up, walk_down, down, is_listed, is_dying, had_of, with_dying}
-use Rattle.inodes_on_blocks.specs.Acting.{ActsOnce}
-use Rattle.inodes_on_blocks.proofs.News.{unkept_old}
-use Rattle.inodes_on_blocks.proofs.Layer.{tables_left}
-use Rattle.inodes_on_blocks.proofs.Stepping.{Came, CameTo, one_step}
-use Rattle.inodes_on_blocks.proofs.Tables.{with_tables, unlocked_holds, shows_then, base_then}
+use Rattle.inodes_on_blocks.specs.Handlers.{up}
 use Rattle.inodes_on_blocks.proofs.SlotSteps.{in_tables_is, came_quiet, all_same}
-use Rattle.inodes_on_blocks.proofs.Owed.{fewer_owed}
-use Rattle.inodes_on_blocks.proofs.OpenFiles.{open_alike}
 
 module _ (l : Labels) (laws : Laws (labelled l)) (keeps : Keeps l) (h : ℕ) (lt : h < hart_count) where
   abbrev W : Type 0

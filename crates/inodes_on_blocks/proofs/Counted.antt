@@ -1,9 +1,6 @@
 -- The tables count what they have, and so an operation waits only where it may.
-use Rattle.inodes_on_blocks.specs.ShownTables.{loaded}
-use Rattle.fs_machine.proofs.Waits.{waits_where_it_may}
-use Rattle.inodes_on_blocks.specs.Below.{tables_of}
-use Rattle.inodes_on_blocks.specs.Counted.{ReferencesAreCounted, WaitsForOthers}
-use Rattle.inodes_on_blocks.proofs.Owed.{all_owed}
+use Rattle.inodes_on_blocks.proofs.Vocabulary.{loaded, waits_where_it_may, tables_of, ReferencesAreCounted, WaitsForOthers}
+use Rattle.inodes_on_blocks.proofs.Basics.{all_owed}
 
 pub references_are_counted : ReferencesAreCounted
 references_are_counted r w shows inv n = all_owed n (tables_of r) w (loaded (tables_of r)) shows.tables inv

@@ -1,16 +1,7 @@
 -- How many places are in use: as many as inodes are referred to.
-use Rattle.std.proofs.Common.{◌≡◌, ◌≢◌, inl, inr, ℕ, zero, suc, ◌+◌, ◌<◌, ◌≤◌, ◌==◌, nat_lt, Bool, true, false, if◌then◌else◌, List, [], ◌∷◌, length, Option, Some, None, refl, sym, ◌∙◌, ap, subst, arith}
-use Rattle.std.specs.Prelude.{slice_get, position, is_some}
-use Rattle.std.proofs.lemmas.Bool.Decides.{nat_tests}
-use Rattle.std.proofs.lemmas.Option.{same_Some, none-some}
-use Rattle.tree_laws.specs.WellFormed.{sum_below, one_if}
-use Rattle.tree_laws.proofs.Maps.{eq_self, eq_is, eq_not, either, same_or}
-use Rattle.tree_laws.proofs.Sums.{sum_same, sum_changed, sum_none, one_yes, one_no}
+use Rattle.inodes_on_blocks.proofs.Vocabulary.{◌≡◌, ◌≢◌, inl, inr, ℕ, zero, suc, ◌+◌, ◌<◌, ◌≤◌, ◌==◌, nat_lt, Bool, true, false, if◌then◌else◌, List, [], ◌∷◌, length, Option, Some, None, refl, sym, ◌∙◌, ap, subst, arith, slice_get, position, is_some, nat_tests, same_Some, none-some, sum_below, one_if, eq_self, eq_is, eq_not, either, same_or, sum_same, sum_changed, sum_none, one_yes, one_no, place_of, references_in, references_at, is_unused, found, placed, none_passes, position_none, free}
 use Rattle.fs_machine.specs.declared.entries.Entry.{Entry}
-use Rattle.fs_machine.specs.Tables.{place_of, references_in, references_at, is_unused}
 use Rattle.fs_machine.specs.Soundness.{IsOnce}
-use Rattle.fs_machine.proofs.Places.{found, placed, none_passes, position_none}
-use Rattle.fs_machine.proofs.Beginning.{free}
 
 -- how many references stand to an inode, over all places
 standing : ℕ → List Entry → ℕ

@@ -1,40 +1,10 @@
 -- A block put for an inode that a hart is changing, which the inode has or the hart has taken: nothing of it is seen above.
-use Rattle.std.proofs.Common.{◌≡◌, ◌≢◌, ◌⊎◌, inl, inr, ℕ, suc, ◌<◌, Bool, List, length, Option, Some, None, is_some, refl, sym, ◌∙◌, ap, subst, arith, if◌then◌else◌}
-use Rattle.fs_layout.specs.declared.inode.Dinode.{Dinode}
-use Rattle.fs_layout.specs.declared.superblock.Super.{Super}
-use Rattle.fs_layout.specs.Bytes.{IsBytes}
-use Rattle.fs_layout.specs.Recovered.{recovered, sizes_of}
-use Rattle.buffer_cache.specs.Seats.{holder_of}
-use Rattle.group_log.specs.Soundness.{IsHome}
-use Rattle.image_tree.specs.Checks.{IsData}
-use Rattle.image_tree.specs.Inodes.{numbers_of}
-use Rattle.inodes_on_blocks.specs.Holds.{NamesOwned}
-use Rattle.inodes_on_blocks.specs.Puts.{IsPut, IsLaidOut, Becomes}
-use Rattle.inodes_on_blocks.proofs.SeenDisks.{good_seen}
-use Rattle.plain_tree.specs.declared.node.Node.{Node}
-use Rattle.plain_tree.specs.Widths.{hart_count}
-use Rattle.tree_laws.proofs.Maps.{either}
-use Rattle.atomic_programs.specs.Prog.{Do, unmarked}
-use Rattle.atomic_programs.specs.Logic.{Machine, Laws, P, Wp}
-use Rattle.atomic_programs.specs.Joined.{Both, joined}
-use Rattle.atomic_programs.proofs.Joined.{Stable}
-use Rattle.fs_machine.specs.Shown.{seen_of}
-use Rattle.fs_machine.specs.Steps.{Put}
+use Rattle.inodes_on_blocks.proofs.Vocabulary.{◌≡◌, ◌≢◌, ◌⊎◌, inl, inr, ℕ, suc, ◌<◌, Bool, List, length, Option, Some, None, is_some, refl, sym, ◌∙◌, ap, subst, arith, if◌then◌else◌, Dinode, Super, IsBytes, recovered, sizes_of, holder_of, IsHome, IsData, numbers_of, NamesOwned, IsPut, IsLaidOut, Becomes, Node, hart_count, either, Do, unmarked, Machine, Laws, P, Wp, Both, joined, Stable, seen_of, Put, if_kept, is_hart, Inv, World, log_of, disk_of, owners_of, world_with, KeepsRoom, in_hand, HasBuffer, Kept, Carry, buffer_in, below, Labels, labelled, Keeps, CanPut, IsChanging, log_with, owners_with, Shows}
+use Rattle.inodes_on_blocks.proofs.Basics.{good_seen, buffer_then, buffer_seen, same_view, below_laws, hart_is, disk_put, put_bytes, old_bytes, put_hand}
 use Rattle.inode_machine.specs.World as above
-use Rattle.inode_machine.specs.Rules.{if_kept, is_hart, Inv}
-use Rattle.inodes_on_blocks.specs.Below.{World, log_of, disk_of, owners_of}
-use Rattle.inodes_on_blocks.specs.Giving.{world_with, KeepsRoom}
-use Rattle.inodes_on_blocks.specs.Holding.{in_hand, HasBuffer}
-use Rattle.inodes_on_blocks.specs.Lowering.{Kept, Carry, buffer_in, below, Labels, labelled, Keeps}
-use Rattle.inodes_on_blocks.specs.Recording.{CanPut, IsChanging, log_with, owners_with}
-use Rattle.inodes_on_blocks.specs.Shown.{Shows}
 use Rattle.inodes_on_blocks.proofs.Changing.{owner_with, Changing, left_same, changing_then, numbers_stay, stays_own, changed_put, data_owners}
-use Rattle.inodes_on_blocks.proofs.Fetching.{buffer_then, buffer_seen}
-use Rattle.inodes_on_blocks.proofs.Hands.{same_view}
-use Rattle.inodes_on_blocks.proofs.Layer.{below_laws, hart_is}
 use Rattle.inodes_on_blocks.proofs.PutLaws.{data_puts_leave}
 use Rattle.inodes_on_blocks.proofs.PutSteps.{put_back, s-put}
-use Rattle.inodes_on_blocks.proofs.Recorded.{disk_put, put_bytes, old_bytes, put_hand}
 
 -- a data block may be recorded
 pub data_home : (r : World) (g : above.World) → Shows r g → (b : ℕ) → IsData (log_of r).sizes b → IsHome (log_of r).contents (log_of r).sizes b

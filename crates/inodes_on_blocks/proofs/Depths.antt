@@ -1,10 +1,5 @@
 -- How far below the root a directory stands.
-use Rattle.std.proofs.Common.{◌≡◌, ◌≢◌, ℕ, zero, suc, ◌<◌, Bool, true, false, eqb, ◌⊎◌, inl, inr, refl, sym, ◌∙◌, ap, arith, List}
-use Rattle.std.proofs.lemmas.Bool.{false≢true}
-use Rattle.image_tree.specs.Inodes.{is_live_directory}
-use Rattle.image_tree.specs.Links.{up, climb}
-use Rattle.image_tree.specs.Checks.{HasGoodSlots, IsOneTree}
-use Rattle.tree_laws.proofs.Maps.{either, eq_not, same_or}
+use Rattle.inodes_on_blocks.proofs.Vocabulary.{◌≡◌, ◌≢◌, ℕ, zero, suc, ◌<◌, Bool, true, false, eqb, ◌⊎◌, inl, inr, refl, sym, ◌∙◌, ap, arith, List, false≢true, is_live_directory, up, climb, HasGoodSlots, IsOneTree, either, eq_not, same_or}
 use Rattle.inodes_on_blocks.proofs.Links.{up_live}
 
 abbrev one_more_unless : Bool → ℕ → ℕ

@@ -1,23 +1,8 @@
 -- Desks, and the places of open files, after a change of one hart's desk.
-use Rattle.std.proofs.Common.{◌≡◌, ◌≢◌, inl, inr, ℕ, suc, ◌+◌, ◌<◌, ◌≤◌, nat_lt, cond, Bool, true, false, if◌then◌else◌, List, [], ◌∷◌, length, Option, Some, None, refl, sym, ◌∙◌, ap, subst, arith}
-use Rattle.std.specs.Prelude.{slice_get, slice_set, position, is_none}
-use Rattle.std.specs.List.{position_from}
-use Rattle.std.proofs.lemmas.Iterator.Adapters.{position_from-zero}
-use Rattle.fs_layout.specs.declared.inode.Dinode.{Dinode}
-use Rattle.std.proofs.lemmas.Bool.Decides.{nat_tests}
-use Rattle.std.proofs.lemmas.Option.{slice_get_within, slice_get_past, same_Some, none-some}
-use Rattle.sleep_lock.proofs.Lists.{slice_get-set_same, slice_get-set_other}
-use Rattle.plain_tree.specs.Tree.{put}
-use Rattle.plain_tree.specs.Steps.{lowest, lowest_from, has_room}
-use Rattle.plain_tree.specs.Widths.{hart_count, descriptor_count}
-use Rattle.tree_laws.proofs.Maps.{same_or, put_same, put_other, any_same}
-use Rattle.fs_machine.specs.Lists.{first_empty}
+use Rattle.inodes_on_blocks.proofs.Vocabulary.{◌≡◌, ◌≢◌, inl, inr, ℕ, suc, ◌+◌, ◌<◌, ◌≤◌, nat_lt, cond, Bool, true, false, if◌then◌else◌, List, [], ◌∷◌, length, Option, Some, None, refl, sym, ◌∙◌, ap, subst, arith, slice_get, slice_set, position, is_none, position_from, position_from-zero, Dinode, nat_tests, slice_get_within, slice_get_past, same_Some, none-some, slice_get-set_same, slice_get-set_other, put, lowest, lowest_from, has_room, hart_count, descriptor_count, same_or, put_same, put_other, any_same, first_empty, TablesState, place_named, at_descriptor, if_there, Desk, is_at, slot_at, first_from, put_elim, Runs, DeskShows, DesksShow, descriptor, first, lent_by, is_taken}
 use Rattle.fs_machine.specs.declared.desk.Desk as cards
-use Rattle.fs_machine.specs.Tables.{TablesState, place_named, at_descriptor, if_there}
-use Rattle.inode_machine.specs.World.{Desk, World}
-use Rattle.inode_machine.specs.Exec.{is_at, slot_at, first_from}
-use Rattle.inode_machine.proofs.Frame.{put_elim}
-use Rattle.inodes_on_blocks.specs.ShownTables.{Shows, Runs, DeskShows, DesksShow, descriptor, first, lent_by, is_taken}
+use Rattle.inode_machine.specs.World.{World}
+use Rattle.inodes_on_blocks.specs.ShownTables.{Shows}
 
 -- ---- lists
 

@@ -1,33 +1,9 @@
 -- The blocks of a locked directory searched, one after the other: what is found is what its content had when the lock was had.
-use Rattle.std.proofs.Common.{◌≡◌, ℕ, zero, suc, ◌+◌, ◌*◌, ◌<◌, false, List, Option, Some, None, sym, ◌∙◌, ap, subst, arith}
-use Rattle.directory.specs.declared.found.Found.{Found}
-use Rattle.directory.specs.Programs.{Aim, found_in, or_next, look_at, search_from}
-use Rattle.directory.proofs.Searches.{else_found, found_from}
-use Rattle.fs_layout.specs.declared.inode.Dinode.{Dinode}
-use Rattle.fs_layout.specs.declared.superblock.Super.{Super}
-use Rattle.fs_layout.specs.Widths.{block_len}
-use Rattle.image_tree.specs.Inodes.{is_free, content_block}
-use Rattle.inodes_on_blocks.specs.Holds.{HoldsAt}
-use Rattle.plain_tree.specs.declared.node.Node.{Node}
-use Rattle.plain_tree.specs.Widths.{hart_count}
-use Rattle.atomic_programs.specs.Prog.{Do, bind, unmarked}
-use Rattle.atomic_programs.specs.Logic.{Machine, Laws, P, Wp}
-use Rattle.atomic_programs.specs.Joined.{Both, joined}
-use Rattle.atomic_programs.proofs.Joined.{Stable}
-use Rattle.atomic_programs.proofs.Prog.{bind-assoc}
-use Rattle.atomic_programs.proofs.Sound.{Wp-more}
-use Rattle.fs_machine.specs.Tables.{holder_of as lock_holder}
-use Rattle.fs_machine.specs.Steps.{Put}
-use Rattle.inode_data.specs.Programs.{FetchedBlock as BlockInHand, fetch_block}
+use Rattle.inodes_on_blocks.proofs.Vocabulary.{◌≡◌, ℕ, zero, suc, ◌+◌, ◌*◌, ◌<◌, false, List, Option, Some, None, sym, ◌∙◌, ap, subst, arith, Found, Aim, found_in, or_next, look_at, search_from, else_found, found_from, Dinode, Super, block_len, is_free, content_block, HoldsAt, Node, hart_count, Do, bind, unmarked, Machine, Laws, P, Wp, Both, joined, Stable, bind-assoc, Wp-more, lock_holder, Put, BlockInHand, fetch_block, World, log_of, tables_of, disk_of, inode_in, KeepsInode, Same, Kept, below, Labels, labelled, Keeps, in_hand}
 use Rattle.inode_machine.specs.World as above
-use Rattle.inodes_on_blocks.specs.Below.{World, log_of, tables_of, disk_of, inode_in}
-use Rattle.inodes_on_blocks.specs.Lowering.{KeepsInode, Same, Kept, below, Labels, labelled, Keeps}
-use Rattle.inodes_on_blocks.specs.Holding.{in_hand}
-use Rattle.inodes_on_blocks.proofs.Alone.{kept_then}
+use Rattle.inodes_on_blocks.proofs.Basics.{kept_then, same_inode, holds_now, used_now, content_stays, below_laws}
 use Rattle.inodes_on_blocks.proofs.ContentFetch.{s-touch}
 use Rattle.inodes_on_blocks.proofs.ContentReads.{touches, touches_are}
-use Rattle.inodes_on_blocks.proofs.ContentStays.{same_inode, holds_now, used_now, content_stays}
-use Rattle.inodes_on_blocks.proofs.Layer.{below_laws}
 
 module _ (sizes : Super) (l : Labels) (laws : Laws (labelled l)) (keeps : Keeps l) (h : ℕ) (lt : h < hart_count) (B : List l.Step → Type 0) {A : Type 0} (Q : A → List l.Step → Both World above.World → Type 0) (G : List l.Step → above.World → Type 0)
     (stable : Stable (labelled l) (below sizes) laws (below_laws sizes l keeps) h B G) (i : ℕ) (o : Option Node) (aim : Aim) (g : Option Found → P (joined (labelled l) (below sizes)) A) (j : ℕ) (w : Both World above.World)

@@ -1,30 +1,13 @@
 -- References counted down.
-use Rattle.std.proofs.Common.{◌≡◌, ◌≢◌, inl, inr, ℕ, ◌-◌, ◌<◌, ◌≤◌, ◌==◌, ◌&&◌, Bool, true, false, if◌then◌else◌, List, Option, Some, None, refl, sym, ◌∙◌, ap, subst, arith}
-use Rattle.std.specs.Prelude.{slice_get, slice_set, is_some, IsSome}
-use Rattle.std.proofs.lemmas.Option.{slice_get_within, same_Some}
-use Rattle.sleep_lock.specs.SleepLock.{SlotState, taken}
-use Rattle.sleep_lock.proofs.Lists.{slice_get-set_same}
-use Rattle.fs_layout.specs.declared.inode.Dinode.{Dinode}
-use Rattle.plain_tree.specs.Tree.{put}
-use Rattle.tree_laws.proofs.Maps.{eq_not, same_or, put_other}
-use Rattle.fs_machine.specs.Lists.{change_at}
+use Rattle.inodes_on_blocks.proofs.Vocabulary.{◌≡◌, ◌≢◌, inl, inr, ℕ, ◌-◌, ◌<◌, ◌≤◌, ◌==◌, ◌&&◌, Bool, true, false, if◌then◌else◌, List, Option, Some, None, refl, sym, ◌∙◌, ap, subst, arith, slice_get, slice_set, is_some, IsSome, slice_get_within, same_Some, SlotState, taken, slice_get-set_same, Dinode, put, eq_not, same_or, put_other, change_at, Inode, place_of, references_in, references_at, holder_in, TablesState, one_less, uncounted_at, dying, dead_in, dead_of, Counts, Stays as Keeps, Dies, IsSoundInodes, PlaceFits, InsideFits, found, placed, change_set, uncounted_good, at_set, drop_counted, drop_dies, walked_counted, walked_kept, counted_down, is_last, walk_down_if, down_if, reserved, PlacesShow, loaded_of, loaded_in, MayDie, load_after, WalksDropReferences, ReferencesAreDropped}
 use Rattle.fs_machine.specs.declared.entries.Entry.{Entry}
-use Rattle.fs_machine.specs.declared.entries.Inode.{Inode}
-use Rattle.fs_machine.specs.Tables.{place_of, references_in, references_at, holder_in, TablesState, one_less}
-use Rattle.fs_machine.specs.Inodes.{uncounted_at, dying, dead_in, dead_of, Counts, Keeps, Dies}
-use Rattle.fs_machine.specs.Soundness.{IsSoundInodes, PlaceFits, InsideFits}
-use Rattle.fs_machine.proofs.Places.{Found, found, placed, change_set}
+use Rattle.fs_machine.proofs.Places.{Found}
 use Rattle.fs_machine.proofs.Locking.{slot_at}
-use Rattle.fs_machine.proofs.Counting.{uncounted_good, at_set}
-use Rattle.fs_machine.proofs.Dying.{is_dead, drop_counted, drop_dies, walked_counted, walked_kept}
+use Rattle.fs_machine.proofs.Dying.{is_dead}
 use Rattle.inode_machine.specs.World.{World}
 use Rattle.inode_machine.specs.Exec as above
-use Rattle.inode_machine.specs.Exec.{counted_down, is_last, walk_down_if, down_if, reserved}
-use Rattle.inodes_on_blocks.specs.ShownTables.{PlacesShow, Shows, loaded_of, loaded_in}
-use Rattle.inodes_on_blocks.specs.TableLaws.{MayDie, load_after, WalksDropReferences, ReferencesAreDropped}
-use Rattle.inodes_on_blocks.proofs.Places.{places_set}
-use Rattle.inodes_on_blocks.proofs.Locks.{both_ran, place_there, slot_with, shown_locked}
-use Rattle.inodes_on_blocks.proofs.References.{load_same}
+use Rattle.inodes_on_blocks.specs.ShownTables.{Shows}
+use Rattle.inodes_on_blocks.proofs.Basics.{places_set, both_ran, place_there, slot_with, shown_locked, load_same}
 
 module _ (h n k : ℕ) (t : TablesState) (w : World) (load : ℕ → Option Dinode) (shows : Shows t w load) (may : MayDie n w load) (e : place_of n t.entries ≡ Some k) where
   sound : IsSoundInodes t.entries t.locks

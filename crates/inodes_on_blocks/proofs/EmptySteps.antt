@@ -1,54 +1,11 @@
 -- A file's content is given back: the operation acts where its record is put without it.
-use Rattle.std.proofs.Common.{◌≡◌, ℕ, zero, suc, pos, ◌^◌, ◌<◌, ◌≤◌, ◌==◌, Bool, true, false, List, [], ◌∷◌, length, All, take, replicate, Option, Some, None, refl, sym, ◌∙◌, subst, arith, if◌then◌else◌}
-use Rattle.std.specs.List.{AllByRecursion}
-use Rattle.std.specs.Option.{unwrap_or}
-use Rattle.std.proofs.lemmas.Option.{none-some, same_Some}
-use Rattle.fs_layout.specs.declared.superblock.Super.{Super}
-use Rattle.fs_layout.specs.declared.inode.Dinode.{Dinode}
-use Rattle.fs_layout.specs.Inode.{IsDinode}
-use Rattle.fs_layout.specs.Recovered.{sizes_of}
-use Rattle.plain_tree.specs.declared.node.Node.{Node}
-use Rattle.plain_tree.specs.declared.node.Kind.{Kind}
-use Rattle.plain_tree.specs.declared.node.Kind.TheVariants.{Directory, File, Device}
-use Rattle.plain_tree.specs.Steps.{is_file, emptied, node_or}
-use Rattle.plain_tree.specs.Widths.{hart_count}
-use Rattle.inodes_on_blocks.specs.Holds.{HoldsAt, IsInode, NamesOwned, size_in, type_in}
-use Rattle.inodes_on_blocks.proofs.LaidInodes.{laid_before, node_held, empty_laid, empty_named}
-use Rattle.inodes_on_blocks.proofs.SeenDisks.{good_seen}
-use Rattle.image_tree.proofs.NumberLists.{numbers_by_free}
-use Rattle.atomic_programs.specs.Prog.{bind, once, Ran}
-use Rattle.atomic_programs.specs.Logic.{Laws, Machine, P, Wp}
-use Rattle.atomic_programs.specs.Joined.{Both, joined, Below, Lasts, Handover}
-use Rattle.atomic_programs.proofs.Joined.{ToAct, to_act, may_act, Stable}
-use Rattle.atomic_programs.proofs.Sound.{Wp-more}
-use Rattle.fs_machine.specs.Tables.{holder_of as lock_holder}
-use Rattle.fs_machine.specs.Programs.{fetch}
-use Rattle.fs_machine.specs.Shown.{seen_of}
-use Rattle.bitmap_alloc.specs.Programs.{free_block}
-use Rattle.inode_data.specs.Addresses.{table_of}
-use Rattle.inode_data.specs.Freeing.{free_numbers, free_indirect, free_in_table, without_content}
-use Rattle.inode_data.specs.Widths.{direct}
-use Rattle.inode_table.specs.Programs.{no_record, inode_block}
+use Rattle.inodes_on_blocks.proofs.Vocabulary.{◌≡◌, ℕ, zero, suc, pos, ◌^◌, ◌<◌, ◌≤◌, ◌==◌, Bool, true, false, List, [], ◌∷◌, length, take, replicate, Option, Some, None, refl, sym, ◌∙◌, subst, arith, if◌then◌else◌, AllByRecursion, unwrap_or, none-some, same_Some, Super, Dinode, IsDinode, sizes_of, Node, Kind, Directory, File, Device, emptied, node_or, hart_count, HoldsAt, IsInode, NamesOwned, size_in, type_in, numbers_by_free, bind, once, Ran, Laws, Machine, P, Wp, Both, joined, Below, Lasts, Handover, ToAct, to_act, may_act, Stable, Wp-more, lock_holder, fetch, seen_of, free_block, table_of, free_numbers, free_indirect, free_in_table, without_content, direct, no_record, inode_block, Empty, with_record, with_no_bytes, Inv, Idle, more, World, log_of, tables_of, disk_of, inode_in, empty, Owns, KeepsRoom, KeepsInode, Kept, NothingMore, Had, Apart, Has, Emptied, Carry, record_had, IsLoaded, InHand, Base, Stands, below, Labels, labelled, Keeps, IsChanging, GivesRoom, Shows, record_in, put_record}
+use Rattle.std.proofs.Common.{All}
+use Rattle.plain_tree.specs.Steps.{is_file}
+use Rattle.inodes_on_blocks.proofs.Basics.{laid_before, node_held, empty_laid, empty_named, good_seen, kept_same, below_laws, hand_then, kept_disk, lent_then, untouched_same, through_then, given_order, order_owned, order_named, lock_range, TakesStep, s-here, AllBut, Ready, seen_dinode, untaken}
 use Rattle.inode_machine.specs.World as above
-use Rattle.inode_machine.specs.World.Op.{Empty}
-use Rattle.inode_machine.specs.Exec.{with_record, with_no_bytes}
 use Rattle.inode_machine.specs.Rules as rules
-use Rattle.inode_machine.specs.Rules.{Inv, Idle, more}
-use Rattle.inodes_on_blocks.specs.Below.{World, log_of, tables_of, disk_of, inode_in}
-use Rattle.inodes_on_blocks.specs.Emptying.{empty}
-use Rattle.inodes_on_blocks.specs.Giving.{Owns, KeepsRoom}
-use Rattle.inodes_on_blocks.specs.Lowering.{KeepsInode, Kept, NothingMore, Had, Apart, Has, Emptied, Carry, record_had, IsLoaded, InHand, Base, Stands, below, Labels, labelled, Keeps}
-use Rattle.inodes_on_blocks.specs.Recording.{IsChanging}
-use Rattle.inodes_on_blocks.specs.Room.{GivesRoom}
-use Rattle.inodes_on_blocks.specs.Shown.{Shows}
-use Rattle.inodes_on_blocks.specs.Storing.{record_in, put_record}
-use Rattle.inodes_on_blocks.proofs.Alone.{kept_same}
 use Rattle.inodes_on_blocks.proofs.ContentGiven.{Between, content_steps, named_kept, s-content}
-use Rattle.inodes_on_blocks.proofs.Layer.{below_laws, hand_then, kept_disk, lent_then, untouched_same, through_then}
-use Rattle.inodes_on_blocks.proofs.OwnedNumbers.{given_order, order_owned, order_named}
-use Rattle.inodes_on_blocks.proofs.Putting.{lock_range}
-use Rattle.inodes_on_blocks.proofs.Starting.{TakesStep, s-here}
-use Rattle.inodes_on_blocks.proofs.RecordThen.{AllBut, Ready, seen_dinode, untaken}
 use Rattle.inodes_on_blocks.proofs.StoreSteps.{PutsRecord, record_acts}
 
 -- ---- a record without content

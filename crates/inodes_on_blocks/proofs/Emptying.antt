@@ -1,29 +1,7 @@
 -- The blocks of an inode given back, one after the other: the hart that does so has less of the inode at each.
-use Rattle.std.proofs.Common.{◌≡◌, ◌≢◌, ℕ, suc, ◌+◌, ◌*◌, ◌<◌, ◌≤◌, ◌==◌, true, false, List, [], ◌∷◌, ◌++◌, length, Some, None, inl, inr, refl, sym, ◌∙◌, ap, subst, arith}
-use Rattle.fs_layout.specs.declared.superblock.Super.{Super}
-use Rattle.buffer_cache.specs.Seats.{holder_of}
-use Rattle.plain_tree.specs.Widths.{hart_count}
-use Rattle.tree_laws.proofs.Maps.{either, eq_is}
-use Rattle.image_tree.specs.Checks.{IsData}
-use Rattle.inodes_on_blocks.specs.Holds.{NamesOwned}
-use Rattle.inodes_on_blocks.proofs.HeldPuts.{nothing_owed}
-use Rattle.atomic_programs.specs.Prog.{bind}
-use Rattle.atomic_programs.specs.Logic.{Machine, Laws, P, Wp}
-use Rattle.atomic_programs.specs.Joined.{Both, joined}
-use Rattle.atomic_programs.proofs.Joined.{Stable}
-use Rattle.atomic_programs.proofs.Sound.{Wp-more}
-use Rattle.fs_machine.specs.Tables.{holder_of as lock_holder}
-use Rattle.bitmap_alloc.specs.Programs.{free_block}
-use Rattle.inode_data.specs.Freeing.{free_numbers}
+use Rattle.inodes_on_blocks.proofs.Vocabulary.{◌≡◌, ◌≢◌, ℕ, suc, ◌+◌, ◌*◌, ◌<◌, ◌≤◌, ◌==◌, true, false, List, [], ◌∷◌, ◌++◌, length, Some, None, inl, inr, refl, sym, ◌∙◌, ap, subst, arith, Super, holder_of, hart_count, either, eq_is, IsData, NamesOwned, bind, Machine, Laws, P, Wp, Both, joined, Stable, Wp-more, lock_holder, free_block, free_numbers, Inv, World, log_of, tables_of, disk_of, Kept, below, Labels, labelled, Keeps, in_hand, IsChanging, Avoids, Owns, KeepsRoom, GaveBlock, Gave, GaveBlocks}
+use Rattle.inodes_on_blocks.proofs.Basics.{nothing_owed, kept_then, below_laws, untouched_then}
 use Rattle.inode_machine.specs.World as above
-use Rattle.inode_machine.specs.Rules.{Inv}
-use Rattle.inodes_on_blocks.specs.Below.{World, log_of, tables_of, disk_of}
-use Rattle.inodes_on_blocks.specs.Lowering.{Kept, below, Labels, labelled, Keeps}
-use Rattle.inodes_on_blocks.specs.Holding.{in_hand}
-use Rattle.inodes_on_blocks.specs.Recording.{IsChanging}
-use Rattle.inodes_on_blocks.specs.Giving.{Avoids, Owns, KeepsRoom, GaveBlock, Gave, GaveBlocks}
-use Rattle.inodes_on_blocks.proofs.Alone.{kept_then}
-use Rattle.inodes_on_blocks.proofs.Layer.{below_laws, untouched_then}
 use Rattle.inodes_on_blocks.proofs.PutSteps.{s-give}
 
 -- ---- the blocks that are left

@@ -1,56 +1,12 @@
 -- A name entered acts where the directory's record is put, after its entry was written; or, where the directory has no slot left, where its last block is given back.
-use Rattle.std.proofs.Common.{◌≡◌, ℕ, zero, suc, ◌+◌, ◌-◌, ◌*◌, ◌/◌, ◌<◌, ◌≤◌, ◌==◌, ◌&&◌, nat_lt, Bool, true, false, List, [], length, drop, max, Option, Some, None, refl, sym, ◌∙◌, ap, subst, arith, if◌then◌else◌}
-use Rattle.std.specs.Prelude.{slice_index}
-use Rattle.std.proofs.lemmas.Bool.Decides.{nat_tests}
-use Rattle.directory.specs.declared.found.Found.{Found}
-use Rattle.directory.specs.Entering.{slot_for}
-use Rattle.directory.specs.Laws.{slot_at, IsFirst}
-use Rattle.directory.specs.Programs.{Unused, block_count, search, search_from, slot_count}
-use Rattle.directory.proofs.Searches.{found_from}
-use Rattle.fs_layout.specs.declared.entry.Dirent.TheVariants.{Used}
-use Rattle.fs_layout.specs.declared.inode.Dinode.{Dinode}
-use Rattle.fs_layout.specs.declared.superblock.Super.{Super}
-use Rattle.fs_layout.specs.Entry.{IsDirent, spell_dirent}
-use Rattle.fs_layout.proofs.Entries.{length-spell_dirent}
-use Rattle.image_tree.specs.Inodes.{is_free, content_block}
-use Rattle.inodes_on_blocks.specs.Holds.{HoldsAt, size_in}
-use Rattle.inodes_on_blocks.specs.Puts.{slots_with}
-use Rattle.plain_tree.specs.declared.node.Slot.{Slot}
-use Rattle.plain_tree.specs.declared.node.Node.{Node}
-use Rattle.plain_tree.specs.declared.node.Kind.{Kind}
-use Rattle.plain_tree.specs.declared.node.Kind.TheVariants.{Directory, File, Device}
-use Rattle.plain_tree.specs.Steps.{first_free, node_or}
+use Rattle.inodes_on_blocks.proofs.Vocabulary.{◌≡◌, ℕ, zero, suc, ◌+◌, ◌-◌, ◌*◌, ◌/◌, ◌<◌, ◌≤◌, ◌==◌, ◌&&◌, nat_lt, Bool, true, false, List, [], length, drop, max, Option, Some, None, refl, sym, ◌∙◌, ap, subst, arith, if◌then◌else◌, slice_index, nat_tests, Found, slot_for, IsFirst, Unused, block_count, search, search_from, slot_count, found_from, Used, Dinode, Super, IsDirent, spell_dirent, length-spell_dirent, is_free, content_block, HoldsAt, size_in, slots_with, Slot, Node, Kind, Directory, File, Device, node_or, Name, hart_count, eq_not, eq_self, Ret, bind, Ran, Laws, Machine, P, Wp, Both, joined, Below, Lasts, Handover, ToAct, to_act, may_act, Wp-more, lock_holder, blocks_between, WriteResult, front_of, write_blocks, inode_block, Spent, size, with_contents, most_recorded, Enter, all_used, enter_if, is_full_directory, with_entry, with_record, marked, Inv, IsSpent, World, log_of, tables_of, disk_of, inode_in, enter, entered_to, put_grown, search_full, Acts, acts, Same, Kept, Carry, InHand, Stands, below, Labels, labelled, Keeps, IsChanging, HasSpent, Shows, record_in}
+use Rattle.directory.specs.Laws.{slot_at}
+use Rattle.plain_tree.specs.Steps.{first_free}
 use Rattle.plain_tree.specs.Tree as tree
-use Rattle.plain_tree.specs.Tree.{Name, slots_of}
-use Rattle.plain_tree.specs.Widths.{hart_count}
-use Rattle.tree_laws.proofs.Maps.{eq_not, eq_self}
-use Rattle.atomic_programs.specs.Prog.{Ret, bind, Ran}
-use Rattle.atomic_programs.specs.Logic.{Laws, Machine, P, Wp}
-use Rattle.atomic_programs.specs.Joined.{Both, joined, Below, Lasts, Handover}
-use Rattle.atomic_programs.proofs.Joined.{ToAct, to_act, may_act}
-use Rattle.atomic_programs.proofs.Sound.{Wp-more}
-use Rattle.fs_machine.specs.Tables.{holder_of as lock_holder}
-use Rattle.inode_data.specs.Programs.{blocks_between}
-use Rattle.inode_data.specs.Writing.{WriteResult, front_of, write_blocks}
-use Rattle.inode_table.specs.Programs.{inode_block}
-use Rattle.inode_machine.specs.Budget.{Spent, size, with_contents, most_recorded}
+use Rattle.plain_tree.specs.Tree.{slots_of}
 use Rattle.inode_machine.specs.World as above
-use Rattle.inode_machine.specs.World.Op.{Enter}
-use Rattle.inode_machine.specs.Exec.{all_used, enter_if, is_full_directory, with_entry, with_record}
-use Rattle.inode_machine.specs.Marks.{marked}
 use Rattle.inode_machine.specs.Rules as rules
-use Rattle.inode_machine.specs.Rules.{Inv}
-use Rattle.inodes_on_blocks.specs.Accounts.{IsSpent}
-use Rattle.inodes_on_blocks.specs.Below.{World, log_of, tables_of, disk_of, inode_in}
-use Rattle.inodes_on_blocks.specs.Entering.{enter, entered_to, put_grown, search_full}
-use Rattle.inodes_on_blocks.specs.Handlers.{Acts, acts}
-use Rattle.inodes_on_blocks.specs.Lowering.{Same, Kept, Carry, InHand, Stands, below, Labels, labelled, Keeps}
-use Rattle.inodes_on_blocks.specs.Recording.{IsChanging}
-use Rattle.inodes_on_blocks.specs.Room.{HasSpent}
-use Rattle.inodes_on_blocks.specs.Shown.{Shows}
-use Rattle.inodes_on_blocks.specs.Storing.{record_in}
-use Rattle.inodes_on_blocks.proofs.Alone.{kept_same, kept_then}
-use Rattle.inodes_on_blocks.proofs.BlocksRoom.{HasBlocks, blocks_start, blocks_end, extra, extra_missing}
+use Rattle.inodes_on_blocks.proofs.Basics.{kept_same, kept_then, HasBlocks, blocks_start, blocks_end, extra, extra_missing, below_laws, base_marked, kept_disk, marked_same, lock_range, seen_dinode, spent_stays, TakesStep, s-here}
 use Rattle.inodes_on_blocks.proofs.Changing.{Changing, left_same, changing_start, changing_then}
 use Rattle.inodes_on_blocks.proofs.ContentReads.{touches, touches_are}
 use Rattle.inodes_on_blocks.proofs.DirectorySearches.{s-search}
@@ -59,16 +15,10 @@ use Rattle.inodes_on_blocks.proofs.FillSteps.{record_here, takes_write}
 use Rattle.inodes_on_blocks.proofs.FreeSlots.{entry_bytes, entry_is, new_slot, none_left, slot_below, slot_of, some_left}
 use Rattle.inodes_on_blocks.proofs.FullSteps.{Rests, s-full}
 use Rattle.inodes_on_blocks.proofs.GrownSteps.{record_same, s-grown}
-use Rattle.inodes_on_blocks.proofs.Layer.{below_laws, base_marked, kept_disk}
 use Rattle.inodes_on_blocks.proofs.LocateSteps.{Between, Fits}
 use Rattle.inodes_on_blocks.proofs.Looks as looks
-use Rattle.inodes_on_blocks.proofs.Marked.{marked_same}
 use Rattle.inodes_on_blocks.proofs.NumberPuts.{sized}
 use Rattle.inodes_on_blocks.proofs.PartSteps.{MakesPart, s-part}
-use Rattle.inodes_on_blocks.proofs.Putting.{lock_range}
-use Rattle.inodes_on_blocks.proofs.RecordThen.{seen_dinode}
-use Rattle.inodes_on_blocks.proofs.SpentRoom.{spent_stays}
-use Rattle.inodes_on_blocks.proofs.Starting.{TakesStep, s-here}
 use Rattle.inodes_on_blocks.proofs.StatSteps.{in_use}
 
 -- a slot lies in one block

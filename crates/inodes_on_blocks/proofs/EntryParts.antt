@@ -1,34 +1,11 @@
 -- Entries written as parts of a directory's content: one into its slot, and the two of a new directory at once.
-use Rattle.std.proofs.Common.{◌≡◌, ◌≢◌, ℕ, suc, ◌+◌, ◌-◌, ◌*◌, ◌/◌, ◌%◌, ◌<◌, ◌≤◌, List, [], ◌∷◌, length, length-append, max, Option, Some, refl, sym, ◌∙◌, ap, subst, arith}
-use Rattle.std.proofs.lemmas.List.{take_all}
-use Rattle.directory.specs.Programs.{with_dirent}
-use Rattle.fs_layout.specs.declared.entry.Dirent.{Dirent}
-use Rattle.fs_layout.specs.declared.entry.Dirent.TheVariants.{Used}
-use Rattle.fs_layout.specs.declared.inode.Dinode.{Dinode}
-use Rattle.fs_layout.specs.Bytes.{overwrite}
-use Rattle.fs_layout.specs.Entry.{IsDirent, spell_dirent}
-use Rattle.fs_layout.specs.Recovered.{recovered}
-use Rattle.fs_layout.proofs.Entries.{length-spell_dirent}
-use Rattle.fs_layout.proofs.Overwrites.{overwrite-overwrite, length-overwrite}
-use Rattle.image_tree.specs.Checks.{largest_size}
-use Rattle.image_tree.specs.Inodes.{numbers_of, block_number}
-use Rattle.inodes_on_blocks.specs.Holds.{entry_of}
-use Rattle.inodes_on_blocks.specs.Puts.{IsPut, IsLaidOut, slots_with, Becomes}
-use Rattle.plain_tree.specs.declared.node.Slot.{Slot}
-use Rattle.plain_tree.specs.declared.node.Node.{Node}
-use Rattle.plain_tree.specs.declared.node.Kind.TheVariants.{Directory}
-use Rattle.plain_tree.specs.Tree.{dot, dotdot}
-use Rattle.inode_data.specs.Writing.{front_of, with_part}
-use Rattle.inodes_on_blocks.specs.Below.{World, log_of, disk_of}
-use Rattle.inodes_on_blocks.specs.Entering.{dots}
-use Rattle.inodes_on_blocks.specs.Lowering.{Carry}
-use Rattle.inodes_on_blocks.specs.Recording.{log_with}
+use Rattle.inodes_on_blocks.proofs.Vocabulary.{◌≡◌, ◌≢◌, ℕ, suc, ◌+◌, ◌-◌, ◌*◌, ◌/◌, ◌%◌, ◌<◌, ◌≤◌, List, [], ◌∷◌, length, length-append, max, Option, Some, refl, sym, ◌∙◌, ap, subst, arith, take_all, with_dirent, Dirent, Used, Dinode, overwrite, IsDirent, spell_dirent, recovered, length-spell_dirent, overwrite-overwrite, length-overwrite, largest_size, numbers_of, block_number, entry_of, IsPut, IsLaidOut, slots_with, Becomes, Slot, Node, Directory, dot, dotdot, front_of, with_part, World, log_of, disk_of, dots, Carry, log_with}
 use Rattle.inodes_on_blocks.proofs.Changing.{owner_with}
 use Rattle.inodes_on_blocks.proofs.FreeSlots.{dot_name, entry_bytes}
 use Rattle.inodes_on_blocks.proofs.NumberPuts.{sized}
 use Rattle.inodes_on_blocks.proofs.OwnPuts.{IsOwnPut}
 use Rattle.inodes_on_blocks.proofs.PartSteps.{MakesPart}
-use Rattle.inodes_on_blocks.proofs.Records.{overwrite_bytes}
+use Rattle.inodes_on_blocks.proofs.Basics.{overwrite_bytes}
 use Rattle.inodes_on_blocks.proofs.SlotPuts.{slot_makes}
 
 abbrev pub directory_of : ℕ → List (Option Slot) → Node

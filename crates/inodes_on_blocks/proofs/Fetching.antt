@@ -1,46 +1,10 @@
 -- A block's buffer is taken, and given back, below: nothing of it is seen above.
-use Rattle.std.proofs.Common.{◌≡◌, ◌≢◌, ℕ, suc, ◌<◌, ◌≤◌, Bool, true, false, List, Option, Some, None, length, refl, sym, ◌∙◌, ap, subst, arith, is_some}
-use Rattle.std.specs.Prelude.{IsSome}
-use Rattle.std.specs.Option.{unwrap_or}
-use Rattle.fs_layout.specs.declared.superblock.Super.{Super}
-use Rattle.fs_layout.specs.Bytes.{IsBytes}
-use Rattle.fs_layout.specs.Recovered.{IsOutsideLog}
-use Rattle.block_device.specs.Blocks.{block_at}
-use Rattle.buffer_cache.specs.Getting.{get_of}
-use Rattle.buffer_cache.specs.Seats.{SeatState, seat_of, holder_of, kept, seen_in, with_seat, with_content, given_back}
-use Rattle.buffer_cache.specs.declared.got.Got.{Got}
+use Rattle.inodes_on_blocks.proofs.Vocabulary.{◌≡◌, ◌≢◌, ℕ, suc, ◌<◌, ◌≤◌, Bool, true, false, List, Option, Some, None, length, refl, sym, ◌∙◌, ap, subst, arith, is_some, IsSome, unwrap_or, Super, IsBytes, IsOutsideLog, block_at, get_of, SeatState, seat_of, holder_of, kept, seen_in, with_seat, with_content, given_back, Got, GetLaws, get_laws, hart_count, inode_of, Do, bind, unmarked, Did, Machine, Laws, P, Wp, Both, joined, Stable, Here, Silent, s-silent, Wp-more, lock_holder, LogPart, Outside, Passes, Fails, with_seats, failed, got_by, own_of, mine_of, Own, fetch, read_unless, seen_of, Get, Read, Put, IsElsewhere, IsWholeLog, After, keeps_whole, leaves_own, shows_its_puts, if_kept, Inv, kept_is, kept_here, loaded, World, log_of, tables_of, disk_of, came_to, exec, shown, Shows, ghost_of, on_blocks, KeepsInode, Same, Kept, below, buffer_in, Labels, labelled, Keeps, in_hand, HasBuffer, SameBut, IsFetched, PutBack}
 use Rattle.buffer_cache.specs.declared.got.Got.TheVariants as got
-use Rattle.buffer_cache.proofs.Laws.{GetLaws, get_laws}
-use Rattle.plain_tree.specs.Widths.{hart_count}
 use Rattle.inodes_on_blocks.proofs.SeenDisks.{seen_stays}
-use Rattle.image_tree.specs.Inodes.{inode_of}
-use Rattle.atomic_programs.specs.Prog.{Do, bind, unmarked, Did}
-use Rattle.atomic_programs.specs.Logic.{Machine, Laws, P, Wp}
-use Rattle.atomic_programs.specs.Joined.{Both, joined}
-use Rattle.atomic_programs.proofs.Joined.{Stable, Here, Silent, s-silent}
-use Rattle.atomic_programs.proofs.Sound.{Wp-more}
-use Rattle.fs_machine.specs.Tables.{holder_of as lock_holder}
-use Rattle.fs_machine.specs.LogPart.{LogPart, Outside, Passes, Fails, with_seats, failed, got_by}
-use Rattle.fs_machine.specs.Own.{own_of, mine_of, Own}
-use Rattle.fs_machine.specs.Programs.{fetch, read_unless}
-use Rattle.fs_machine.specs.Shown.{seen_of}
 use Rattle.fs_machine.specs.Steps as steps
-use Rattle.fs_machine.specs.Steps.{Get, Read, Put}
 use Rattle.fs_machine.specs.Premises as premises
-use Rattle.fs_machine.specs.Premises.{IsElsewhere}
-use Rattle.fs_machine.specs.Whole.{IsWholeLog, After}
-use Rattle.fs_machine.proofs.Keeping.{keeps_whole}
-use Rattle.fs_machine.proofs.Owned.{leaves_own}
-use Rattle.fs_machine.proofs.Showing.{shows_its_puts}
 use Rattle.inode_machine.specs.World as above
-use Rattle.inode_machine.specs.Rules.{if_kept, Inv}
-use Rattle.inode_machine.proofs.Frame.{kept_is, kept_here}
-use Rattle.inodes_on_blocks.specs.ShownTables.{loaded}
-use Rattle.inodes_on_blocks.specs.Below.{World, log_of, tables_of, disk_of, came_to, exec}
-use Rattle.inodes_on_blocks.specs.OnBlocks.{shown}
-use Rattle.inodes_on_blocks.specs.Shown.{Shows, ghost_of, on_blocks}
-use Rattle.inodes_on_blocks.specs.Lowering.{KeepsInode, Same, Kept, below, buffer_in, Labels, labelled, Keeps}
-use Rattle.inodes_on_blocks.specs.Holding.{in_hand, HasBuffer, SameBut, IsFetched, PutBack}
 use Rattle.inodes_on_blocks.proofs.Alone.{kept_then}
 use Rattle.inodes_on_blocks.proofs.Hands.{CameInHand, IfGot, got_hand, IsRead, read_hand, GivenBack, back_hand, same_view}
 use Rattle.inodes_on_blocks.proofs.Layer.{below_laws, held_back, untouched_then, kept_alike}

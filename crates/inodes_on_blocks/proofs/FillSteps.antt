@@ -1,56 +1,15 @@
 -- A new directory's two names written act where its record is put.
-use Rattle.std.proofs.Common.{◌≡◌, ◌≢◌, ℕ, zero, suc, ◌+◌, ◌-◌, ◌/◌, ◌<◌, ◌≤◌, ◌==◌, nat_lt, Bool, true, false, List, [], ◌∷◌, length, length-take, drop, Option, Some, None, refl, sym, ◌∙◌, ap, subst, arith, if◌then◌else◌}
-use Rattle.std.specs.Prelude.{slice_index}
-use Rattle.std.specs.Option.{unwrap_or}
-use Rattle.std.proofs.lemmas.Option.{none-some}
-use Rattle.fs_layout.specs.declared.inode.Dinode.{Dinode}
-use Rattle.fs_layout.specs.declared.superblock.Super.{Super}
-use Rattle.fs_layout.specs.Entry.{spell_dirent}
-use Rattle.fs_layout.specs.declared.entry.Dirent.TheVariants.{Used}
-use Rattle.inodes_on_blocks.specs.Holds.{HoldsAt, size_in}
-use Rattle.plain_tree.specs.declared.node.Node.{Node}
-use Rattle.plain_tree.specs.Steps.{node_or}
-use Rattle.plain_tree.specs.Tree.{dot, dotdot}
-use Rattle.plain_tree.specs.Widths.{hart_count}
-use Rattle.atomic_programs.specs.Prog.{bind, Ran}
-use Rattle.atomic_programs.specs.Logic.{Laws, Machine, P, Wp}
-use Rattle.atomic_programs.specs.Joined.{Both, joined, Below, Lasts, Handover}
-use Rattle.atomic_programs.proofs.Joined.{ToAct, to_act, may_act}
-use Rattle.atomic_programs.proofs.Sound.{Wp-more}
-use Rattle.fs_machine.specs.Tables.{holder_of as lock_holder}
-use Rattle.inode_data.specs.declared.addresses.Address.TheVariants.{Direct, InTable}
-use Rattle.inode_data.specs.Addresses.{table_of}
-use Rattle.inode_data.specs.Programs.{blocks_between}
-use Rattle.inode_data.specs.Writing.{WriteResult, front_of, take_one, located, name_direct, with_table, locate_in_table, locate_at, write_located, write_blocks}
-use Rattle.inode_table.specs.Programs.{no_record, inode_block}
-use Rattle.inode_machine.specs.Budget.{Spent, size, with_contents, most_recorded}
+use Rattle.inodes_on_blocks.proofs.Vocabulary.{◌≡◌, ◌≢◌, ℕ, zero, suc, ◌+◌, ◌-◌, ◌/◌, ◌<◌, ◌≤◌, ◌==◌, nat_lt, Bool, true, false, List, [], ◌∷◌, length, length-take, drop, Option, Some, None, refl, sym, ◌∙◌, ap, subst, arith, if◌then◌else◌, slice_index, unwrap_or, none-some, Dinode, Super, spell_dirent, Used, HoldsAt, size_in, Node, node_or, dot, dotdot, hart_count, bind, Ran, Laws, Machine, P, Wp, Both, joined, Below, Lasts, Handover, ToAct, to_act, may_act, Wp-more, lock_holder, Direct, InTable, table_of, blocks_between, WriteResult, front_of, take_one, located, name_direct, with_table, locate_in_table, locate_at, write_located, write_blocks, no_record, inode_block, Spent, size, with_contents, most_recorded, Fill, with_dots, with_record, Inv, IsSpent, World, log_of, tables_of, disk_of, inode_in, dots, filled_to, fill, put_grown, Had, Apart, Has, Emptied, Carry, record_had, InHand, Stands, below, Labels, labelled, Keeps, IsChanging, HasSpent, Shows, record_in}
 use Rattle.inode_machine.specs.World as above
-use Rattle.inode_machine.specs.World.Op.{Fill}
-use Rattle.inode_machine.specs.Exec.{with_dots, with_record}
 use Rattle.inode_machine.specs.Rules as rules
-use Rattle.inode_machine.specs.Rules.{Inv}
-use Rattle.inodes_on_blocks.specs.Accounts.{IsSpent}
-use Rattle.inodes_on_blocks.specs.Below.{World, log_of, tables_of, disk_of, inode_in}
-use Rattle.inodes_on_blocks.specs.Entering.{dots, filled_to, fill, put_grown}
-use Rattle.inodes_on_blocks.specs.Lowering.{Had, Apart, Has, Emptied, Carry, record_had, InHand, Stands, below, Labels, labelled, Keeps}
-use Rattle.inodes_on_blocks.specs.Recording.{IsChanging}
-use Rattle.inodes_on_blocks.specs.Room.{HasSpent}
-use Rattle.inodes_on_blocks.specs.Shown.{Shows}
-use Rattle.inodes_on_blocks.specs.Storing.{record_in}
-use Rattle.inodes_on_blocks.proofs.BlocksRoom.{HasBlocks, blocks_start}
+use Rattle.inodes_on_blocks.proofs.Basics.{HasBlocks, blocks_start, below_laws, lock_range, append_bytes, seen_dinode, spent_stays, TakesStep, s-here}
 use Rattle.inodes_on_blocks.proofs.Changing.{Changing, changing_start}
 use Rattle.inodes_on_blocks.proofs.EntryParts.{directory_of, dots_long, dots_make}
 use Rattle.inodes_on_blocks.proofs.FreeSlots.{dot_name, dotdot_name, entry_bytes}
 use Rattle.inodes_on_blocks.proofs.GrownSteps.{record_same, s-grown}
-use Rattle.inodes_on_blocks.proofs.Layer.{below_laws}
 use Rattle.inodes_on_blocks.proofs.LocateSteps.{Between, Fits}
 use Rattle.inodes_on_blocks.proofs.NumberPuts.{sized}
 use Rattle.inodes_on_blocks.proofs.PartSteps.{s-part}
-use Rattle.inodes_on_blocks.proofs.Putting.{lock_range}
-use Rattle.inodes_on_blocks.proofs.Records.{append_bytes}
-use Rattle.inodes_on_blocks.proofs.RecordThen.{seen_dinode}
-use Rattle.inodes_on_blocks.proofs.SpentRoom.{spent_stays}
-use Rattle.inodes_on_blocks.proofs.Starting.{TakesStep, s-here}
 
 -- the record that a hart has of an inode with a node is the inode as it is seen
 pub record_here : (h n : ℕ) (c : Carry) (r : World) (g : above.World) (node : Node) → InHand h n (c n) r g → g.disk n ≡ Some node → record_in c n ≡ inode_in (log_of r) n

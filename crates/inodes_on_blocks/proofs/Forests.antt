@@ -1,18 +1,5 @@
 -- The tree of a well-formed image is one forest under the root, and its counts are numbers of links.
-use Rattle.std.proofs.Common.{◌≡◌, ℕ, ◌+◌, ◌<◌, ◌≤◌, Bool, true, false, ℤ, pos, negsuc, inl, inr, refl, sym, ◌∙◌, ap, subst, arith, List, Option, Some, None}
-use Rattle.std.specs.Prelude.{nat_lt, ◌<ℤ◌}
-use Rattle.std.proofs.lemmas.Bool.{false≢true}
-use Rattle.std.proofs.lemmas.Bool.Decides.{nat_tests}
-use Rattle.fs_layout.specs.Recovered.{sizes_of}
-use Rattle.plain_tree.specs.declared.node.Node.{Node}
-use Rattle.plain_tree.specs.Widths.{root}
-use Rattle.image_tree.specs.Inodes.{inode_of, is_number, is_positive, is_directory, is_live, is_node, is_live_directory}
-use Rattle.image_tree.specs.Links.{slots_in, up, names_of, further_names_of, children_of}
-use Rattle.image_tree.specs.Checks.{HasRoot, HasGoodSlots, IsOneTree, HasGoodCounts}
-use Rattle.image_tree.specs.Trees.{count_of, node_of}
-use Rattle.image_tree.proofs.Nodes.{node_is, directory_is, directory_from}
-use Rattle.tree_laws.specs.WellFormed.{Slots, links_of, up_in, past, count_in, mentions, IsInOrder, IsForest}
-use Rattle.tree_laws.proofs.Maps.{either}
+use Rattle.inodes_on_blocks.proofs.Vocabulary.{◌≡◌, ℕ, ◌+◌, ◌<◌, ◌≤◌, Bool, true, false, ℤ, pos, negsuc, inl, inr, refl, sym, ◌∙◌, ap, subst, arith, List, Option, Some, None, nat_lt, ◌<ℤ◌, false≢true, nat_tests, sizes_of, Node, root, inode_of, is_number, is_positive, is_directory, is_live, is_node, is_live_directory, slots_in, up, names_of, further_names_of, children_of, HasRoot, HasGoodSlots, IsOneTree, HasGoodCounts, count_of, node_of, node_is, directory_is, directory_from, Slots, links_of, up_in, past, count_in, mentions, IsInOrder, IsForest, either}
 use Rattle.inodes_on_blocks.proofs.ImageSlots.{in_tree, dots_stand, names_stand_once}
 use Rattle.inodes_on_blocks.proofs.Nodes.{no_node, dead_node, live_node, directory_node, directory_folder, other_folder, past_counts, directory_there}
 use Rattle.inodes_on_blocks.proofs.Links.{folders_in, up_of, mentions_are, further_le_names, unnamed_no_node, up_live, stands_once, file_names, children_are}

@@ -1,42 +1,16 @@
 -- The reference that is left to a freed inode goes in one step.
-use Rattle.std.proofs.Common.{◌≡◌, ℕ, ◌<◌, ◌==◌, ◌&&◌, Bool, false, true, Option, Some, None, refl, sym, ◌∙◌, ap, subst, if◌then◌else◌}
-use Rattle.std.specs.Prelude.{slice_get}
-use Rattle.fs_layout.specs.declared.inode.Dinode.{Dinode}
-use Rattle.sleep_lock.specs.SleepLock.{SlotState}
-use Rattle.group_log.proofs.Seats.{pick}
-use Rattle.plain_tree.specs.declared.node.Node.{Node}
-use Rattle.plain_tree.specs.Widths.{hart_count}
-use Rattle.atomic_programs.specs.Prog.{Did, Waits, Ran, Stops, did_in}
-use Rattle.atomic_programs.specs.Logic.{Laws}
-use Rattle.atomic_programs.specs.Joined.{Both}
+use Rattle.inodes_on_blocks.proofs.Vocabulary.{◌≡◌, ℕ, ◌<◌, ◌==◌, ◌&&◌, Bool, false, true, Option, Some, None, refl, sym, ◌∙◌, ap, subst, if◌then◌else◌, slice_get, Dinode, SlotState, pick, Node, hart_count, Did, Waits, Ran, Stops, did_in, Laws, Both, Inode, TablesState, place_of, DroppedState, Counts, Dies, dead_in, dying, drop_inode, drop_at, drop_dying, drop_freed, uncounted_freed as freed_at, Freed, Forget, is_last, down_if, counted_down, Inv, Held as AboveHeld, above_own as own_of, view, more, load_after, BothCame, loaded, loaded_at, loaded_of, World, tables_of, Shows, Carry, Base, Labels, labelled, Keeps, forget, ActsOnce}
 use Rattle.fs_machine.specs.declared.entries.Entry.{Entry}
-use Rattle.fs_machine.specs.declared.entries.Inode.{Inode}
-use Rattle.fs_machine.specs.Tables.{TablesState, place_of}
-use Rattle.fs_machine.specs.Inodes.{DroppedState, Counts, Dies, dead_in, dying, drop_inode, drop_at, drop_dying, drop_freed, freed_at}
 use Rattle.fs_machine.specs.Steps as steps
-use Rattle.fs_machine.specs.Steps.{Freed}
 use Rattle.fs_machine.specs.Premises as premises
 use Rattle.inode_machine.specs.World as above
-use Rattle.inode_machine.specs.World.Op.{Forget}
 use Rattle.inode_machine.specs.Exec as above_exec
-use Rattle.inode_machine.specs.Exec.{is_last, down_if, counted_down}
 use Rattle.inode_machine.specs.Rules as rules
-use Rattle.inode_machine.specs.Rules.{Inv, Held as AboveHeld, own_of, view, more}
-use Rattle.inodes_on_blocks.specs.TableLaws.{load_after}
 use Rattle.inodes_on_blocks.specs.ShownTables as tables
-use Rattle.inodes_on_blocks.specs.ShownTables.{BothCame, loaded, loaded_at, loaded_of}
 use Rattle.inodes_on_blocks.proofs.Drops.{references_are_dropped}
-use Rattle.inodes_on_blocks.specs.Below.{World, tables_of}
-use Rattle.inodes_on_blocks.specs.Shown.{Shows}
-use Rattle.inodes_on_blocks.specs.Lowering.{Carry, Base, Labels, labelled, Keeps}
-use Rattle.inodes_on_blocks.specs.Handlers.{forget}
-use Rattle.inodes_on_blocks.specs.Acting.{ActsOnce}
-use Rattle.inodes_on_blocks.proofs.News.{kept_old}
+use Rattle.inodes_on_blocks.proofs.Basics.{kept_old, fewer_owed, CameTo, one_step, with_tables}
 use Rattle.inodes_on_blocks.proofs.CountSteps.{last_free, some_here, may_die, counted_down_came}
-use Rattle.inodes_on_blocks.proofs.Owed.{fewer_owed}
 use Rattle.inodes_on_blocks.proofs.SlotSteps.{in_tables_is}
-use Rattle.inodes_on_blocks.proofs.Stepping.{CameTo, one_step}
-use Rattle.inodes_on_blocks.proofs.Tables.{with_tables}
 
 -- where nothing is loaded nothing dies
 dead_none : (o : Option Inode) → loaded_of o ≡ None → dead_in o ≡ None

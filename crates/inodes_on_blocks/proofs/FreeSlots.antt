@@ -1,26 +1,9 @@
 -- The slot of a new name: what a search for a free slot finds is where the node has it; and the entry that is put there.
-use Rattle.std.proofs.Common.{◌≡◌, ℕ, zero, suc, ◌-◌, ◌==◌, ◌<◌, ◌≤◌, nat_lt, nat_le, ◌&&◌, not, Bool, true, false, List, [], ◌∷◌, ◌++◌, length, replicate, get_or, Option, Some, None, refl, sym, ◌∙◌, ap, arith}
-use Rattle.std.specs.List.{list_all}
-use Rattle.std.proofs.lemmas.Bool.Decides.{nat_tests}
-use Rattle.directory.specs.declared.found.Found.{Found}
-use Rattle.directory.specs.Laws.{IsFirst}
-use Rattle.directory.specs.Programs.{Unused}
+use Rattle.inodes_on_blocks.proofs.Vocabulary.{◌≡◌, ℕ, zero, suc, ◌-◌, ◌==◌, ◌<◌, ◌≤◌, nat_lt, nat_le, ◌&&◌, not, Bool, true, false, List, [], ◌∷◌, ◌++◌, length, replicate, get_or, Option, Some, None, refl, sym, ◌∙◌, ap, arith, list_all, nat_tests, Found, IsFirst, Unused, Dirent, Used, IsBytes, u16_bytes, IsDirent, spell_dirent, entry_of, slots_with, Slot, Name, dot, dotdot, eq_not, all_used, IsName, IsText}
 use Rattle.directory.specs.Slots as sought
-use Rattle.fs_layout.specs.declared.entry.Dirent.{Dirent}
-use Rattle.fs_layout.specs.declared.entry.Dirent.TheVariants.{Used}
-use Rattle.fs_layout.specs.Bytes.{IsBytes, u16_bytes}
-use Rattle.fs_layout.specs.Entry.{IsDirent, spell_dirent}
 use Rattle.fs_layout.specs.Name as layout
-use Rattle.inodes_on_blocks.specs.Holds.{entry_of}
-use Rattle.inodes_on_blocks.specs.Puts.{slots_with}
-use Rattle.plain_tree.specs.declared.node.Slot.{Slot}
 use Rattle.plain_tree.specs.Steps.{first_free, is_used}
-use Rattle.plain_tree.specs.Tree.{Name, dot, dotdot}
-use Rattle.tree_laws.proofs.Maps.{eq_not}
-use Rattle.inode_machine.specs.Exec.{all_used}
-use Rattle.inode_machine.specs.Rules.{IsName, IsText}
-use Rattle.inodes_on_blocks.proofs.Looks.{AreRead}
-use Rattle.inodes_on_blocks.proofs.Records.{append_bytes, u16s}
+use Rattle.inodes_on_blocks.proofs.Basics.{AreRead, append_bytes, u16s}
 use Rattle.inodes_on_blocks.proofs.SlotPuts.{zero_bytes}
 
 -- ---- slots

@@ -1,50 +1,15 @@
 -- An inode without links is freed: its content is given back, its record goes into its block without that, and there once more without a type, where the operation acts.
-use Rattle.std.proofs.Common.{◌≡◌, ◌≢◌, ℕ, suc, ◌<◌, false, List, [], length, Option, Some, None, refl, sym, ◌∙◌, ap, subst, arith}
-use Rattle.fs_layout.specs.declared.superblock.Super.{Super}
-use Rattle.fs_layout.specs.declared.inode.Dinode.{Dinode}
-use Rattle.fs_layout.specs.Inode.{IsDinode}
-use Rattle.fs_layout.specs.Recovered.{IsOutsideLog}
-use Rattle.group_log.specs.Group.{has, HasRoom}
-use Rattle.plain_tree.specs.declared.node.Node.{Node}
-use Rattle.plain_tree.specs.Widths.{hart_count}
-use Rattle.inodes_on_blocks.proofs.LaidInodes.{freed_held}
-use Rattle.atomic_programs.specs.Prog.{bind, once}
-use Rattle.atomic_programs.specs.Logic.{Laws, Machine, P, Wp}
-use Rattle.atomic_programs.specs.Joined.{Both, joined, Below, Lasts, Handover}
-use Rattle.atomic_programs.proofs.Joined.{Here, ToAct, to_act, may_act, Stable}
-use Rattle.atomic_programs.proofs.Prog.{bind-assoc}
-use Rattle.atomic_programs.proofs.Sound.{Wp-more}
-use Rattle.fs_machine.specs.Tables.{holder_of as lock_holder}
-use Rattle.fs_machine.specs.LogPart.{LogPart, put_block}
-use Rattle.fs_machine.specs.Programs.{fetch}
-use Rattle.fs_machine.specs.Shown.{seen_of}
-use Rattle.inode_data.specs.Freeing.{without_content, freed}
-use Rattle.inode_table.specs.Programs.{inode_block, put_inode, with_dinode, store as store_inode}
+use Rattle.inodes_on_blocks.proofs.Vocabulary.{◌≡◌, ◌≢◌, ℕ, suc, ◌<◌, false, List, [], length, Option, Some, None, refl, sym, ◌∙◌, ap, subst, arith, Super, Dinode, IsDinode, IsOutsideLog, has, HasRoom, Node, hart_count, bind, once, Laws, Machine, P, Wp, Both, joined, Below, Lasts, Handover, Here, ToAct, to_act, may_act, Stable, bind-assoc, Wp-more, lock_holder, LogPart, put_block, fetch, seen_of, without_content, freed, inode_block, put_inode, with_dinode, store_inode, Inv, Idle, more, Owners, World, log_of, tables_of, disk_of, owners_of, KeepsRoom, world_with, in_hand, HasBuffer, IsFetched, Emptied, Carry, Stands, below, Labels, labelled, Keeps, IsThrough, CanPut, IsChanging, Shows, record_in, put_record}
+use Rattle.inodes_on_blocks.proofs.Basics.{freed_held, buffer_then, buffer_seen, s-fetch, below_laws, lent_then, through_then, through_put, empty_hand, after, lock_range, quiet_owners, Ready, inode_home, untaken, place_in, can_record, others_then, none_then, named_then, open_same}
 use Rattle.inode_machine.specs.World as above
 use Rattle.inode_machine.specs.World.Op.{Free}
 use Rattle.inode_machine.specs.Rules as rules
-use Rattle.inode_machine.specs.Rules.{Inv, Idle, more}
-use Rattle.inodes_on_blocks.specs.Owners.{Owners}
-use Rattle.inodes_on_blocks.specs.Below.{World, log_of, tables_of, disk_of, owners_of}
 use Rattle.inodes_on_blocks.specs.Emptying.{free}
-use Rattle.inodes_on_blocks.specs.Giving.{KeepsRoom, world_with}
-use Rattle.inodes_on_blocks.specs.Holding.{in_hand, HasBuffer, IsFetched}
-use Rattle.inodes_on_blocks.specs.Lowering.{Emptied, Carry, Stands, below, Labels, labelled, Keeps, IsThrough}
-use Rattle.inodes_on_blocks.specs.Recording.{CanPut, IsChanging}
-use Rattle.inodes_on_blocks.specs.Shown.{Shows}
-use Rattle.inodes_on_blocks.specs.Storing.{record_in, put_record}
 use Rattle.inodes_on_blocks.proofs.EmptySteps.{HasNone, none_lasts, Begins, s-none}
 use Rattle.inodes_on_blocks.proofs.ContentGiven.{content_steps}
-use Rattle.inodes_on_blocks.proofs.Fetching.{buffer_then, buffer_seen, s-fetch}
-use Rattle.inodes_on_blocks.proofs.Layer.{below_laws, lent_then, through_then, through_put}
-use Rattle.inodes_on_blocks.proofs.Loading.{empty_hand}
 use Rattle.inodes_on_blocks.proofs.PutLaws.{record_puts_leave}
-use Rattle.inodes_on_blocks.proofs.Putting.{after, lock_range}
 use Rattle.inodes_on_blocks.proofs.PutSteps.{Putting, s-put}
-use Rattle.inodes_on_blocks.proofs.RecordPuts.{quiet_owners}
-use Rattle.inodes_on_blocks.proofs.RecordThen.{Ready, inode_home, untaken, place_in, can_record, others_then, none_then, named_then}
 use Rattle.inodes_on_blocks.proofs.StoreSteps.{PutsRecord, record_acts}
-use Rattle.inodes_on_blocks.proofs.OpenFiles.{open_same}
 
 freed_fits : (d : Dinode) → IsDinode d → IsDinode (freed d)
 freed_fits d is = record { kind = omega arith; major = is.major; minor = is.minor; nlink = is.nlink; size = is.size; thirteen = is.thirteen; addrs = is.addrs }

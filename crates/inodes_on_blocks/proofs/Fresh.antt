@@ -1,23 +1,6 @@
 -- The tables at first, beside a world at rest.
-use Rattle.std.proofs.Common.{◌≡◌, ◌≢◌, inl, inr, ℕ, zero, suc, ◌+◌, ◌<◌, ◌≤◌, ◌==◌, refl, sym, ◌∙◌, ap, arith, Option, Some, None, replicate}
-use Rattle.std.specs.Prelude.{slice_get}
-use Rattle.std.proofs.lemmas.Option.{same_Some, none-some}
-use Rattle.sleep_lock.specs.Row.{row_of}
-use Rattle.plain_tree.specs.Widths.{hart_count, root}
-use Rattle.plain_tree.specs.Tree.{Tree, any_below}
-use Rattle.tree_laws.specs.WellFormed.{one_if, sum_below}
-use Rattle.tree_laws.proofs.Maps.{eq_self, eq_not, same_or}
-use Rattle.tree_laws.proofs.Sums.{sum_none, sum_same, one_yes, one_no}
+use Rattle.inodes_on_blocks.proofs.Vocabulary.{◌≡◌, ◌≢◌, inl, inr, ℕ, zero, suc, ◌+◌, ◌<◌, ◌≤◌, ◌==◌, refl, sym, ◌∙◌, ap, arith, Option, Some, None, replicate, slice_get, same_Some, none-some, row_of, hart_count, root, Tree, any_below, one_if, sum_below, eq_self, eq_not, same_or, sum_none, sum_same, one_yes, one_no, Inode, fresh, fresh_desk, place_of, references_in, holder_in, holder_at, at_set, fresh_good, found, placed, at_rest, loaded, loaded_at, loaded_in, FreshTablesShow}
 use Rattle.fs_machine.specs.declared.entries.Entry.{Entry}
-use Rattle.fs_machine.specs.declared.entries.Inode.{Inode}
-use Rattle.fs_machine.specs.Fresh.{fresh, fresh_desk}
-use Rattle.fs_machine.specs.Tables.{place_of, references_in, holder_in, holder_at}
-use Rattle.fs_machine.proofs.Counting.{at_set}
-use Rattle.fs_machine.proofs.Making.{fresh_good}
-use Rattle.fs_machine.proofs.Places.{found, placed}
-use Rattle.inode_machine.specs.Theory.{at_rest}
-use Rattle.inodes_on_blocks.specs.ShownTables.{loaded, loaded_at, loaded_in}
-use Rattle.inodes_on_blocks.specs.TableLaws.{FreshTablesShow}
 
 there : {X : Type 0} (n k : ℕ) (x : X) → k < n → slice_get (replicate n x) k ≡ Some x
 there zero k x lt = absurd (omega (arith, lt))

@@ -1,50 +1,13 @@
 -- A directory that has all its slots, and none free: the operation acts where the last block that is searched is given back, and changes nothing.
-use Rattle.std.proofs.Common.{◌≡◌, ℕ, zero, suc, ◌+◌, ◌*◌, ◌<◌, false, List, Option, Some, None, refl, sym, ◌∙◌, ap, subst, arith}
-use Rattle.directory.specs.declared.found.Found.{Found}
-use Rattle.directory.specs.Programs.{Unused, found_in, look_at, or_next}
-use Rattle.directory.proofs.Searches.{else_found, found_from}
-use Rattle.fs_layout.specs.declared.inode.Dinode.{Dinode}
-use Rattle.fs_layout.specs.declared.superblock.Super.{Super}
-use Rattle.fs_layout.specs.Recovered.{IsOutsideLog}
-use Rattle.fs_layout.specs.Widths.{block_len}
-use Rattle.buffer_cache.specs.Seats.{holder_of, given_back}
-use Rattle.image_tree.specs.Inodes.{is_free, numbers_of, block_number, content_block}
-use Rattle.inodes_on_blocks.specs.Holds.{HoldsAt}
-use Rattle.plain_tree.specs.declared.node.Node.{Node}
-use Rattle.plain_tree.specs.Widths.{hart_count}
-use Rattle.atomic_programs.specs.Prog.{Do, bind, unmarked, Ran}
-use Rattle.atomic_programs.specs.Logic.{Machine, Laws, P, Wp}
-use Rattle.atomic_programs.specs.Joined.{Both, joined, Lasts}
-use Rattle.atomic_programs.proofs.Joined.{ToAct, to_act, s-act}
-use Rattle.atomic_programs.proofs.Prog.{bind-assoc}
-use Rattle.atomic_programs.proofs.Sound.{Wp-more}
-use Rattle.fs_machine.specs.Tables.{holder_of as lock_holder}
-use Rattle.fs_machine.specs.LogPart.{Passes}
+use Rattle.inodes_on_blocks.proofs.Vocabulary.{◌≡◌, ℕ, zero, suc, ◌+◌, ◌*◌, ◌<◌, false, List, Option, Some, None, refl, sym, ◌∙◌, ap, subst, arith, Found, Unused, found_in, look_at, or_next, else_found, found_from, Dinode, Super, IsOutsideLog, block_len, holder_of, given_back, is_free, numbers_of, block_number, content_block, HoldsAt, Node, hart_count, Do, bind, unmarked, Ran, Machine, Laws, P, Wp, Both, joined, Lasts, ToAct, to_act, s-act, bind-assoc, Wp-more, lock_holder, Passes, Put, keeps_whole, leaves_own, shows_its_puts, BlockInHand, fetch_block, marked, with_mark, World, log_of, tables_of, disk_of, inode_in, if_none, look_last, search_full, Acts, acts, in_hand, SameBut, IsFetched, KeepsInode, Same, Kept, below, Labels, labelled, Keeps}
 use Rattle.fs_machine.specs.Premises as premises
 use Rattle.fs_machine.specs.Steps as steps
-use Rattle.fs_machine.specs.Steps.{Put}
-use Rattle.fs_machine.proofs.Keeping.{keeps_whole}
-use Rattle.fs_machine.proofs.Owned.{leaves_own}
-use Rattle.fs_machine.proofs.Showing.{shows_its_puts}
-use Rattle.inode_data.specs.Programs.{FetchedBlock as BlockInHand, fetch_block}
 use Rattle.inode_machine.specs.World as above
 use Rattle.inode_machine.specs.Exec as above_exec
-use Rattle.inode_machine.specs.Marks.{marked, with_mark}
 use Rattle.inode_machine.specs.Rules as rules
-use Rattle.inodes_on_blocks.specs.Below.{World, log_of, tables_of, disk_of, inode_in}
-use Rattle.inodes_on_blocks.specs.Entering.{if_none, look_last, search_full}
-use Rattle.inodes_on_blocks.specs.Handlers.{Acts, acts}
-use Rattle.inodes_on_blocks.specs.Holding.{in_hand, SameBut, IsFetched}
-use Rattle.inodes_on_blocks.specs.Lowering.{KeepsInode, Same, Kept, below, Labels, labelled, Keeps}
-use Rattle.inodes_on_blocks.proofs.Alone.{kept_then}
+use Rattle.inodes_on_blocks.proofs.Basics.{kept_then, same_inode, holds_now, used_now, block_stays, content_stays, IsQuiet, with_buffers, but_same, but_then, held_then, quiet_shows, quiet_others, quiet_but, s-back, back_hand, below_laws, same_again, marked_same, shows_marked}
 use Rattle.inodes_on_blocks.proofs.ContentFetch.{s-content, s-touch}
 use Rattle.inodes_on_blocks.proofs.ContentReads.{touches, touches_are}
-use Rattle.inodes_on_blocks.proofs.ContentStays.{same_inode, holds_now, used_now, block_stays, content_stays}
-use Rattle.inodes_on_blocks.proofs.Fetching.{IsQuiet, with_buffers, but_same, but_then, held_then, quiet_shows, quiet_others, quiet_but, s-back}
-use Rattle.inodes_on_blocks.proofs.Hands.{back_hand}
-use Rattle.inodes_on_blocks.proofs.Layer.{below_laws}
-use Rattle.inodes_on_blocks.proofs.Loading.{same_again}
-use Rattle.inodes_on_blocks.proofs.Marked.{marked_same, shows_marked}
 
 module _ (sizes : Super) (l : Labels) (laws : Laws (labelled l)) (keeps : Keeps l) (h : ℕ) (lt : h < hart_count) (B : List l.Step → Type 0) where
   abbrev W : Type 0

@@ -1,28 +1,8 @@
 -- The law of blocks given back.
-use Rattle.std.proofs.Common.{◌≡◌, ℕ, ◌+◌, true, List, [], ◌∷◌, ◌++◌, length, ◌*◌, Option, Some, None, inl, inr, refl, sym, ◌∙◌, ap, subst, arith}
-use Rattle.fs_layout.specs.declared.superblock.Super.{Super}
-use Rattle.group_log.specs.Group.{has}
-use Rattle.tree_laws.proofs.Maps.{eq_is, eq_self}
-use Rattle.inodes_on_blocks.specs.Holds.{NamesOwned}
-use Rattle.atomic_programs.specs.Logic.{Machine, P, Wp, onto}
-use Rattle.atomic_programs.specs.Prog.{Prog, Ret, Do, bind}
-use Rattle.atomic_programs.specs.Joined.{Both, joined}
-use Rattle.atomic_programs.proofs.Sound.{Wp-more}
-use Rattle.bitmap_alloc.specs.Programs.{free_block}
-use Rattle.inode_data.specs.Freeing.{free_numbers}
+use Rattle.inodes_on_blocks.proofs.Vocabulary.{◌≡◌, ℕ, ◌+◌, true, List, [], ◌∷◌, ◌++◌, length, ◌*◌, Option, Some, None, inl, inr, refl, sym, ◌∙◌, ap, subst, arith, Super, has, eq_is, eq_self, NamesOwned, Machine, P, Wp, onto, Prog, Ret, Do, bind, Both, joined, Wp-more, free_block, free_numbers, Desk, Held, view, above_own as own_of, is_hart, has_inode, kept_here, World, log_of, disk_of, Kept, below, whole, alone, Done, IsChanging, Spent, HasSpent, Gave, GaveBlocks, Owns, BlocksAreGivenBack, NumbersAreGivenBack}
 use Rattle.inode_machine.specs.World as above
-use Rattle.inode_machine.specs.World.{Desk}
-use Rattle.inode_machine.specs.Rules.{Own, Held, view, own_of, is_hart}
-use Rattle.inode_machine.proofs.Frame.{has_inode, kept_here}
-use Rattle.inodes_on_blocks.specs.Below.{World, log_of, disk_of}
-use Rattle.inodes_on_blocks.specs.Lowering.{Kept, below}
-use Rattle.inodes_on_blocks.specs.Acting.{whole, alone, Done}
-use Rattle.inodes_on_blocks.specs.Recording.{IsChanging}
-use Rattle.inode_machine.specs.Budget.{Spent}
-use Rattle.inodes_on_blocks.specs.Room.{HasSpent}
-use Rattle.inodes_on_blocks.specs.Giving.{Gave, GaveBlocks, Owns, BlocksAreGivenBack, NumbersAreGivenBack}
-use Rattle.inodes_on_blocks.proofs.Alone.{kept_same, alone_laws, alone_keeps}
-use Rattle.inodes_on_blocks.proofs.SpentRoom.{spent_gives}
+use Rattle.inode_machine.specs.Rules.{Own}
+use Rattle.inodes_on_blocks.proofs.Basics.{kept_same, alone_laws, alone_keeps, spent_gives}
 use Rattle.inodes_on_blocks.proofs.PutSteps.{s-give}
 use Rattle.inodes_on_blocks.proofs.Emptying.{none_yet, s-numbers}
 

@@ -1,38 +1,11 @@
 -- What a hart hands on to the child that it serves.
-use Rattle.std.proofs.Common.{◌≡◌, ◌≢◌, inl, inr, ℕ, zero, suc, ◌+◌, ◌-◌, ◌<◌, ◌≤◌, not, cond, if◌then◌else◌, Bool, true, false, List, [], ◌∷◌, drop, length, Option, Some, None, refl, sym, ◌∙◌, ap, subst, arith}
-use Rattle.std.specs.Prelude.{slice_get, slice_set, is_some}
-use Rattle.std.specs.List.{position_from}
-use Rattle.std.specs.Option.{option_map}
-use Rattle.std.proofs.lemmas.Iterator.Adapters.{position_from-zero}
-use Rattle.std.proofs.lemmas.List.{length-drop}
-use Rattle.std.proofs.lemmas.Option.{slice_get_within}
-use Rattle.sleep_lock.proofs.Lists.{slice_get-set_same, slice_get-set_other}
-use Rattle.fs_layout.specs.declared.inode.Dinode.{Dinode}
-use Rattle.atomic_programs.specs.Prog.{Ran}
-use Rattle.plain_tree.specs.Tree.{put}
-use Rattle.plain_tree.specs.Widths.{hart_count, descriptor_count}
-use Rattle.tree_laws.proofs.Maps.{same_or, put_same, put_other, any_same}
-use Rattle.fs_machine.specs.Lists.{change_at, next_full}
+use Rattle.inodes_on_blocks.proofs.Vocabulary.{◌≡◌, ◌≢◌, inl, inr, ℕ, zero, suc, ◌+◌, ◌-◌, ◌<◌, ◌≤◌, not, cond, if◌then◌else◌, Bool, true, false, List, [], ◌∷◌, drop, length, Option, Some, None, refl, sym, ◌∙◌, ap, subst, arith, slice_get, slice_set, is_some, position_from, option_map, position_from-zero, length-drop, slice_get_within, slice_get-set_same, slice_get-set_other, Dinode, Ran, put, hart_count, descriptor_count, same_or, put_same, put_other, any_same, change_at, next_full, FilePlace, TablesState, place_of, place_named, with_desk, counted_at, directory_of, give_next, give_by, give_at, given_directory, has_more, descriptors_of, with_descriptor, change_set, length-change_at, Desk, Entry, Lent, Moved, counted_up, first_from, is_at, is_nothing, slot_or, more_users, next_used, with_lent, handed, moved_in, lend_last, lend_if, released, serving, child_of, Inv, Lends, LendsNone, one_refs, below_is, NextUsed, next_is, next_past, serving_none, BothCame, DeskShows, DesksShow, FilesShow, Runs, descriptor, first, lent_by, place_with, is_taken, given_as, DescriptorsAreGiven, DirectoriesAreGiven, ChildrenAreReleased}
 use Rattle.fs_machine.specs.declared.desk.Desk as cards
-use Rattle.fs_machine.specs.declared.files.FilePlace.{FilePlace}
 use Rattle.fs_machine.specs.declared.slots.Given.TheVariants as given
-use Rattle.fs_machine.specs.Tables.{TablesState, place_of, place_named, with_desk}
-use Rattle.fs_machine.specs.Inodes.{counted_at, directory_of}
-use Rattle.fs_machine.specs.Files.{give_next, give_by, give_at, given_directory, has_more, descriptors_of, with_descriptor}
-use Rattle.fs_machine.proofs.Places.{change_set, length-change_at}
-use Rattle.inode_machine.specs.World.{Desk, Entry, World, Lent, Moved}
-use Rattle.inode_machine.specs.Exec.{counted_up, first_from, is_at, is_nothing, slot_or, more_users, next_used, with_lent, handed, moved_in, lend_last, lend_if, released, serving, child_of}
-use Rattle.inode_machine.specs.Rules.{Inv, Has, Lends, LendsNone}
-use Rattle.inode_machine.proofs.Frame.{one_refs}
-use Rattle.inode_machine.proofs.Rows.{below_is}
-use Rattle.inode_machine.proofs.Handings.{NextUsed, next_is, next_past}
-use Rattle.inode_machine.proofs.Turnings.{serving_none}
-use Rattle.inodes_on_blocks.specs.ShownTables.{Shows, BothCame, DeskShows, DesksShow, FilesShow, Runs, descriptor, first, lent_by, place_with, is_taken, given_as}
-use Rattle.inodes_on_blocks.specs.TableLaws.{DescriptorsAreGiven, DirectoriesAreGiven, ChildrenAreReleased}
-use Rattle.inodes_on_blocks.proofs.Locks.{both_ran, place_there}
-use Rattle.inodes_on_blocks.proofs.Desks.{first_place, own_desk, named_is}
-use Rattle.inodes_on_blocks.proofs.Slots.{card_set}
-use Rattle.inodes_on_blocks.proofs.References.{shown_counted}
+use Rattle.inode_machine.specs.World.{World}
+use Rattle.inode_machine.specs.Rules.{Has}
+use Rattle.inodes_on_blocks.specs.ShownTables.{Shows}
+use Rattle.inodes_on_blocks.proofs.Basics.{both_ran, place_there, first_place, own_desk, named_is, card_set, shown_counted}
 
 -- ---- the next descriptor
 

@@ -1,9 +1,5 @@
 -- A group that has one block more, and a hart in a transaction.
-use Rattle.std.proofs.Common.{◌≡◌, ℕ, zero, suc, ◌==◌, ◌||◌, Bool, true, false, List, [], ◌∷◌, ◌++◌, Option, Some, None, refl, ap, if◌then◌else◌}
-use Rattle.std.specs.Prelude.{slice_get}
-use Rattle.tree_laws.proofs.Maps.{eq_self}
-use Rattle.group_log.specs.Group.{has, with_block, IsMember}
-use Rattle.group_log.proofs.Seats.{pick}
+use Rattle.inodes_on_blocks.proofs.Vocabulary.{◌≡◌, ℕ, zero, suc, ◌==◌, ◌||◌, Bool, true, false, List, [], ◌∷◌, ◌++◌, Option, Some, None, refl, ap, if◌then◌else◌, slice_get, eq_self, has, with_block, IsMember, pick}
 
 pub has_more : (ks : List ℕ) (b c : ℕ) → has ks c ≡ true → has (ks ++ b ∷ []) c ≡ true
 has_more [] b c e = absurd (let q : false ≡ true = e in cc)

@@ -1,32 +1,9 @@
 -- An operation that puts an inode's record after its blocks were written acts at the put.
-use Rattle.std.proofs.Common.{◌≡◌, inl, inr, ℕ, ◌+◌, ◌^◌, ◌<◌, ◌≤◌, List, length, max, Option, Some, None, sym, ◌∙◌, ap, subst, arith}
-use Rattle.fs_layout.specs.declared.inode.Dinode.{Dinode}
-use Rattle.fs_layout.specs.declared.superblock.Super.{Super}
-use Rattle.fs_layout.specs.Inode.{IsDinode}
-use Rattle.plain_tree.specs.declared.node.Node.{Node}
-use Rattle.plain_tree.specs.Tree.{put}
-use Rattle.plain_tree.specs.Widths.{hart_count}
-use Rattle.tree_laws.proofs.Maps.{same_or, put_same, put_other}
-use Rattle.atomic_programs.specs.Prog.{Ran, bind}
-use Rattle.atomic_programs.specs.Logic.{Laws, Machine, Wp}
-use Rattle.atomic_programs.specs.Joined.{Both, joined, Below, Lasts, Handover}
-use Rattle.atomic_programs.proofs.Joined.{ToAct}
-use Rattle.atomic_programs.proofs.Sound.{Wp-weaker}
-use Rattle.fs_machine.specs.Programs.{fetch}
-use Rattle.inode_table.specs.Programs.{inode_block}
-use Rattle.inode_machine.specs.Budget.{Spent, size, with_contents, most_recorded}
+use Rattle.inodes_on_blocks.proofs.Vocabulary.{◌≡◌, inl, inr, ℕ, ◌+◌, ◌^◌, ◌<◌, ◌≤◌, List, length, max, Option, Some, None, sym, ◌∙◌, ap, subst, arith, Dinode, Super, IsDinode, Node, put, hart_count, same_or, put_same, put_other, Ran, bind, Laws, Machine, Wp, Both, joined, Below, Lasts, Handover, ToAct, Wp-weaker, fetch, inode_block, Spent, size, with_contents, most_recorded, IsSpent, World, put_grown, Carry, below, Labels, labelled, Keeps, put_named, IsChanging, HasSpent}
 use Rattle.inode_machine.specs.World as above
 use Rattle.inode_machine.specs.Exec as above_exec
 use Rattle.inode_machine.specs.Rules as rules
-use Rattle.inodes_on_blocks.specs.Accounts.{IsSpent}
-use Rattle.inodes_on_blocks.specs.Below.{World}
-use Rattle.inodes_on_blocks.specs.Entering.{put_grown}
-use Rattle.inodes_on_blocks.specs.Lowering.{Carry, below, Labels, labelled, Keeps}
-use Rattle.inodes_on_blocks.specs.Naming.{put_named}
-use Rattle.inodes_on_blocks.specs.Recording.{IsChanging}
-use Rattle.inodes_on_blocks.specs.Room.{HasSpent}
-use Rattle.inodes_on_blocks.proofs.BlocksRoom.{HasBlocks, blocks_end, named_room}
-use Rattle.inodes_on_blocks.proofs.Layer.{below_laws}
+use Rattle.inodes_on_blocks.proofs.Basics.{HasBlocks, blocks_end, named_room, below_laws}
 use Rattle.inodes_on_blocks.proofs.LocateSteps.{Between, Fits}
 use Rattle.inodes_on_blocks.proofs.NamingSteps.{naming_keeps}
 use Rattle.inodes_on_blocks.proofs.NumberPuts.{sized}

@@ -1,23 +1,8 @@
 -- What a get, a read and a giving back make of the buffers in a hart's own hand.
-use Rattle.std.proofs.Common.{◌≡◌, ◌≢◌, ℕ, suc, ◌+◌, ◌≤◌, ◌==◌, Bool, true, false, List, [], ◌∷◌, ◌++◌, Option, Some, None, refl, sym, ap, ◌∙◌, arith, if◌then◌else◌}
-use Rattle.std.specs.Prelude.{is_some, cond}
-use Rattle.std.specs.Option.{option_map, option_and_then, unwrap_or}
-use Rattle.std.specs.List.{find}
-use Rattle.block_device.specs.Blocks.{block_at}
-use Rattle.buffer_cache.specs.Lists.{change_first, change_to_end, count_of}
-use Rattle.buffer_cache.specs.Getting.{get_of, get_by, get_new, guard_of}
-use Rattle.buffer_cache.specs.Seats.{SeatState, seat_of, holder_of, kept, has_block, is_held_by, is_number, is_free, with_seat, with_holder, with_content, without_holder, as_new, given_back}
-use Rattle.buffer_cache.specs.declared.got.Got.{Got}
+use Rattle.inodes_on_blocks.proofs.Vocabulary.{◌≡◌, ◌≢◌, ℕ, suc, ◌+◌, ◌≤◌, ◌==◌, Bool, true, false, List, [], ◌∷◌, ◌++◌, Option, Some, None, refl, sym, ap, ◌∙◌, arith, if◌then◌else◌, is_some, cond, option_map, option_and_then, unwrap_or, find, block_at, change_first, change_to_end, get_of, get_by, get_new, guard_of, SeatState, seat_of, holder_of, kept, has_block, is_held_by, with_seat, with_holder, with_content, without_holder, as_new, given_back, Got, seat_new_here, pick, first_passes, seat_changed, seat_of_others, others_given_back, seat_in, LogPart, mine_of, count_first, count_snoc, free_not_held, eq_self, eq_not, if_kept, buffer_in}
+use Rattle.buffer_cache.specs.Lists.{count_of}
+use Rattle.buffer_cache.specs.Seats.{is_number, is_free}
 use Rattle.buffer_cache.specs.declared.got.Got.TheVariants as got
-use Rattle.buffer_cache.proofs.Blocks.{seat_new_here}
-use Rattle.group_log.proofs.Seats.{pick, first_passes, seat_changed, seat_of_others, others_given_back}
-use Rattle.group_log.proofs.Whole.{seat_in}
-use Rattle.fs_machine.specs.LogPart.{LogPart}
-use Rattle.fs_machine.specs.Own.{mine_of}
-use Rattle.fs_machine.proofs.Owning.{count_first, count_snoc, free_not_held}
-use Rattle.tree_laws.proofs.Maps.{eq_self, eq_not}
-use Rattle.inode_machine.specs.Rules.{if_kept}
-use Rattle.inodes_on_blocks.specs.Lowering.{buffer_in}
 
 -- ---- counts
 

@@ -1,19 +1,7 @@
 -- The inodes of a disk that holds nodes, and its tree.
-use Rattle.std.proofs.Common.{◌≡◌, ◌⊎◌, ℕ, zero, suc, true, false, pos, inl, inr, refl, sym, ◌∙◌, ap, subst, List, [], ◌∷◌, ◌++◌, map, Option, Some, None}
-use Rattle.std.specs.Prelude.{nat_lt}
-use Rattle.std.proofs.lemmas.Bool.{false≢true}
-use Rattle.fs_layout.specs.declared.inode.Dinode.{Dinode}
-use Rattle.plain_tree.specs.declared.node.Node.{Node}
-use Rattle.plain_tree.specs.declared.node.Kind.{Kind}
-use Rattle.plain_tree.specs.declared.node.Kind.TheVariants.{Directory, File, Device}
+use Rattle.inodes_on_blocks.proofs.Vocabulary.{◌≡◌, ◌⊎◌, ℕ, zero, suc, true, false, pos, inl, inr, refl, sym, ◌∙◌, ap, subst, List, [], ◌∷◌, ◌++◌, map, Option, Some, None, nat_lt, false≢true, Dinode, Node, Kind, Directory, File, Device, inode_of, is_number, is_positive, is_free, is_directory, is_live, is_node, count_of, node_of, first_nodes, node_is, node_from, Slots, folder, links_of, either, folder_dead, dead_links, dead_no_directory, Nodes, type_in, size_in, IsDevice, IsInode, IsRecord, HasContent, entry_of, live_part, live_nodes}
 use Rattle.plain_tree.specs.Tree as plain
-use Rattle.image_tree.specs.Inodes.{inode_of, is_number, is_positive, is_free, is_directory, is_live, is_node}
-use Rattle.image_tree.specs.Trees.{kind_of, count_of, node_of, first_nodes}
-use Rattle.image_tree.proofs.Nodes.{node_is, node_from}
-use Rattle.tree_laws.specs.WellFormed.{Slots, folder, links_of}
-use Rattle.tree_laws.proofs.Maps.{either}
-use Rattle.tree_laws.proofs.Nodes.{folder_dead, dead_links, no_node as dead_no_directory}
-use Rattle.inodes_on_blocks.specs.Holds.{Nodes, type_in, size_in, IsDevice, IsInode, IsRecord, HasContent, entry_of, live_part, live_nodes}
+use Rattle.image_tree.specs.Trees.{kind_of}
 use Rattle.inodes_on_blocks.proofs.HeldParts.{HoldsRecords, HoldsContents}
 use Rattle.inodes_on_blocks.proofs.ImageSlots.{Entries, in_tree}
 use Rattle.inodes_on_blocks.proofs.Nodes.{no_node, dead_node, live_node, kind_of_directory}

@@ -1,15 +1,5 @@
 -- The checks of block numbers and of bits pass.
-use Rattle.std.proofs.Common.{◌≡◌, ◌≢◌, ⊎_elim, ℕ, zero, suc, ◌+◌, ◌-◌, ◌<◌, ◌≤◌, false, inl, inr, refl, sym, ◌∙◌, ap, subst, arith, List, [], ◌∷◌, ◌++◌, length, length-append, filter, get_or}
-use Rattle.std.specs.List.{All}
-use Rattle.std.proofs.lemmas.Bool.{cases_lt}
-use Rattle.std.proofs.lemmas.List.{get_or_append_left, get_or-append_right}
-use Rattle.std.proofs.lemmas.List.Elements.{All-cons, All-head, All-tail, All-nil}
-use Rattle.image_tree.specs.Lists.{IsOnce, gathered}
-use Rattle.image_tree.specs.Inodes.{is_block, numbers_by, named_by, last}
-use Rattle.image_tree.specs.Checks.{HasGoodNumbers, NamesOnce, HasMarks}
-use Rattle.image_tree.proofs.MarkLemmas.{once_nil}
-use Rattle.tree_laws.proofs.Maps.{either}
-use Rattle.inodes_on_blocks.specs.Holds.{MarksBlocks}
+use Rattle.inodes_on_blocks.proofs.Vocabulary.{◌≡◌, ◌≢◌, ⊎_elim, ℕ, zero, suc, ◌+◌, ◌-◌, ◌<◌, ◌≤◌, false, inl, inr, refl, sym, ◌∙◌, ap, subst, arith, List, [], ◌∷◌, ◌++◌, length, length-append, filter, get_or, All, cases_lt, get_or_append_left, get_or-append_right, All-cons, All-head, All-tail, All-nil, IsOnce, gathered, is_block, numbers_by, named_by, last, HasGoodNumbers, NamesOnce, HasMarks, once_nil, either, MarksBlocks}
 use Rattle.inodes_on_blocks.proofs.HeldParts.{OwnBlocks}
 use Rattle.inodes_on_blocks.proofs.Lists.{filter_keeps, filter_drops}
 

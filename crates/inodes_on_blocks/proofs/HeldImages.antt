@@ -1,17 +1,8 @@
 -- A disk that holds the nodes of a well-formed running tree is an image of it.
-use Rattle.std.proofs.Common.{◌≡◌, ℕ, inl, inr, refl, sym, ◌∙◌, ap, subst, List, Option}
-use Rattle.fs_layout.specs.Recovered.{sizes_of}
-use Rattle.plain_tree.specs.declared.node.Node.{Node}
-use Rattle.plain_tree.specs.Tree.{Tree, tree_of, is_live}
+use Rattle.inodes_on_blocks.proofs.Vocabulary.{◌≡◌, ℕ, inl, inr, refl, sym, ◌∙◌, ap, subst, List, Option, sizes_of, Node, Tree, tree_of, IsWellFormed, UpToSlots, node_of, tree_in, folder, links_of, folders_of, links_in, raises, Folders, IsForest, either, everywhere, Nodes, Holds, AreNodesOf, live_part, IsImageOf}
+use Rattle.plain_tree.specs.Tree.{is_live}
 use Rattle.plain_tree.specs.Fresh.{at_rest}
-use Rattle.image_tree.specs.Damage.{IsWellFormed, UpToSlots}
-use Rattle.image_tree.specs.Trees.{node_of, tree_in}
-use Rattle.tree_laws.specs.WellFormed.{folder, links_of, folders_of, links_in, raises, Folders, IsForest}
 use Rattle.tree_laws.specs.WellFormed as trees
-use Rattle.tree_laws.proofs.Maps.{either}
-use Rattle.tree_laws.proofs.Nodes.{everywhere}
-use Rattle.inodes_on_blocks.specs.Holds.{Nodes, Holds, AreNodesOf, live_part}
-use Rattle.inodes_on_blocks.specs.ImageLaws.{IsImageOf}
 use Rattle.inodes_on_blocks.proofs.Nodes.{nodes_at, ninodes_are}
 use Rattle.inodes_on_blocks.proofs.Links.{folders_in}
 use Rattle.inodes_on_blocks.proofs.Forests.{links_here}

@@ -1,21 +1,6 @@
 -- The checks of inodes pass: types, the root, sizes, and counts.
-use Rattle.std.proofs.Common.{◌≡◌, ◌≤◌, ℕ, ◌*◌, ◌%◌, true, false, ℤ, pos, negsuc, inl, inr, sym, ◌∙◌, ap, subst, arith, rules, List, length, map, Option, Some}
-use Rattle.std.specs.Prelude.{nat_lt, ◌<ℤ◌}
-use Rattle.std.proofs.lemmas.Bool.{false≢true, eqb-true}
-use Rattle.std.proofs.lemmas.Bool.Decides.{nat_tests}
-use Rattle.std.proofs.lemmas.List.{length-map}
-use Rattle.fs_layout.specs.declared.inode.Dinode.{Dinode}
-use Rattle.fs_layout.specs.Recovered.{sizes_of}
-use Rattle.plain_tree.specs.declared.node.Node.{Node}
-use Rattle.plain_tree.specs.declared.node.Kind.{Kind}
-use Rattle.plain_tree.specs.declared.node.Kind.TheVariants.{Directory, File, Device}
+use Rattle.inodes_on_blocks.proofs.Vocabulary.{◌≡◌, ◌≤◌, ℕ, ◌*◌, ◌%◌, true, false, ℤ, pos, negsuc, inl, inr, sym, ◌∙◌, ap, subst, arith, rules, List, length, map, Option, Some, nat_lt, ◌<ℤ◌, false≢true, eqb-true, nat_tests, length-map, Dinode, sizes_of, Node, Kind, Directory, File, Device, inode_of, is_number, is_positive, is_directory, is_live, is_node, is_live_directory, slots_of, IsGoodType, HasGoodTypes, HasRoot, HasGoodSizes, HasGoodCounts, directory_is, directory_from, node_is, links_of, IsForest, either, Nodes, type_in, size_in, IsUnused, IsRecord, HasContent, entry_of}
 use Rattle.plain_tree.specs.Tree as plain
-use Rattle.image_tree.specs.Inodes.{inode_of, is_number, is_positive, is_directory, is_live, is_node, is_live_directory, slots_of}
-use Rattle.image_tree.specs.Checks.{IsGoodType, HasGoodTypes, HasRoot, HasGoodSizes, HasGoodCounts}
-use Rattle.image_tree.proofs.Nodes.{directory_is, directory_from, node_is}
-use Rattle.tree_laws.specs.WellFormed.{links_of, IsForest}
-use Rattle.tree_laws.proofs.Maps.{either}
-use Rattle.inodes_on_blocks.specs.Holds.{Nodes, type_in, size_in, IsUnused, IsRecord, HasContent, entry_of}
 use Rattle.inodes_on_blocks.proofs.HeldParts.{HoldsRecords, HoldsContents, HaveRoom}
 use Rattle.inodes_on_blocks.proofs.ImageSlots.{Entries, in_tree}
 use Rattle.inodes_on_blocks.proofs.Nodes.{directory_node, slots_of_directory}

@@ -1,20 +1,7 @@
 -- The live nodes of a tree are its named part.
-use Rattle.std.proofs.Common.{◌≡◌, ℕ, zero, suc, ◌<◌, ◌≤◌, true, false, inl, inr, refl, sym, ◌∙◌, ap, subst, ⊎_elim, List, [], ◌∷◌, replicate, get_or, Option, Some, None}
-use Rattle.std.proofs.lemmas.Bool.{cases_lt}
-use Rattle.std.proofs.lemmas.List.{get_or-replicate, get_or_past}
-use Rattle.plain_tree.specs.declared.node.Node.{Node}
-use Rattle.plain_tree.specs.declared.tree.Hart.{Hart}
-use Rattle.plain_tree.specs.Widths.{hart_count, root}
-use Rattle.plain_tree.specs.Tree.{Name, Tree, tree_of, file_in, resting, live_directory, is_live, all_slots, first_slot, look, follow, and_then}
-use Rattle.plain_tree.specs.Explains.{IsReached, IsNamedPart}
-use Rattle.plain_tree.specs.Fresh.{fresh_hart}
-use Rattle.image_tree.specs.Trees.{tree_in}
-use Rattle.tree_laws.specs.WellFormed.{raises, IsWellFormed}
-use Rattle.tree_laws.proofs.Maps.{either}
-use Rattle.tree_laws.proofs.Nodes.{everywhere, live_is}
-use Rattle.tree_laws.proofs.Facts.{look_live}
-use Rattle.tree_laws.proofs.Reached.{reached}
-use Rattle.inodes_on_blocks.specs.Holds.{Nodes, live_part}
+use Rattle.inodes_on_blocks.proofs.Vocabulary.{◌≡◌, ℕ, zero, suc, ◌<◌, ◌≤◌, true, false, inl, inr, refl, sym, ◌∙◌, ap, subst, ⊎_elim, List, [], ◌∷◌, replicate, get_or, Option, Some, None, cases_lt, get_or-replicate, get_or_past, Node, Hart, hart_count, root, Name, Tree, tree_of, resting, live_directory, all_slots, first_slot, look, follow, and_then, IsReached, IsNamedPart, fresh_hart, tree_in, raises, either, everywhere, live_is, look_live, reached, Nodes, live_part}
+use Rattle.plain_tree.specs.Tree.{file_in, is_live}
+use Rattle.tree_laws.specs.WellFormed.{IsWellFormed}
 use Rattle.inodes_on_blocks.proofs.Held.{some_or, live_whole, live_none}
 
 -- ---- what live parts find

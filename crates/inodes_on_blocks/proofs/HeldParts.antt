@@ -1,12 +1,6 @@
 -- What a disk holds, part by part of all inodes.
-use Rattle.std.proofs.Common.{◌≡◌, ◌≢◌, ℕ, ◌<◌, ◌≤◌, true, List, subst, Some}
-use Rattle.std.specs.List.{All}
-use Rattle.fs_layout.specs.Recovered.{sizes_of}
-use Rattle.plain_tree.specs.declared.node.Node.{Node}
-use Rattle.image_tree.specs.Lists.{IsOnce}
-use Rattle.image_tree.specs.Inodes.{inode_of, is_node, numbers_by, named_by}
-use Rattle.image_tree.proofs.Nodes.{node_is}
-use Rattle.inodes_on_blocks.specs.Holds.{Nodes, IsRecord, HasContent, HasContentOf, HasRoom, IsOwned, Holds}
+use Rattle.inodes_on_blocks.proofs.Vocabulary.{◌≡◌, ◌≢◌, ℕ, ◌<◌, ◌≤◌, true, List, subst, Some, All, sizes_of, Node, IsOnce, inode_of, is_node, numbers_by, named_by, node_is, Nodes, IsRecord, HasContent, HasContentOf, IsOwned, Holds}
+use Rattle.inodes_on_blocks.specs.Holds.{HasRoom}
 
 pub record HoldsRecords (disk : List (List ℕ)) (nodes : Nodes) : Type 0 where
   pub range : (i : ℕ) (v : Node) → nodes i ≡ Some v → (1 ≤ i) × (i < (sizes_of disk).ninodes)

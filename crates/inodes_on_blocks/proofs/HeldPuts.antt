@@ -1,19 +1,6 @@
 -- A put of one block leaves what other inodes hold.
-use Rattle.std.proofs.Common.{◌≡◌, ◌≢◌, ℕ, ◌+◌, ◌/◌, ◌%◌, ◌<◌, ◌≤◌, Bool, true, false, inl, inr, refl, sym, ◌∙◌, ap, subst, arith, List, ◌∷◌, get_or, length, zero, suc}
-use Rattle.std.specs.List.{Contains}
-use Rattle.fs_layout.specs.declared.superblock.Super.{Super}
-use Rattle.fs_layout.specs.declared.inode.Dinode.{Dinode}
-use Rattle.fs_layout.specs.Inode.{dinode_at}
-use Rattle.fs_layout.specs.Bits.{bit_of}
-use Rattle.fs_layout.specs.Recovered.{recovered, sizes_of}
-use Rattle.plain_tree.specs.declared.node.Node.{Node}
-use Rattle.plain_tree.specs.Tree.{put}
-use Rattle.image_tree.specs.Inodes.{inode_of, numbers_of}
-use Rattle.image_tree.specs.Checks.{IsData, is_marked}
-use Rattle.image_tree.specs.Damage.{UpToLog}
-use Rattle.tree_laws.proofs.Maps.{same_or, eq_self, eq_not, put_same, put_other}
-use Rattle.inodes_on_blocks.specs.Holds.{NamesOwned, MarksBlocks, MarksNoOthers}
-use Rattle.inodes_on_blocks.specs.Puts.{IsPut, IsInodePut, IsBitPut, inode_block, IsUntouched, LeavesOthers, IsLaidOut, IsSpare, Becomes, IsTaken, IsGivenBack}
+use Rattle.inodes_on_blocks.proofs.Vocabulary.{◌≡◌, ◌≢◌, ℕ, ◌+◌, ◌/◌, ◌%◌, ◌<◌, ◌≤◌, Bool, true, false, inl, inr, refl, sym, ◌∙◌, ap, subst, arith, List, ◌∷◌, get_or, length, zero, suc, Contains, Super, Dinode, dinode_at, bit_of, recovered, sizes_of, Node, put, inode_of, numbers_of, IsData, is_marked, UpToLog, same_or, eq_self, eq_not, put_same, put_other, NamesOwned, MarksBlocks, MarksNoOthers, IsPut, IsInodePut, IsBitPut, IsUntouched, LeavesOthers, IsLaidOut, IsSpare, Becomes, IsTaken, IsGivenBack}
+use Rattle.inodes_on_blocks.specs.Puts.{inode_block}
 use Rattle.inodes_on_blocks.proofs.HeldFrames.{laid_kept, system_put}
 
 -- inodes stand before the bitmap

@@ -1,23 +1,6 @@
 -- A disk that holds a forest has good slots, is one tree, and has good counts.
-use Rattle.std.proofs.Common.{◌≡◌, ◌≢◌, ℕ, zero, suc, ◌+◌, ◌<◌, ◌≤◌, true, false, eqb, inl, inr, refl, sym, ◌∙◌, ap, subst, arith, List, [], ◌∷◌, drop, map, get_or, Option, Some, None}
-use Rattle.std.specs.List.{All, AllPairs}
-use Rattle.std.proofs.lemmas.List.Elements.{All-cons, All-nil}
-use Rattle.fs_layout.specs.declared.entry.Dirent.{Dirent}
-use Rattle.fs_layout.specs.declared.entry.Dirent.TheVariants.{Free, Used}
-use Rattle.fs_layout.specs.Recovered.{sizes_of}
-use Rattle.plain_tree.specs.declared.node.Node.{Node}
-use Rattle.plain_tree.specs.Tree.{Name, same_name, dot, dotdot, first_slot}
-use Rattle.image_tree.specs.Lists.{IsOnce, times}
-use Rattle.image_tree.specs.Inodes.{is_node, is_live_directory, last}
-use Rattle.image_tree.specs.Links.{slots_in, slot_numbers, slot_names, up, further_in, proper_in, names_of, further_names_of, proper_names_of, children_of, climb}
-use Rattle.image_tree.specs.Checks.{IsDotDot, HasGoodSlots, IsOneTree}
-use Rattle.image_tree.proofs.Nodes.{directory_is}
-use Rattle.tree_laws.specs.WellFormed.{Slots, links_of, one_if, past, count_in, mentions, NamesOnce, IsInOrder, IsForest}
-use Rattle.tree_laws.proofs.Maps.{either, eq_self, eq_not, same_or}
-use Rattle.tree_laws.proofs.Slots.{same_self, slot_here}
-use Rattle.tree_laws.proofs.Sums.{one_yes}
-use Rattle.tree_laws.proofs.Facts.{entry_linked}
-use Rattle.inodes_on_blocks.specs.Holds.{entry_of}
+use Rattle.inodes_on_blocks.proofs.Vocabulary.{◌≡◌, ◌≢◌, ℕ, zero, suc, ◌+◌, ◌<◌, ◌≤◌, true, false, eqb, inl, inr, refl, sym, ◌∙◌, ap, subst, arith, List, [], ◌∷◌, drop, map, get_or, Option, Some, None, All, AllPairs, All-cons, All-nil, Dirent, Free, Used, sizes_of, Node, Name, same_name, dot, dotdot, first_slot, IsOnce, times, is_node, is_live_directory, last, slots_in, slot_numbers, slot_names, up, further_in, proper_in, names_of, further_names_of, proper_names_of, children_of, climb, IsDotDot, HasGoodSlots, IsOneTree, directory_is, Slots, links_of, one_if, past, count_in, mentions, IsInOrder, IsForest, either, eq_self, eq_not, same_or, same_self, slot_here, one_yes, entry_linked, entry_of}
+use Rattle.tree_laws.specs.WellFormed.{NamesOnce}
 use Rattle.inodes_on_blocks.proofs.Lists.{times_cons, gathered_only, times_filtered, times_dropped}
 use Rattle.inodes_on_blocks.proofs.ImageSlots.{Entries, in_tree}
 use Rattle.inodes_on_blocks.proofs.Nodes.{no_node, directory_node, directory_folder, other_folder, past_counts}

@@ -1,18 +1,5 @@
 -- Whose the blocks of a well-formed image are.
-use Rattle.std.proofs.Common.{◌≡◌, ◌≢◌, ℕ, zero, suc, ◌+◌, ◌-◌, ◌<◌, ◌≤◌, Bool, true, false, eqb, inl, inr, refl, sym, ◌∙◌, ap, subst, arith, List, [], ◌∷◌, ◌++◌, length, length-append, filter, get_or}
-use Rattle.std.specs.Prelude.{nat_lt}
-use Rattle.std.specs.List.{All, Contains}
-use Rattle.std.proofs.lemmas.Bool.Decides.{nat_tests}
-use Rattle.std.proofs.lemmas.List.{get_or-append_right}
-use Rattle.fs_layout.specs.Recovered.{sizes_of}
-use Rattle.image_tree.specs.Lists.{IsOnce, gathered, times}
-use Rattle.image_tree.specs.Inodes.{is_block, numbers_by, named_by, last}
-use Rattle.image_tree.specs.Checks.{HasGoodNumbers, NamesOnce, HasMarks, is_marked}
-use Rattle.image_tree.proofs.MarkLemmas.{front_once}
-use Rattle.tree_laws.specs.WellFormed.{one_if}
-use Rattle.tree_laws.proofs.Maps.{either, eq_self, eq_not, same_or}
-use Rattle.tree_laws.proofs.Sums.{one_yes}
-use Rattle.inodes_on_blocks.specs.Holds.{OwnsBlocks, MarksBlocks, owner_upto, owner_in}
+use Rattle.inodes_on_blocks.proofs.Vocabulary.{◌≡◌, ◌≢◌, ℕ, zero, suc, ◌+◌, ◌-◌, ◌<◌, ◌≤◌, Bool, true, false, eqb, inl, inr, refl, sym, ◌∙◌, ap, subst, arith, List, [], ◌∷◌, ◌++◌, length, length-append, filter, get_or, nat_lt, All, Contains, nat_tests, get_or-append_right, sizes_of, IsOnce, gathered, times, is_block, numbers_by, named_by, last, HasGoodNumbers, NamesOnce, HasMarks, is_marked, front_once, one_if, either, eq_self, eq_not, same_or, one_yes, OwnsBlocks, MarksBlocks, owner_upto, owner_in}
 use Rattle.inodes_on_blocks.proofs.Lists.{times_nil, times_cons, times_more, no_hit, times_filtered, filter_keeps, filter_drops}
 
 -- ---- lists

@@ -1,28 +1,8 @@
 -- A well-formed image holds the nodes of its tree.
-use Rattle.std.proofs.Common.{get_or, ◌≡◌, ◌≢◌, ◌⊎◌, ⊎_elim, ℕ, zero, suc, ◌+◌, ◌*◌, ◌/◌, ◌<◌, ◌≤◌, true, false, ℤ, pos, negsuc, inl, inr, refl, sym, ◌∙◌, ap, subst, arith, List, [], ◌∷◌, length, length-append, map, slice_index, Option, Some, None}
-use Rattle.std.proofs.lemmas.Int.{ints}
-use Rattle.std.specs.Prelude.{nat_lt, ◌≤ℤ◌, if◌then◌else◌}
-use Rattle.std.specs.List.{All}
-use Rattle.std.proofs.lemmas.Bool.{false≢true, eqb-true, cases_lt}
-use Rattle.std.proofs.lemmas.Bool.Decides.{nat_tests}
-use Rattle.std.proofs.lemmas.List.{length-map, length-take, get_or_past}
-use Rattle.std.proofs.lemmas.List.Elements.{All-head, All-tail}
-use Rattle.fs_layout.specs.declared.inode.Dinode.{Dinode}
-use Rattle.fs_layout.specs.declared.entry.Dirent.TheVariants.{Free, Used}
-use Rattle.block_device.specs.Blocks.{HasWholeBlocks, block_at}
-use Rattle.fs_layout.specs.Recovered.{place_of, logged, recovered, sizes_of}
-use Rattle.fs_layout.proofs.RecoveredDisk.{length-logged, place_of_cases}
-use Rattle.plain_tree.specs.declared.node.Node.{Node}
-use Rattle.plain_tree.specs.declared.node.Kind.{Kind}
-use Rattle.plain_tree.specs.declared.node.Kind.TheVariants.{File, Device}
-use Rattle.plain_tree.specs.Tree.{tree_of}
-use Rattle.image_tree.specs.Inodes.{inode_of, is_number, is_positive, is_free, is_directory, is_live, is_node, is_live_directory, numbers_of, block_number, content_block, blocks_for, front_blocks, content_of, slot_at, first_slots, slots_of}
-use Rattle.image_tree.specs.Checks.{IsData, HasGoodNumbers, HasGoodTypes, HasGoodSizes, HasGoodSlots}
-use Rattle.image_tree.specs.Damage.{UpToLog, IsWellFormed}
-use Rattle.image_tree.specs.Trees.{slot_of, is_file, kind_of, count_of, node_of, tree_in}
-use Rattle.image_tree.proofs.Nodes.{node_is, node_from, directory_from, numbers_by_node}
-use Rattle.tree_laws.proofs.Maps.{either}
-use Rattle.inodes_on_blocks.specs.Holds.{type_in, size_in, IsDevice, IsRecord, entry_of, HasContent, HasContentOf, Holds, AreNodesOf, live_part, owner_in}
+use Rattle.inodes_on_blocks.proofs.Vocabulary.{get_or, ◌≡◌, ◌≢◌, ◌⊎◌, ⊎_elim, ℕ, zero, suc, ◌+◌, ◌*◌, ◌/◌, ◌<◌, ◌≤◌, true, false, ℤ, pos, negsuc, inl, inr, refl, sym, ◌∙◌, ap, subst, arith, List, [], ◌∷◌, length, length-append, map, slice_index, Option, Some, None, ints, nat_lt, ◌≤ℤ◌, if◌then◌else◌, All, false≢true, eqb-true, cases_lt, nat_tests, length-map, get_or_past, All-head, All-tail, Dinode, Free, Used, HasWholeBlocks, block_at, logged, recovered, sizes_of, length-logged, place_of_cases, Node, Kind, File, Device, tree_of, inode_of, is_number, is_positive, is_free, is_directory, is_live, is_node, is_live_directory, numbers_of, block_number, content_block, blocks_for, front_blocks, content_of, slot_on as slot_at, first_slots, slots_of, IsData, HasGoodNumbers, HasGoodTypes, HasGoodSizes, HasGoodSlots, UpToLog, IsWellFormed, slot_of, is_file, count_of, node_of, tree_in, node_is, node_from, directory_from, numbers_by_node, either, type_in, size_in, IsDevice, IsRecord, entry_of, HasContent, HasContentOf, Holds, AreNodesOf, live_part, owner_in}
+use Rattle.std.proofs.lemmas.List.{length-take}
+use Rattle.fs_layout.specs.Recovered.{place_of}
+use Rattle.image_tree.specs.Trees.{kind_of}
 use Rattle.inodes_on_blocks.proofs.ImageSlots.{Entries, in_tree}
 use Rattle.inodes_on_blocks.proofs.Nodes.{no_node, dead_node, live_node, kind_of_directory, nodes_at, ninodes_are, slots_of_directory}
 use Rattle.inodes_on_blocks.proofs.Trees.{no_raises, there_is_node}

@@ -1,15 +1,5 @@
 -- Lists of block numbers in which each stands once, and 0 stands for none.
-use Rattle.std.proofs.Common.{◌≡◌, ◌≢◌, ⊎_elim, ℕ, zero, suc, ◌+◌, ◌<◌, ◌≤◌, true, false, eqb, inl, inr, refl, sym, ◌∙◌, ap, subst, arith, List, [], ◌∷◌, length, filter, get_or, slice_index}
-use Rattle.std.specs.Prelude.{nat_lt, if◌then◌else◌}
-use Rattle.std.specs.List.{All, Contains}
-use Rattle.std.proofs.lemmas.Bool.{cases_lt}
-use Rattle.std.proofs.lemmas.Bool.Decides.{nat_tests}
-use Rattle.std.proofs.lemmas.List.{get_or_past}
-use Rattle.image_tree.specs.Lists.{IsOnce, times}
-use Rattle.image_tree.specs.Inodes.{is_block, block_number}
-use Rattle.image_tree.proofs.MarkLemmas.{once_nil}
-use Rattle.tree_laws.proofs.Maps.{either, same_or, eq_self}
-use Rattle.tree_laws.proofs.Sums.{one_yes}
+use Rattle.inodes_on_blocks.proofs.Vocabulary.{◌≡◌, ◌≢◌, ⊎_elim, ℕ, zero, suc, ◌+◌, ◌<◌, ◌≤◌, true, false, eqb, inl, inr, refl, sym, ◌∙◌, ap, subst, arith, List, [], ◌∷◌, length, filter, get_or, slice_index, nat_lt, if◌then◌else◌, All, Contains, cases_lt, nat_tests, get_or_past, IsOnce, times, is_block, block_number, once_nil, either, same_or, eq_self, one_yes}
 use Rattle.inodes_on_blocks.proofs.Lists.{times_cons, times_filtered, filter_keeps, filter_drops}
 use Rattle.inodes_on_blocks.proofs.ImageBlocks.{place_times, once_times, block_true}
 use Rattle.inodes_on_blocks.proofs.HeldTree.{pairs_cons}

@@ -1,16 +1,6 @@
 -- The slots of a directory, as the image has them and as the tree has them.
-use Rattle.std.proofs.Common.{◌≡◌, ◌≢◌, ℕ, suc, ◌≤◌, inl, inr, refl, sym, ◌∙◌, ap, arith, List, [], ◌∷◌, drop, map, get_or, Option, Some, None}
-use Rattle.std.specs.List.{All}
-use Rattle.fs_layout.specs.declared.entry.Dirent.{Dirent}
-use Rattle.fs_layout.specs.declared.entry.Dirent.TheVariants.{Free, Used}
-use Rattle.plain_tree.specs.Tree.{Name, same_name, dot, dotdot, first_slot}
-use Rattle.image_tree.specs.Lists.{IsOnce, times}
-use Rattle.image_tree.specs.Links.{slot_numbers, slot_names, number_in}
-use Rattle.image_tree.specs.Checks.{IsDotDot}
-use Rattle.image_tree.specs.Trees.{slot_of}
-use Rattle.tree_laws.specs.WellFormed.{Slots, up_in, count_in, NamesOnce}
-use Rattle.tree_laws.proofs.Maps.{either}
-use Rattle.tree_laws.proofs.Slots.{same_is, slot_past, slot_none, slot_nil}
+use Rattle.inodes_on_blocks.proofs.Vocabulary.{◌≡◌, ◌≢◌, ℕ, suc, ◌≤◌, inl, inr, refl, sym, ◌∙◌, ap, arith, List, [], ◌∷◌, drop, map, get_or, Option, Some, None, All, Dirent, Free, Used, Name, same_name, dot, dotdot, first_slot, IsOnce, times, slot_numbers, slot_names, number_in, IsDotDot, slot_of, Slots, up_in, count_in, either, same_is, slot_past, slot_none, slot_nil}
+use Rattle.tree_laws.specs.WellFormed.{NamesOnce}
 use Rattle.inodes_on_blocks.proofs.Lists.{times_nil, times_cons, no_hit}
 
 -- the slots of the image

@@ -1,44 +1,18 @@
 -- A transaction is joined for the inode that a descriptor names, in one step, where that may be written.
-use Rattle.std.proofs.Common.{◌≡◌, ℕ, ◌<◌, Bool, true, false, length, Option, Some, None, refl, sym, ◌∙◌, ap, subst}
-use Rattle.std.specs.Option.{option_map}
-use Rattle.std.proofs.lemmas.Option.{same_Some}
-use Rattle.group_log.specs.Group.{joined}
-use Rattle.group_log.specs.Soundness.{limit_of}
-use Rattle.group_log.specs.Waiting.{join_waits}
-use Rattle.plain_tree.specs.Widths.{hart_count}
-use Rattle.plain_tree.specs.declared.answer.Cause.{Cause}
+use Rattle.inodes_on_blocks.proofs.Vocabulary.{◌≡◌, ℕ, ◌<◌, Bool, true, false, length, Option, Some, None, refl, sym, ◌∙◌, ap, subst, option_map, same_Some, joined_count as joined, limit_of, join_waits, hart_count, Cause, Ran, Laws, Both, Refused, file_named, refusal_of, join_if, IsWholeLog, After, keeps_whole, Entry, JoinResult, NotJoined, Joined, JoinFile, write_refused, join_at, Inv, loaded, file_of, refused_as, World, log_of, tables_of, came_to, Shows, Carry, Base, Labels, labelled, Keeps, cause_of, joining_to, join_file, ActsOnce}
 use Rattle.plain_tree.specs.declared.answer.Cause.TheVariants as causes
-use Rattle.atomic_programs.specs.Prog.{Ran}
-use Rattle.atomic_programs.specs.Logic.{Laws}
-use Rattle.atomic_programs.specs.Joined.{Both}
 use Rattle.fs_machine.specs.declared.files.OpenFile.{OpenFile}
-use Rattle.fs_machine.specs.declared.files.Refused.{Refused}
 use Rattle.fs_machine.specs.declared.files.Refused.TheVariants as refused_variants
 use Rattle.fs_machine.specs.declared.files.Want.TheVariants as want
-use Rattle.fs_machine.specs.Tables.{file_named}
-use Rattle.fs_machine.specs.Inodes.{refusal_of}
-use Rattle.fs_machine.specs.LogPart.{join_if}
 use Rattle.fs_machine.specs.Steps as steps
 use Rattle.fs_machine.specs.Premises as premises
-use Rattle.fs_machine.specs.Whole.{IsWholeLog, After}
-use Rattle.fs_machine.proofs.Keeping.{keeps_whole}
 use Rattle.inode_machine.specs.World as above
-use Rattle.inode_machine.specs.World.{Entry, JoinResult, NotJoined, Joined}
-use Rattle.inode_machine.specs.World.Op.{JoinFile}
 use Rattle.inode_machine.specs.Exec as above_exec
-use Rattle.inode_machine.specs.Exec.{entry_of, write_refused, join_at}
+use Rattle.inode_machine.specs.Exec.{entry_of}
 use Rattle.inode_machine.specs.Rules as rules
-use Rattle.inode_machine.specs.Rules.{Inv}
-use Rattle.inodes_on_blocks.specs.ShownTables.{loaded, file_of, refused_as}
-use Rattle.inodes_on_blocks.proofs.Named.{descriptors_name_files}
-use Rattle.inodes_on_blocks.specs.Below.{World, log_of, tables_of, came_to}
-use Rattle.inodes_on_blocks.specs.Shown.{Shows}
-use Rattle.inodes_on_blocks.specs.Lowering.{Carry, Base, Labels, labelled, Keeps}
-use Rattle.inodes_on_blocks.specs.Handlers.{cause_of, joining_to, join_file}
-use Rattle.inodes_on_blocks.specs.Acting.{ActsOnce}
+use Rattle.inodes_on_blocks.proofs.Basics.{descriptors_name_files, Came, CameTo, one_step}
 use Rattle.inodes_on_blocks.proofs.JoinSteps.{alone, join_came}
 use Rattle.inodes_on_blocks.proofs.SlotSteps.{all_same, came_quiet, runs_here, same_back}
-use Rattle.inodes_on_blocks.proofs.Stepping.{Came, CameTo, one_step}
 
 module _ (l : Labels) (laws : Laws (labelled l)) (keeps : Keeps l) (h : ℕ) (lt : h < hart_count) where
   abbrev W : Type 0

@@ -1,42 +1,13 @@
 -- A transaction is joined in one step, which may wait below.
-use Rattle.std.proofs.Common.{◌≡◌, inl, inr, ℕ, ◌<◌, Bool, true, false, length, get_or, get_or-set_other, is_some, Option, Some, None, refl, sym, ◌∙◌, ap, subst, if◌then◌else◌}
-use Rattle.std.specs.Prelude.{slice_get, slice_set}
-use Rattle.std.proofs.lemmas.Option.{slice_get-get_or}
+use Rattle.inodes_on_blocks.proofs.Vocabulary.{◌≡◌, inl, inr, ℕ, ◌<◌, Bool, true, false, length, get_or, get_or-set_other, is_some, Option, Some, None, refl, sym, ◌∙◌, ap, subst, if◌then◌else◌, slice_get, slice_set, slice_get-get_or, slice_get-set_other, put, hart_count, same_or, put_same, put_other, joined_count as joined, limit_of, join_waits, Ran, Laws, Both, join_if, IsWholeLog, After, keeps_whole, Desk, Join, is_at, Inv, LocksNone, loaded, is_joined, Ghost, AreOnBlocks, World, log_of, tables_of, disk_of, came_to, Shows, if_joined, ghost_of, on_blocks, Carry, Base, Labels, labelled, Keeps, join, ActsOnce}
 use Rattle.std.proofs.lemmas.List.{get_or-set_same}
-use Rattle.sleep_lock.proofs.Lists.{slice_get-set_other}
-use Rattle.plain_tree.specs.Tree.{put}
-use Rattle.plain_tree.specs.Widths.{hart_count}
-use Rattle.tree_laws.proofs.Maps.{same_or, put_same, put_other}
-use Rattle.group_log.specs.Group.{joined}
-use Rattle.group_log.specs.Soundness.{limit_of}
-use Rattle.group_log.specs.Waiting.{join_waits}
-use Rattle.atomic_programs.specs.Prog.{Ran}
-use Rattle.atomic_programs.specs.Logic.{Laws}
-use Rattle.atomic_programs.specs.Joined.{Both}
-use Rattle.fs_machine.specs.LogPart.{join_if}
 use Rattle.fs_machine.specs.Steps as steps
 use Rattle.fs_machine.specs.Premises as premises
-use Rattle.fs_machine.specs.Whole.{IsWholeLog, After}
-use Rattle.fs_machine.proofs.Keeping.{keeps_whole}
 use Rattle.inode_machine.specs.World as above
-use Rattle.inode_machine.specs.World.{Desk}
-use Rattle.inode_machine.specs.World.Op.{Join}
 use Rattle.inode_machine.specs.Exec as above_exec
-use Rattle.inode_machine.specs.Exec.{is_at}
 use Rattle.inode_machine.specs.Rules as rules
-use Rattle.inode_machine.specs.Rules.{Inv, LocksNone}
-use Rattle.inodes_on_blocks.specs.ShownTables.{loaded}
-use Rattle.inodes_on_blocks.proofs.Desks.{part_same}
-use Rattle.inodes_on_blocks.specs.OnBlocks.{is_joined, Ghost, AreOnBlocks}
-use Rattle.inodes_on_blocks.specs.Below.{World, log_of, tables_of, disk_of, came_to}
-use Rattle.inodes_on_blocks.specs.Shown.{Shows, if_joined, ghost_of, on_blocks}
-use Rattle.inodes_on_blocks.specs.Lowering.{Carry, Base, Labels, labelled, Keeps}
-use Rattle.inodes_on_blocks.specs.Handlers.{join}
-use Rattle.inodes_on_blocks.specs.Acting.{ActsOnce}
+use Rattle.inodes_on_blocks.proofs.Basics.{part_same, join_keeps, still_joined, untouched_same, Came, CameTo, one_step}
 use Rattle.inodes_on_blocks.proofs.LeaveSteps.{tables_desk}
-use Rattle.inodes_on_blocks.proofs.Quiet.{join_keeps, still_joined}
-use Rattle.inodes_on_blocks.proofs.Layer.{untouched_same}
-use Rattle.inodes_on_blocks.proofs.Stepping.{Came, CameTo, one_step}
 
 module _ (l : Labels) (laws : Laws (labelled l)) (keeps : Keeps l) (h : ℕ) (lt : h < hart_count) where
   abbrev W : Type 0

@@ -1,22 +1,7 @@
 -- Bytes of a file that are put, within its size or from it on.
-use Rattle.std.proofs.Common.{◌≡◌, ◌≢◌, ⊎_elim, ℕ, zero, suc, ◌+◌, ◌-◌, ◌*◌, ◌<◌, ◌≤◌, inl, inr, refl, sym, ◌∙◌, ap, subst, arith, List, [], ◌∷◌, ◌++◌, length, length-append, length-take, length-drop, take, drop, append_assoc}
-use Rattle.std.specs.Prelude.{max, nat_lt, if◌then◌else◌}
-use Rattle.std.proofs.lemmas.Bool.{cases_lt}
-use Rattle.std.proofs.lemmas.List.{take-take, take_all, drop_all, take-append-le, drop-append-le}
-use Rattle.block_device.specs.Blocks.{HasWholeBlocks}
-use Rattle.fs_layout.specs.declared.inode.Dinode.{Dinode}
-use Rattle.fs_layout.specs.Bytes.{overwrite}
-use Rattle.plain_tree.specs.declared.node.Node.{Node}
-use Rattle.plain_tree.specs.declared.node.Kind.TheVariants.{File}
-use Rattle.image_tree.specs.Inodes.{numbers_of, block_number, content_block, blocks_for, front_blocks, content_of}
-use Rattle.image_tree.specs.Checks.{largest_size}
-use Rattle.image_tree.specs.Damage.{UpToLog}
-use Rattle.tree_laws.proofs.Maps.{same_or}
-use Rattle.inodes_on_blocks.specs.Holds.{IsOwned}
-use Rattle.inodes_on_blocks.specs.Puts.{IsBytesPut, IsLaidOut, Becomes}
-use Rattle.inodes_on_blocks.proofs.ImageNodes.{length_front, whole_data, at_index}
-use Rattle.inodes_on_blocks.proofs.HeldFrames.{block_of}
-use Rattle.inodes_on_blocks.proofs.LaidInodes.{addrs_alone, block_alone}
+use Rattle.inodes_on_blocks.proofs.Vocabulary.{◌≡◌, ◌≢◌, ⊎_elim, ℕ, zero, suc, ◌+◌, ◌-◌, ◌*◌, ◌<◌, ◌≤◌, inl, inr, refl, sym, ◌∙◌, ap, subst, arith, List, [], ◌∷◌, ◌++◌, length, length-append, length-take, take, drop, append_assoc, max, nat_lt, if◌then◌else◌, cases_lt, take-take, take_all, drop_all, take-append-le, drop-append-le, HasWholeBlocks, Dinode, overwrite, Node, File, numbers_of, block_number, content_block, blocks_for, front_blocks, content_of, largest_size, UpToLog, same_or, IsOwned, IsBytesPut, IsLaidOut, Becomes}
+use Rattle.std.proofs.Common.{length-drop}
+use Rattle.inodes_on_blocks.proofs.Basics.{length_front, whole_data, at_index, block_of, addrs_alone, block_alone}
 use Rattle.inodes_on_blocks.proofs.LaidContent.{this_block, other_block, becomes}
 
 -- ---- lists that are written over

@@ -1,22 +1,7 @@
 -- A put of a block of an inode's content changes it there alone.
-use Rattle.std.proofs.Common.{◌≡◌, ◌≢◌, ⊎_elim, ℕ, sym, ◌∙◌, ap, subst, List, ◌++◌, filter, get_or, slice_index}
-use Rattle.std.specs.List.{All}
-use Rattle.std.proofs.lemmas.Bool.{cases_eq}
-use Rattle.std.proofs.lemmas.List.{get_or_append_left}
-use Rattle.fs_layout.specs.declared.superblock.Super.{Super}
-use Rattle.fs_layout.specs.declared.inode.Dinode.{Dinode}
-use Rattle.fs_layout.specs.Bytes.{u32s_at}
-use Rattle.fs_layout.specs.Recovered.{recovered}
-use Rattle.plain_tree.specs.declared.node.Node.{Node}
-use Rattle.image_tree.specs.Lists.{IsOnce}
-use Rattle.image_tree.specs.Inodes.{is_block, numbers_of, block_number, content_block}
-use Rattle.image_tree.specs.Checks.{IsData}
-use Rattle.image_tree.proofs.NumberLists.{numbers_without, numbers_with}
-use Rattle.inodes_on_blocks.specs.Holds.{HasContent, HasRoom, IsInode, IsOwned}
-use Rattle.inodes_on_blocks.specs.Puts.{IsPut, IsLaidOut, Becomes}
-use Rattle.inodes_on_blocks.proofs.HeldFrames.{block_of, named_kept, spare_kept}
-use Rattle.inodes_on_blocks.proofs.LaidInodes.{addrs_alone}
-use Rattle.inodes_on_blocks.proofs.ImagePlaces.{within, one_place, place, number_place, place_apart, place_same}
+use Rattle.inodes_on_blocks.proofs.Vocabulary.{◌≡◌, ◌≢◌, ⊎_elim, ℕ, sym, ◌∙◌, ap, subst, List, ◌++◌, filter, get_or, slice_index, All, cases_eq, get_or_append_left, Super, Dinode, u32s_at, recovered, Node, IsOnce, is_block, numbers_of, block_number, content_block, IsData, numbers_without, numbers_with, HasContent, IsInode, IsOwned, IsPut, IsLaidOut, Becomes}
+use Rattle.inodes_on_blocks.specs.Holds.{HasRoom}
+use Rattle.inodes_on_blocks.proofs.Basics.{block_of, named_kept, spare_kept, addrs_alone, within, one_place, place, number_place, place_apart, place_same}
 
 module _ (disk new : List (List ℕ)) (owner : ℕ → ℕ) (i k : ℕ) (d : Dinode) (v : Node) (h : IsLaidOut disk owner i d v) (ne : block_number (numbers_of disk d) k ≢ 0)
     (put : IsPut disk new (block_number (numbers_of disk d) k)) where

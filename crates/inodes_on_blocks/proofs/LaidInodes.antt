@@ -1,25 +1,7 @@
 -- An inode before it is changed, and when it is put.
-use Rattle.std.proofs.Common.{◌≡◌, ◌≢◌, ℕ, ◌<◌, ◌≤◌, true, ℤ, pos, ◌≤ℤ◌, refl, sym, ◌∙◌, ap, subst, ⊎_elim, arith, List, [], ◌∷◌, length, filter, slice_index, Some, None}
-use Rattle.std.specs.List.{All, Contains}
-use Rattle.std.proofs.lemmas.Bool.{cases_lt}
-use Rattle.std.proofs.lemmas.List.{get_or_past}
-use Rattle.std.proofs.lemmas.Int.{ints}
-use Rattle.std.proofs.lemmas.List.Elements.{All-nil}
-use Rattle.fs_layout.specs.declared.superblock.Super.{Super}
-use Rattle.fs_layout.specs.declared.inode.Dinode.{Dinode}
-use Rattle.fs_layout.specs.Recovered.{recovered, sizes_of}
-use Rattle.plain_tree.specs.declared.node.Node.{Node}
-use Rattle.plain_tree.specs.declared.node.Kind.{Kind}
-use Rattle.plain_tree.specs.declared.node.Kind.TheVariants.{Directory, File, Device}
-use Rattle.image_tree.specs.Lists.{IsOnce}
-use Rattle.image_tree.specs.Inodes.{inode_of, is_number, is_free, is_block, numbers_of, numbers_by, block_number, content_block, first_slots}
-use Rattle.image_tree.specs.Checks.{IsData}
-use Rattle.image_tree.specs.Damage.{UpToLog}
-use Rattle.image_tree.proofs.MarkLemmas.{once_nil}
-use Rattle.image_tree.proofs.Nodes.{numbers_by_node}
-use Rattle.image_tree.proofs.NumberLists.{numbers_by_free, numbers_without}
-use Rattle.inodes_on_blocks.specs.Holds.{type_in, size_in, IsDevice, IsInode, IsRecord, HasContent, HasContentOf, HasRoom, IsOwned, NamesOwned, HoldsAt}
-use Rattle.inodes_on_blocks.specs.Puts.{IsInodePut, inode_block, IsLaidOut, Becomes}
+use Rattle.inodes_on_blocks.proofs.Vocabulary.{◌≡◌, ◌≢◌, ℕ, ◌<◌, ◌≤◌, true, ℤ, pos, ◌≤ℤ◌, refl, sym, ◌∙◌, ap, subst, ⊎_elim, arith, List, [], ◌∷◌, length, filter, slice_index, Some, None, All, Contains, cases_lt, get_or_past, ints, All-nil, Super, Dinode, recovered, sizes_of, Node, Kind, Directory, File, Device, IsOnce, inode_of, is_number, is_free, is_block, numbers_of, numbers_by, block_number, content_block, first_slots, IsData, UpToLog, once_nil, numbers_by_node, numbers_by_free, numbers_without, type_in, size_in, IsDevice, IsInode, IsRecord, HasContent, HasContentOf, IsOwned, NamesOwned, HoldsAt, IsInodePut, IsLaidOut, Becomes}
+use Rattle.inodes_on_blocks.specs.Holds.{HasRoom}
+use Rattle.inodes_on_blocks.specs.Puts.{inode_block}
 use Rattle.inodes_on_blocks.proofs.Held.{inode_used}
 use Rattle.inodes_on_blocks.proofs.HeldFrames.{block_of, content_same, spare_kept, system_put}
 use Rattle.inodes_on_blocks.proofs.HeldPuts.{before_bits, inode_is}

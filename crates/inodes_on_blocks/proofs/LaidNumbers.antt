@@ -1,26 +1,7 @@
 -- An inode that comes to name one more block.
-use Rattle.std.proofs.Common.{◌≡◌, ◌≢◌, ⊎_elim, ℕ, zero, suc, ◌+◌, ◌-◌, ◌*◌, ◌^◌, ◌<◌, ◌≤◌, inl, inr, refl, sym, ◌∙◌, ap, subst, arith, List, [], ◌∷◌, ◌++◌, length, set, get_or, slice_index, replicate, get_or-set_other, get_or-set_same}
-use Rattle.std.specs.Prelude.{nat_lt, if◌then◌else◌}
-use Rattle.std.specs.List.{flat_map, All, Contains}
-use Rattle.std.proofs.lemmas.Bool.{cases_lt}
-use Rattle.std.proofs.lemmas.List.{get_or_append_left, get_or-append_right, length-set, length-replicate, append-nil}
-use Rattle.std.proofs.lemmas.List.Elements.{All-replicate, recursion_from_All}
-use Rattle.fs_layout.specs.declared.superblock.Super.{Super}
-use Rattle.fs_layout.specs.declared.inode.Dinode.{Dinode}
-use Rattle.fs_layout.specs.Bytes.{u32_bytes, u32s_at}
-use Rattle.fs_layout.specs.Recovered.{recovered, sizes_of}
-use Rattle.fs_layout.proofs.Numbers.{length-u32s_at, u32s_at-bytes}
-use Rattle.plain_tree.specs.declared.node.Node.{Node}
-use Rattle.image_tree.specs.Inodes.{numbers_of, block_number}
-use Rattle.image_tree.specs.Checks.{IsData}
-use Rattle.image_tree.proofs.NumberLists.{numbers_without, numbers_with}
-use Rattle.tree_laws.proofs.Maps.{same_or}
-use Rattle.inodes_on_blocks.specs.Holds.{IsOwned}
-use Rattle.inodes_on_blocks.specs.Puts.{IsNumberPut, IsLaidOut, IsSpare, Names}
-use Rattle.inodes_on_blocks.proofs.ImageNodes.{at_index}
-use Rattle.inodes_on_blocks.proofs.HeldFrames.{block_of, content_same}
-use Rattle.inodes_on_blocks.proofs.LaidInodes.{device_kept}
-use Rattle.inodes_on_blocks.proofs.ImagePlaces.{HasPlaces, within, one_place, once_by_places, all_by_places, contains_at, contains_place, place, number_place, place_apart}
+use Rattle.inodes_on_blocks.proofs.Vocabulary.{◌≡◌, ◌≢◌, ⊎_elim, ℕ, zero, suc, ◌+◌, ◌-◌, ◌*◌, ◌^◌, ◌<◌, ◌≤◌, inl, inr, refl, sym, ◌∙◌, ap, subst, arith, List, [], ◌∷◌, ◌++◌, length, set, get_or, slice_index, replicate, get_or-set_other, get_or-set_same, nat_lt, if◌then◌else◌, flat_map, All, Contains, cases_lt, get_or_append_left, get_or-append_right, length-replicate, append-nil, All-replicate, recursion_from_All, Super, Dinode, u32_bytes, u32s_at, recovered, sizes_of, length-u32s_at, u32s_at-bytes, Node, numbers_of, block_number, IsData, numbers_without, numbers_with, same_or, IsOwned, IsNumberPut, IsLaidOut, IsSpare, Names}
+use Rattle.std.proofs.lemmas.List.{length-set}
+use Rattle.inodes_on_blocks.proofs.Basics.{at_index, block_of, content_same, device_kept, HasPlaces, within, one_place, once_by_places, all_by_places, contains_at, contains_place, place, number_place, place_apart}
 
 -- the same but for its block numbers
 pub record IsLike (d e : Dinode) : Type 0 where

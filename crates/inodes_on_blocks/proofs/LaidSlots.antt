@@ -1,23 +1,8 @@
 -- A directory's slot that is put, or one more behind its last.
-use Rattle.std.proofs.Common.{◌≡◌, ◌≢◌, ℕ, zero, suc, ◌+◌, ◌*◌, ◌/◌, ◌%◌, ◌<◌, ◌≤◌, inl, inr, refl, sym, ◌∙◌, ap, subst, arith, List, [], ◌∷◌, ◌++◌, length, length-append, length-take, length-drop, take, drop, map, append_assoc, Option, Some}
-use Rattle.std.specs.Prelude.{max}
-use Rattle.std.proofs.lemmas.List.{take_at, take_all, drop_all, take-append-le, drop-append-le}
-use Rattle.fs_layout.specs.declared.inode.Dinode.{Dinode}
-use Rattle.fs_layout.specs.declared.entry.Dirent.{Dirent}
-use Rattle.fs_layout.specs.Entry.{dirent_at}
-use Rattle.fs_layout.specs.Recovered.{recovered}
-use Rattle.fs_layout.proofs.Entries.{reads_back, others_stay}
-use Rattle.plain_tree.specs.declared.node.Slot.{Slot}
-use Rattle.plain_tree.specs.declared.node.Node.{Node}
-use Rattle.plain_tree.specs.declared.node.Kind.TheVariants.{Directory}
-use Rattle.image_tree.specs.Inodes.{numbers_of, block_number, content_block, slot_at, first_slots, slots_of}
-use Rattle.image_tree.specs.Checks.{largest_size}
-use Rattle.tree_laws.proofs.Maps.{same_or}
-use Rattle.inodes_on_blocks.specs.Holds.{entry_of}
-use Rattle.inodes_on_blocks.specs.Puts.{IsSlotPut, IsLaidOut, slots_with, Becomes}
-use Rattle.inodes_on_blocks.proofs.ImageNodes.{length_slots}
-use Rattle.inodes_on_blocks.proofs.HeldFrames.{block_of}
-use Rattle.inodes_on_blocks.proofs.LaidInodes.{addrs_alone, block_alone}
+use Rattle.inodes_on_blocks.proofs.Vocabulary.{◌≡◌, ◌≢◌, ℕ, zero, suc, ◌+◌, ◌*◌, ◌/◌, ◌%◌, ◌<◌, ◌≤◌, inl, inr, refl, sym, ◌∙◌, ap, subst, arith, List, [], ◌∷◌, ◌++◌, length, length-append, length-take, take, drop, map, append_assoc, Option, Some, max, take_all, drop_all, take-append-le, drop-append-le, Dinode, Dirent, dirent_at, recovered, reads_back, others_stay, Slot, Node, Directory, numbers_of, block_number, content_block, slot_on as slot_at, first_slots, slots_of, largest_size, same_or, entry_of, IsSlotPut, IsLaidOut, slots_with, Becomes}
+use Rattle.std.proofs.Common.{length-drop}
+use Rattle.std.proofs.lemmas.List.{take_at}
+use Rattle.inodes_on_blocks.proofs.Basics.{length_slots, block_of, addrs_alone, block_alone}
 use Rattle.inodes_on_blocks.proofs.LaidContent.{this_block, other_block, becomes}
 
 -- ---- slots in a row

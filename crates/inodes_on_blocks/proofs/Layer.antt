@@ -1,25 +1,9 @@
 -- What the others leave to a hart below, and what a step on the tables leaves to them.
-use Rattle.std.proofs.Common.{◌≡◌, ◌≢◌, ◌⊎◌, inl, inr, ℕ, true, false, List, Option, Some, None, refl, sym, ◌∙◌, ap, subst}
-use Rattle.std.proofs.lemmas.Option.{none-some}
-use Rattle.fs_layout.specs.declared.inode.Dinode.{Dinode}
-use Rattle.fs_layout.specs.declared.superblock.Super.{Super}
-use Rattle.image_tree.specs.Checks.{IsData}
-use Rattle.image_tree.specs.Inodes.{is_free}
-use Rattle.plain_tree.specs.declared.node.Node.{Node}
-use Rattle.inodes_on_blocks.specs.Holds.{HoldsAt}
-use Rattle.inodes_on_blocks.specs.Puts.{IsUntouched}
+use Rattle.inodes_on_blocks.proofs.Vocabulary.{◌≡◌, ◌≢◌, ◌⊎◌, inl, inr, ℕ, true, false, List, Option, Some, None, refl, sym, ◌∙◌, ap, subst, none-some, Dinode, Super, IsData, is_free, Node, HoldsAt, IsUntouched, LowerLaws, TablesState, lock_holder, seen_of, LogPart, eq_is, eq_self, Held, is_hart, if_kept, above_own as own_of, view, Idle, Ours, not_ours, kept_is, kept_here, has_inode, World, log_of, tables_of, disk_of, inode_in, untyped, KeepsInode, commit_in, undertaken, IsThrough, Same, Kept, Had, Apart, Has, Emptied, Carry, IsKnown, IsLoaded, InHand, Base, below, Labels, labelled, Keeps, IsOpened}
 use Rattle.inodes_on_blocks.proofs.HeldFrames.{untouched}
-use Rattle.atomic_programs.specs.Joined.{LowerLaws}
-use Rattle.fs_machine.specs.Tables.{TablesState, holder_of as lock_holder}
-use Rattle.fs_machine.specs.Shown.{seen_of}
 use Rattle.inode_machine.specs.World as above
-use Rattle.fs_machine.specs.LogPart.{LogPart}
-use Rattle.tree_laws.proofs.Maps.{eq_is, eq_self}
-use Rattle.inode_machine.specs.Rules.{Own, Held, is_hart, if_kept, own_of, view, Idle}
-use Rattle.inode_machine.proofs.Frame.{Ours, not_ours, kept_is, kept_here, has_inode}
+use Rattle.inode_machine.specs.Rules.{Own}
 use Rattle.inodes_on_blocks.specs.ShownTables as tables
-use Rattle.inodes_on_blocks.specs.Below.{World, log_of, tables_of, disk_of, inode_in, untyped}
-use Rattle.inodes_on_blocks.specs.Lowering.{KeepsInode, commit_in, undertaken, IsThrough, Same, Kept, Had, Apart, Has, Emptied, Carry, IsKnown, IsLoaded, InHand, Base, below, Labels, labelled, Keeps, IsOpened}
 use Rattle.inodes_on_blocks.proofs.Marked.{SameCode}
 use Rattle.inodes_on_blocks.proofs.News.{untyped_less}
 use Rattle.inodes_on_blocks.proofs.OpenFiles.{open_alike, open_kept, open_then}

@@ -1,64 +1,15 @@
 -- A transaction is left in one step, and the writes of the commit that begins with it follow in silence.
-use Rattle.std.proofs.Common.{◌≡◌, ◌≢◌, inl, inr, ℕ, zero, suc, ◌+◌, ◌-◌, ◌<◌, ◌≤◌, ◌==◌, Bool, true, false, List, [], ◌∷◌, Option, Some, None, length, get_or-set_other, is_some, refl, sym, ◌∙◌, ap, subst, arith, if◌then◌else◌}
-use Rattle.std.specs.Prelude.{slice_set}
-use Rattle.std.proofs.lemmas.Bool.{eqb-true, eqb-false}
+use Rattle.inodes_on_blocks.proofs.Vocabulary.{◌≡◌, ◌≢◌, inl, inr, ℕ, zero, suc, ◌+◌, ◌-◌, ◌<◌, ◌≤◌, ◌==◌, Bool, true, false, List, [], ◌∷◌, Option, Some, None, length, get_or-set_other, is_some, refl, sym, ◌∙◌, ap, subst, arith, if◌then◌else◌, slice_set, eqb-true, eqb-false, slice_get-set_other, Dinode, Super, IsOutsideLog, is_held_by, Left, Commits, Phase, Open, Staging, Installing, Halted, joined_count, IsMember, IsUnderWay, next_phase, group_in, phase_at_leave, turn_is_out, seats_after, seats_at_fault, left_at, pick, under_way, put, hart_count, same_or, put_same, put_other, Ret, bind, Did, Ran, Machine, Laws, P, Wp, Both, joined, Below, Lasts, Handover, holding, Silent, s-silent, Acting, s-act, acted, TablesState, lock_holder, LogPart, Outside, Passes, Fails, written, commit_if, is_open, failed, commits, commit_unless, after_leave, own_of, seen_of, Commit, IsWholeLog, After, keeps_whole, leaves_own, SameFor, same_after, shows_its_puts, Desk, Leave, is_at, marked, Inv, LocksNone, above_own, more, if_kept, is_hart, loaded, descriptor, first, lent_by, place_with, is_joined, Ghost, AreOnBlocks, World, log_of, tables_of, came_to, exec, Shows, CommitShows, if_joined, ghost_of, on_blocks, Same, Kept, Carry, Base, Stands, commit_in, below, Labels, labelled, Keeps, leave, ActsOnce}
 use Rattle.std.proofs.lemmas.List.{get_or-set_same}
-use Rattle.sleep_lock.proofs.Lists.{slice_get-set_other}
-use Rattle.fs_layout.specs.declared.inode.Dinode.{Dinode}
-use Rattle.fs_layout.specs.declared.superblock.Super.{Super}
-use Rattle.fs_layout.specs.Recovered.{IsOutsideLog}
 use Rattle.buffer_cache.specs.Lists.{count_of}
-use Rattle.buffer_cache.specs.Seats.{is_held_by}
-use Rattle.group_log.specs.declared.log.Left.{Left}
-use Rattle.group_log.specs.declared.log.Left.TheVariants.{Free, Commits}
-use Rattle.group_log.specs.declared.phase.Phase.{Phase}
-use Rattle.group_log.specs.declared.phase.Phase.TheVariants.{Open, Staging, Installing, Halted}
-use Rattle.group_log.specs.Group.{joined as joined_count, IsMember}
-use Rattle.group_log.specs.Phases.{IsUnderWay, next_phase, group_in, phase_at_leave}
-use Rattle.group_log.specs.Turns.{turn_is_out, seats_after, seats_at_fault}
-use Rattle.group_log.specs.Waiting.{left_at}
-use Rattle.group_log.proofs.Seats.{pick}
-use Rattle.group_log.proofs.Steps.{under_way}
-use Rattle.plain_tree.specs.Tree.{put}
-use Rattle.plain_tree.specs.Widths.{hart_count}
-use Rattle.tree_laws.proofs.Maps.{same_or, put_same, put_other}
-use Rattle.atomic_programs.specs.Prog.{Ret, bind, Did, Ran}
-use Rattle.atomic_programs.specs.Logic.{Machine, Laws, P, Wp}
-use Rattle.atomic_programs.specs.Joined.{Both, joined, Below, Lasts, Handover, holding}
-use Rattle.atomic_programs.proofs.Joined.{Silent, s-silent, Acting, s-act, acted}
-use Rattle.fs_machine.specs.Tables.{TablesState, holder_of as lock_holder}
-use Rattle.fs_machine.specs.LogPart.{LogPart, Outside, Passes, Fails, written, commit_if, is_open, failed}
-use Rattle.fs_machine.specs.Programs.{commits, commit_unless, after_leave}
-use Rattle.fs_machine.specs.Own.{own_of}
-use Rattle.fs_machine.specs.Shown.{seen_of}
+use Rattle.group_log.specs.declared.log.Left.TheVariants.{Free}
 use Rattle.fs_machine.specs.Steps as steps
-use Rattle.fs_machine.specs.Steps.{Commit}
 use Rattle.fs_machine.specs.Premises as premises
-use Rattle.fs_machine.specs.Whole.{IsWholeLog, After}
-use Rattle.fs_machine.proofs.Keeping.{keeps_whole}
-use Rattle.fs_machine.proofs.Owned.{leaves_own}
-use Rattle.fs_machine.proofs.Owning.{SameFor, same_after}
-use Rattle.fs_machine.proofs.Showing.{shows_its_puts}
 use Rattle.inode_machine.specs.World as above
-use Rattle.inode_machine.specs.World.{Desk}
-use Rattle.inode_machine.specs.World.Op.{Leave}
-use Rattle.inode_machine.specs.Exec.{is_at}
-use Rattle.inode_machine.specs.Marks.{marked}
 use Rattle.inode_machine.specs.Rules as rules
-use Rattle.inode_machine.specs.Rules.{Inv, LocksNone, Own, own_of as above_own, more, if_kept, is_hart}
+use Rattle.inode_machine.specs.Rules.{Own}
 use Rattle.inodes_on_blocks.specs.ShownTables as tables
-use Rattle.inodes_on_blocks.specs.ShownTables.{loaded, descriptor, first, lent_by, place_with}
-use Rattle.inodes_on_blocks.proofs.Desks.{part_same, taken_same, lenders_set}
-use Rattle.inodes_on_blocks.specs.OnBlocks.{is_joined, Ghost, AreOnBlocks}
-use Rattle.inodes_on_blocks.specs.Below.{World, log_of, tables_of, came_to, exec}
-use Rattle.inodes_on_blocks.specs.Shown.{Shows, CommitShows, if_joined, ghost_of, on_blocks}
-use Rattle.inodes_on_blocks.specs.Lowering.{Same, Kept, Carry, Base, Stands, commit_in, below, Labels, labelled, Keeps}
-use Rattle.inodes_on_blocks.specs.Handlers.{leave}
-use Rattle.inodes_on_blocks.specs.Acting.{ActsOnce}
-use Rattle.inodes_on_blocks.proofs.Committing.{is_member, nobody_commits, commit_other, with_log, written_to, LeavesSeen, written_shows, written_same}
-use Rattle.inodes_on_blocks.proofs.Layer.{below_laws, held_back, kept_alike, hart_is, is_here}
-use Rattle.inodes_on_blocks.proofs.Marked.{marked_same, shows_marked}
-use Rattle.inodes_on_blocks.proofs.Quiet.{leave_keeps}
+use Rattle.inodes_on_blocks.proofs.Basics.{part_same, taken_same, lenders_set, is_member, nobody_commits, commit_other, with_log, written_to, LeavesSeen, written_shows, written_same, below_laws, held_back, kept_alike, hart_is, is_here, marked_same, shows_marked, leave_keeps}
 
 -- ---- how many writes are left
 

@@ -1,42 +1,17 @@
 -- What a hart hands on to the child that it serves, and the child let go, each at its one step.
-use Rattle.std.proofs.Common.{◌≡◌, ◌≢◌, inl, inr, ℕ, ◌+◌, ◌<◌, ◌≤◌, nat_lt, Bool, true, false, Option, Some, None, refl, sym, ◌∙◌, ap, subst, arith}
-use Rattle.std.proofs.lemmas.Bool.Decides.{nat_tests}
-use Rattle.std.proofs.lemmas.Option.{none-some, same_Some}
-use Rattle.plain_tree.specs.Tree.{put}
-use Rattle.plain_tree.specs.Widths.{hart_count, descriptor_count}
-use Rattle.image_tree.specs.Checks.{largest_size}
-use Rattle.tree_laws.proofs.Maps.{same_or, put_other, put_same}
-use Rattle.atomic_programs.specs.Prog.{Did, Waits, Ran}
-use Rattle.atomic_programs.specs.Logic.{Laws}
-use Rattle.atomic_programs.specs.Joined.{Both}
+use Rattle.inodes_on_blocks.proofs.Vocabulary.{◌≡◌, ◌≢◌, inl, inr, ℕ, ◌+◌, ◌<◌, ◌≤◌, nat_lt, Bool, true, false, Option, Some, None, refl, sym, ◌∙◌, ap, subst, arith, nat_tests, none-some, same_Some, put, hart_count, descriptor_count, largest_size, same_or, put_other, put_same, Did, Waits, Ran, Laws, Both, Given, next_full, give_next, descriptors_of, Desk, LoanResult, Lent, Moved, Entry, Lend, LendDirectory, Release, next_used, with_lent, handed, moved_in, lend_last, lend_if, released, serving, more_users, slot_or, Inv, Serves, one_refs, next_is, next_past, loaded, descriptor, first, lent_by, given_as, World, tables_of, Shows, Labels, labelled, Keeps, lent_to, old_directory, lend, lend_directory, release, ActsOnce}
 use Rattle.fs_machine.specs.declared.desk.Desk as cards
-use Rattle.fs_machine.specs.declared.slots.Given.{Given}
 use Rattle.fs_machine.specs.declared.slots.Given.TheVariants as given
-use Rattle.fs_machine.specs.Lists.{next_full}
-use Rattle.fs_machine.specs.Files.{give_next, descriptors_of}
 use Rattle.fs_machine.specs.Steps as steps
 use Rattle.fs_machine.specs.Premises as premises
 use Rattle.inode_machine.specs.World as above
-use Rattle.inode_machine.specs.World.{Desk, LoanResult, Lent, Moved, Entry}
-use Rattle.inode_machine.specs.World.Op.{Lend, LendDirectory, Release}
 use Rattle.inode_machine.specs.Exec as above_exec
-use Rattle.inode_machine.specs.Exec.{next_used, with_lent, handed, moved_in, lend_last, lend_if, released, serving, more_users, slot_or}
 use Rattle.inode_machine.specs.Rules as rules
-use Rattle.inode_machine.specs.Rules.{Inv, Has, Serves}
-use Rattle.inode_machine.proofs.Frame.{one_refs}
-use Rattle.inode_machine.proofs.Handings.{next_is, next_past}
-use Rattle.inodes_on_blocks.specs.ShownTables.{loaded, descriptor, first, lent_by, given_as}
-use Rattle.inodes_on_blocks.proofs.Desks.{part_same}
+use Rattle.inode_machine.specs.Rules.{Has}
+use Rattle.inodes_on_blocks.proofs.Basics.{part_same, CameTo, one_step, open_alike, open_put, open_twice}
 use Rattle.inodes_on_blocks.proofs.Gives.{next_full_is, descriptors_are_given, directories_are_given, children_are_released}
-use Rattle.inodes_on_blocks.specs.Below.{World, tables_of}
-use Rattle.inodes_on_blocks.specs.Shown.{Shows}
-use Rattle.inodes_on_blocks.specs.Lowering.{Labels, labelled, Keeps}
-use Rattle.inodes_on_blocks.specs.Handlers.{lent_to, old_directory, lend, lend_directory, release}
-use Rattle.inodes_on_blocks.specs.Acting.{ActsOnce}
-use Rattle.inodes_on_blocks.proofs.Stepping.{CameTo, one_step}
 use Rattle.inodes_on_blocks.proofs.SlotSteps.{SameInodes, offsets_put, ran_same, no_wait, in_tables_is, came_quiet, from_both, runs_here}
 use Rattle.inodes_on_blocks.proofs.CountSteps.{may_up_directory}
-use Rattle.inodes_on_blocks.proofs.OpenFiles.{open_alike, open_put, open_twice}
 
 -- ---- the inodes stay
 

@@ -1,21 +1,5 @@
 -- Who names whom, in an image whose slots are good and that is one tree.
-use Rattle.std.proofs.Common.{◌≡◌, ◌≢◌, ◌⊎◌, ℕ, zero, suc, ◌-◌, ◌≤◌, Bool, true, false, not, eqb, inl, inr, refl, sym, ◌∙◌, ap, subst, arith, List, [], ◌∷◌, drop, filter, Option}
-use Rattle.std.specs.Prelude.{◌&&◌}
-use Rattle.std.specs.List.{All}
-use Rattle.std.proofs.lemmas.Bool.{false≢true}
-use Rattle.std.proofs.lemmas.List.Elements.{All-head, All-tail}
-use Rattle.fs_layout.specs.Recovered.{sizes_of}
-use Rattle.plain_tree.specs.Widths.{root}
-use Rattle.image_tree.specs.Lists.{gathered, times}
-use Rattle.image_tree.specs.Inodes.{is_node, is_live_directory, last}
-use Rattle.image_tree.specs.Links.{slots_in, slot_numbers, up, named_in, further_in, proper_in, parent_of, names_of, further_names_of, children_of, climb}
-use Rattle.image_tree.specs.Checks.{HasGoodSlots, IsOneTree}
-use Rattle.image_tree.specs.Trees.{node_of}
-use Rattle.image_tree.proofs.Nodes.{directory_is}
-use Rattle.image_tree.proofs.LinkLemmas.{up_none, no_directory_zero}
-use Rattle.tree_laws.specs.WellFormed.{Slots, Folders, folder, one_if, up_in, has_up, past, count_in, sum_below, mentions, children}
-use Rattle.tree_laws.proofs.Maps.{either, eq_self, eq_not, same_or}
-use Rattle.tree_laws.proofs.Sums.{count_nil}
+use Rattle.inodes_on_blocks.proofs.Vocabulary.{◌≡◌, ◌≢◌, ◌⊎◌, ℕ, zero, suc, ◌-◌, ◌≤◌, Bool, true, false, not, eqb, inl, inr, refl, sym, ◌∙◌, ap, subst, arith, List, [], ◌∷◌, drop, filter, Option, ◌&&◌, All, false≢true, All-head, All-tail, sizes_of, root, gathered, times, is_node, is_live_directory, last, slots_in, slot_numbers, up, named_in, further_in, proper_in, parent_of, names_of, further_names_of, children_of, climb, HasGoodSlots, IsOneTree, node_of, directory_is, up_none, no_directory_zero, Slots, Folders, folder, one_if, up_in, has_up, past, count_in, sum_below, mentions, children, either, eq_self, eq_not, same_or, count_nil}
 use Rattle.inodes_on_blocks.proofs.Lists.{times_nil, times_cons, no_hit, sum_gathered, gathered_same, gathered_le, gathered_none, gathered_only, times_filtered, times_dropped, filter_keeps, filter_drops}
 use Rattle.inodes_on_blocks.proofs.ImageSlots.{Entries, in_tree, up_same, further_le, further_same}
 use Rattle.inodes_on_blocks.proofs.Nodes.{no_slots, directory_folder, other_folder, past_counts}

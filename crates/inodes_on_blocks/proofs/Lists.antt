@@ -1,9 +1,5 @@
 -- How often a number stands in what is gathered from inodes, as a sum over them.
-use Rattle.std.proofs.Common.{◌≡◌, ◌≢◌, ℕ, zero, suc, ◌+◌, ◌≤◌, Bool, true, false, eqb, cond, inl, inr, refl, sym, ◌∙◌, ap, arith, List, [], ◌∷◌, filter}
-use Rattle.std.proofs.lemmas.List.Sums.{sum_by-cons, sum_by-append}
-use Rattle.image_tree.specs.Lists.{gathered, times}
-use Rattle.tree_laws.specs.WellFormed.{sum_below, one_if}
-use Rattle.tree_laws.proofs.Maps.{either, eq_not, same_or}
+use Rattle.inodes_on_blocks.proofs.Vocabulary.{◌≡◌, ◌≢◌, ℕ, zero, suc, ◌+◌, ◌≤◌, Bool, true, false, eqb, cond, inl, inr, refl, sym, ◌∙◌, ap, arith, List, [], ◌∷◌, filter, sum_by-cons, sum_by-append, gathered, times, sum_below, one_if, either, eq_not, same_or}
 
 -- how much one number adds to how often i stands in a list
 abbrev hits : ℕ → ℕ → ℕ

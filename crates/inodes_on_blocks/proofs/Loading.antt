@@ -1,35 +1,9 @@
 -- An inode whose lock a hart has is loaded: its record is the one that is seen.
-use Rattle.std.proofs.Common.{◌≡◌, ◌≢◌, inr, ℕ, suc, ◌+◌, ◌/◌, ◌%◌, ◌<◌, List, Option, Some, None, length, refl, sym, ◌∙◌, ap, subst, arith}
-use Rattle.std.specs.Option.{option_and_then}
-use Rattle.buffer_cache.specs.Seats.{SeatState, is_held_by, has_block, holder_of, is_number, seat_of, seen_in}
-use Rattle.buffer_cache.proofs.Firsts.{first_counted}
-use Rattle.fs_layout.specs.declared.inode.Dinode.{Dinode}
-use Rattle.fs_layout.specs.declared.superblock.Super.{Super}
-use Rattle.fs_layout.specs.Inode.{dinode_at}
-use Rattle.fs_layout.specs.Recovered.{IsOutsideLog, recovered}
-use Rattle.fs_layout.specs.Widths.{inodes_per_block}
-use Rattle.group_log.proofs.Whole.{seat_in}
-use Rattle.image_tree.specs.Inodes.{inode_of}
-use Rattle.inodes_on_blocks.specs.Seen.{IsGoodSeen}
+use Rattle.inodes_on_blocks.proofs.Vocabulary.{◌≡◌, ◌≢◌, inr, ℕ, suc, ◌+◌, ◌/◌, ◌%◌, ◌<◌, List, Option, Some, None, length, refl, sym, ◌∙◌, ap, subst, arith, option_and_then, SeatState, is_held_by, has_block, holder_of, seat_of, seen_in, first_counted, Dinode, Super, dinode_at, IsOutsideLog, recovered, inodes_per_block, seat_in, inode_of, IsGoodSeen, hart_count, eq_self, eq_not, bind, Machine, Laws, P, Wp, Both, joined, Stable, bind-assoc, Wp-more, lock_holder, fetch, seen_of, if_kept, inode_block, give_back, load_unless, World, log_of, tables_of, disk_of, inode_in, Shows, Same, Kept, Carry, Stands, below, buffer_in, Labels, labelled, Keeps, in_hand, SameBut}
+use Rattle.buffer_cache.specs.Seats.{is_number}
 use Rattle.inodes_on_blocks.proofs.SeenDisks.{good_seen}
-use Rattle.plain_tree.specs.Widths.{hart_count}
-use Rattle.tree_laws.proofs.Maps.{eq_self, eq_not}
-use Rattle.atomic_programs.specs.Prog.{bind}
-use Rattle.atomic_programs.specs.Logic.{Machine, Laws, P, Wp}
-use Rattle.atomic_programs.specs.Joined.{Both, joined}
-use Rattle.atomic_programs.proofs.Joined.{Stable}
-use Rattle.atomic_programs.proofs.Prog.{bind-assoc}
-use Rattle.atomic_programs.proofs.Sound.{Wp-more}
-use Rattle.fs_machine.specs.Tables.{holder_of as lock_holder}
-use Rattle.fs_machine.specs.Programs.{fetch}
-use Rattle.fs_machine.specs.Shown.{seen_of}
 use Rattle.inode_machine.specs.World as above
-use Rattle.inode_machine.specs.Rules.{if_kept}
-use Rattle.inode_table.specs.Programs.{inode_block, place_of, give_back, load_unless}
-use Rattle.inodes_on_blocks.specs.Below.{World, log_of, tables_of, disk_of, inode_in}
-use Rattle.inodes_on_blocks.specs.Shown.{Shows}
-use Rattle.inodes_on_blocks.specs.Lowering.{Same, Kept, Carry, Stands, below, buffer_in, Labels, labelled, Keeps}
-use Rattle.inodes_on_blocks.specs.Holding.{in_hand, SameBut}
+use Rattle.inode_table.specs.Programs.{place_of}
 use Rattle.inodes_on_blocks.proofs.Alone.{kept_same, kept_then}
 use Rattle.inodes_on_blocks.proofs.Fetching.{but_then, s-fetch, s-back}
 use Rattle.inodes_on_blocks.proofs.Layer.{below_laws}

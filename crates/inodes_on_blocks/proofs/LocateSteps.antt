@@ -1,57 +1,15 @@
 -- A block of the content of an inode that a hart is changing: found by its number, or taken where it is missing, and named. Nothing of it is seen above.
-use Rattle.std.proofs.Common.{get_or-set_other, get_or-set_same, inr, ◌≡◌, ◌≢◌, ℕ, suc, ◌+◌, ◌-◌, ◌^◌, ◌<◌, ◌≤◌, ◌==◌, Bool, true, false, List, length, Option, Some, None, refl, sym, ◌∙◌, ap, subst, arith, if◌then◌else◌}
-use Rattle.std.specs.Prelude.{slice_index}
-use Rattle.fs_layout.specs.declared.inode.Dinode.{Dinode}
-use Rattle.fs_layout.specs.declared.superblock.Super.{Super}
-use Rattle.fs_layout.specs.Bytes.{IsBytes}
-use Rattle.fs_layout.specs.Indirect.{numbers_in}
-use Rattle.fs_layout.specs.Inode.{IsDinode}
-use Rattle.fs_layout.specs.Recovered.{IsOutsideLog, sizes_of}
-use Rattle.buffer_cache.specs.Seats.{holder_of, given_back}
-use Rattle.image_tree.specs.Checks.{IsData}
-use Rattle.image_tree.specs.Inodes.{numbers_of, block_number}
-use Rattle.inodes_on_blocks.specs.Holds.{IsOwned}
-use Rattle.inodes_on_blocks.proofs.ImageNodes.{at_index}
-use Rattle.inodes_on_blocks.proofs.SeenDisks.{good_seen}
-use Rattle.plain_tree.specs.declared.node.Node.{Node}
-use Rattle.plain_tree.specs.Widths.{hart_count}
-use Rattle.tree_laws.proofs.Maps.{eq_is}
-use Rattle.atomic_programs.specs.Prog.{Do, bind, unmarked}
-use Rattle.atomic_programs.specs.Logic.{Machine, Laws, P, Wp}
-use Rattle.atomic_programs.specs.Joined.{Both, joined}
-use Rattle.atomic_programs.proofs.Joined.{Stable}
-use Rattle.atomic_programs.proofs.Prog.{bind-assoc}
-use Rattle.atomic_programs.proofs.Sound.{Wp-more}
-use Rattle.fs_machine.specs.LogPart.{with_seats}
-use Rattle.fs_machine.specs.Programs.{fetch}
-use Rattle.fs_machine.specs.Shown.{seen_of}
-use Rattle.fs_machine.specs.Steps.{Put}
-use Rattle.inode_data.specs.declared.addresses.Address.TheVariants.{Direct, InTable}
-use Rattle.inode_data.specs.declared.locate.Located.{Located}
-use Rattle.inode_data.specs.Addresses.{table_of}
-use Rattle.inode_data.specs.Writing.{with_address, with_number, take_one, located, name_direct, name_in_table, look_up, locate_in_table, with_table, locate_at, locate}
-use Rattle.inode_machine.specs.Budget.{Spent, size, with_number as with_block, most_recorded}
+use Rattle.inodes_on_blocks.proofs.Vocabulary.{get_or-set_other, get_or-set_same, inr, ◌≡◌, ◌≢◌, ℕ, suc, ◌+◌, ◌-◌, ◌^◌, ◌<◌, ◌≤◌, ◌==◌, Bool, true, false, List, length, Option, Some, None, refl, sym, ◌∙◌, ap, subst, arith, if◌then◌else◌, slice_index, Dinode, Super, IsBytes, numbers_in, IsDinode, IsOutsideLog, sizes_of, holder_of, given_back, IsData, numbers_of, block_number, IsOwned, Node, hart_count, eq_is, Do, bind, unmarked, Machine, Laws, P, Wp, Both, joined, Stable, bind-assoc, Wp-more, with_seats, fetch, seen_of, Put, Direct, InTable, Located, table_of, with_address, take_one, located, name_direct, name_in_table, look_up, locate_in_table, with_table, locate_at, locate, Spent, size, with_number as with_block, most_recorded, Inv, World, log_of, disk_of, KeepsRoom, in_hand, IsFetched, Carry, below, buffer_in, Labels, labelled, Keeps, IsChanging, Shows}
+use Rattle.inodes_on_blocks.proofs.Basics.{at_index, good_seen, HasBlocks, extra, extra_there, number_again, number_more, number_before, number_stays, extra_missing, cost_more, cost_both, named_room, block_room, buffer_then, with_buffers, s-fetch, s-back, back_hand, same_view, below_laws, held_back, block_shown, empty_hand, has_number}
+use Rattle.inode_data.specs.Writing.{with_number}
 use Rattle.inode_machine.specs.Budget as budget
 use Rattle.inode_machine.specs.World as above
-use Rattle.inode_machine.specs.Rules.{Inv}
-use Rattle.inodes_on_blocks.specs.Below.{World, log_of, disk_of}
-use Rattle.inodes_on_blocks.specs.Giving.{KeepsRoom}
-use Rattle.inodes_on_blocks.specs.Holding.{in_hand, IsFetched}
-use Rattle.inodes_on_blocks.specs.Lowering.{Carry, below, buffer_in, Labels, labelled, Keeps}
-use Rattle.inodes_on_blocks.specs.Recording.{IsChanging}
-use Rattle.inodes_on_blocks.specs.Shown.{Shows}
-use Rattle.inodes_on_blocks.proofs.BlocksRoom.{HasBlocks, extra, extra_there, number_again, number_more, number_before, number_stays, extra_missing, cost_more, cost_both, named_room, block_room}
 use Rattle.inodes_on_blocks.proofs.BlockTaking.{Took, TookNone, table_place, s-take}
 use Rattle.inodes_on_blocks.proofs.Changing.{owner_with, Changing, left_but, changing_then, numbers_stay}
 use Rattle.inodes_on_blocks.proofs.ContentFetch.{either_place}
 use Rattle.inodes_on_blocks.proofs.DataPuts.{data_home}
-use Rattle.inodes_on_blocks.proofs.Fetching.{buffer_then, with_buffers, s-fetch, s-back}
-use Rattle.inodes_on_blocks.proofs.Hands.{back_hand, same_view}
-use Rattle.inodes_on_blocks.proofs.Layer.{below_laws, held_back}
-use Rattle.inodes_on_blocks.proofs.Loading.{block_shown, empty_hand}
 use Rattle.inodes_on_blocks.proofs.NumberPuts.{sized, addressed_fits, direct_place, direct_then, far_index, far_place, number_bytes, number_long, number_then, table_then}
 use Rattle.inodes_on_blocks.proofs.OwnPuts.{s-own}
-use Rattle.inodes_on_blocks.proofs.SpentRoom.{has_number}
 use Rattle.inodes_on_blocks.proofs.Taking.{HasSpare, spare_stays}
 
 -- Where a hart stands that is changing inode n, between two blocks: with nothing in hand.

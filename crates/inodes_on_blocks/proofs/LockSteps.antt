@@ -1,52 +1,18 @@
 -- The lock of an open file's inode, taken by its descriptor, acts where it is had.
-use Rattle.std.proofs.Common.{◌≡◌, ◌≢◌, ℕ, ◌<◌, ◌^◌, Bool, true, false, List, Option, Some, None, refl, sym, ◌∙◌, ap, subst, arith}
-use Rattle.std.specs.Option.{option_map, MatchOption}
-use Rattle.std.proofs.lemmas.Option.{none-some, same_Some}
-use Rattle.fs_layout.specs.declared.inode.Dinode.{Dinode}
-use Rattle.fs_layout.specs.declared.superblock.Super.{Super}
-use Rattle.plain_tree.specs.declared.answer.Cause.{Cause}
-use Rattle.plain_tree.specs.declared.answer.Cause.TheVariants.{BadDescriptor}
-use Rattle.plain_tree.specs.Tree.{put}
-use Rattle.plain_tree.specs.Widths.{hart_count}
-use Rattle.tree_laws.proofs.Maps.{put_same}
-use Rattle.atomic_programs.specs.Prog.{bind, Did, Waits, Ran, did_in}
-use Rattle.atomic_programs.specs.Logic.{Laws, Wp}
-use Rattle.atomic_programs.specs.Joined.{Both, joined, Below, Lasts}
-use Rattle.atomic_programs.proofs.Joined.{Acting, acted, s-act}
+use Rattle.inodes_on_blocks.proofs.Vocabulary.{◌≡◌, ◌≢◌, ℕ, ◌<◌, ◌^◌, Bool, true, false, List, Option, Some, None, refl, sym, ◌∙◌, ap, subst, arith, option_map, MatchOption, none-some, same_Some, Dinode, Super, Cause, BadDescriptor, put, hart_count, put_same, bind, Did, Waits, Ran, did_in, Laws, Wp, Both, joined, Below, Lasts, Acting, acted, s-act, TablesState, file_named, lock_holder, LockedState, Refuses, Locks, lock_file as lock_named, lock_unless, lock_inode, with_file as with_locked, Outside, lock_opened, with_open, MayLockFile, IsElsewhere, Sort, OfDirectory, OfFile, OfDevice, Entry, LockResult, NotLocked, LocksIt, LockOpen, entry_at, slot_at, lock_at, lock_if, locked, mode_refusal, offset_of, read_refused, Inv, loaded, file_of, refused_as, World, log_of, tables_of, inode_in, exec, Shows, Opened, NothingMore, Has, Carry, HasOpen, Stands, below, Labels, labelled, Keeps, cause_of, ActsOnceAt, file_locked, open_locked, lock_open, load_unless}
 use Rattle.fs_machine.specs.declared.files.Want.TheVariants as want
 use Rattle.fs_machine.specs.declared.files.OpenFile as files
-use Rattle.fs_machine.specs.Tables.{TablesState, file_named, holder_of as lock_holder}
-use Rattle.fs_machine.specs.Inodes.{LockedState, Refuses, Locks, lock_file as lock_named, lock_unless, lock_inode, with_file as with_locked}
-use Rattle.fs_machine.specs.LogPart.{Outside}
 use Rattle.fs_machine.specs.Steps as steps
-use Rattle.fs_machine.specs.Steps.{lock_open as lock_opened, with_open}
 use Rattle.fs_machine.specs.Premises as premises
-use Rattle.fs_machine.specs.Premises.{MayLockFile, IsElsewhere}
-use Rattle.inode_machine.specs.Inodes.{Sort, OfDirectory, OfFile, OfDevice}
 use Rattle.inode_machine.specs.World as above
-use Rattle.inode_machine.specs.World.{Entry, LockResult, NotLocked, LocksIt}
-use Rattle.inode_machine.specs.World.Op.{LockFile, LockOpen}
-use Rattle.inode_machine.specs.Exec.{entry_at, entry_of, slot_at, lock_at, lock_if, locked, mode_refusal, offset_of, read_refused}
+use Rattle.inode_machine.specs.World.Op.{LockFile}
+use Rattle.inode_machine.specs.Exec.{entry_of}
 use Rattle.inode_machine.specs.Rules as rules
-use Rattle.inode_machine.specs.Rules.{Inv}
 use Rattle.inodes_on_blocks.specs.ShownTables as tables
-use Rattle.inodes_on_blocks.specs.ShownTables.{loaded, file_of, refused_as}
-use Rattle.inodes_on_blocks.proofs.Locks.{by_lock, place_there}
-use Rattle.inodes_on_blocks.proofs.Named.{names_at, file_is, descriptors_name_files}
-use Rattle.inodes_on_blocks.specs.Below.{World, log_of, tables_of, inode_in, exec}
-use Rattle.inodes_on_blocks.specs.Shown.{Shows}
-use Rattle.inodes_on_blocks.specs.Lowering.{Opened, NothingMore, Has, Carry, HasOpen, Stands, below, Labels, labelled, Keeps}
-use Rattle.inodes_on_blocks.specs.Handlers.{cause_of}
-use Rattle.inodes_on_blocks.specs.Acting.{ActsOnceAt}
-use Rattle.inodes_on_blocks.specs.Files.{with_file, file_locked, lock_file, open_locked, lock_open}
-use Rattle.inode_table.specs.Programs.{load_unless}
-use Rattle.inodes_on_blocks.proofs.Layer.{below_laws}
-use Rattle.inodes_on_blocks.proofs.Loading.{s-load}
-use Rattle.inodes_on_blocks.proofs.Marked.{SameCode}
-use Rattle.inodes_on_blocks.proofs.OpenFiles.{open_alike, open_kept, open_then}
+use Rattle.inodes_on_blocks.proofs.Basics.{by_lock, place_there, names_at, file_is, descriptors_name_files, below_laws, s-load, SameCode, open_alike, open_kept, open_then, with_tables}
+use Rattle.inodes_on_blocks.specs.Files.{with_file, lock_file}
 use Rattle.inodes_on_blocks.proofs.SlotSteps.{in_tables_is, came_quiet, all_same}
 use Rattle.inodes_on_blocks.proofs.StatSteps.{file_typed, file_referred, lock_came, came_acting, file_old}
-use Rattle.inodes_on_blocks.proofs.Tables.{with_tables}
 use Rattle.inodes_on_blocks.proofs.TakeSteps.{learned_base}
 
 -- what stands behind a descriptor is open by it

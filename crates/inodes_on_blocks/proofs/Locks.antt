@@ -1,25 +1,11 @@
 -- The locks of inodes, taken and given back.
-use Rattle.std.proofs.Common.{◌≡◌, ◌≢◌, ℕ, ◌<◌, List, length-set, Option, Some, None, refl, sym, ◌∙◌, ap, subst, arith}
-use Rattle.std.specs.Prelude.{slice_get, slice_set, IsSome}
-use Rattle.std.specs.Option.{option_map, option_map_or}
-use Rattle.std.proofs.lemmas.Option.{slice_get_within}
-use Rattle.sleep_lock.specs.SleepLock.{SlotState, guard_of, taken, filled}
-use Rattle.sleep_lock.specs.Row.{lock_at as lock_row_at, lock_of}
-use Rattle.fs_layout.specs.declared.inode.Dinode.{Dinode}
-use Rattle.atomic_programs.specs.Prog.{Did, Waits, Ran}
-use Rattle.plain_tree.specs.Tree.{put}
-use Rattle.fs_machine.specs.declared.entries.Inode.{Inode}
-use Rattle.fs_machine.specs.Tables.{TablesState, place_of, references_in, holder_in, holder_at}
-use Rattle.fs_machine.specs.Inodes.{lock_inode, unlock_inode, unlock_at}
-use Rattle.fs_machine.specs.Results.{locked_as}
-use Rattle.fs_machine.specs.Soundness.{IsSoundInodes, PlaceFits, InsideFits}
-use Rattle.fs_machine.proofs.Places.{Found, found, all_placed_set}
-use Rattle.fs_machine.proofs.Locking.{lock_ran, lock_good, slot_at}
+use Rattle.inodes_on_blocks.proofs.Vocabulary.{◌≡◌, ◌≢◌, ℕ, ◌<◌, List, length-set, Option, Some, None, refl, sym, ◌∙◌, ap, subst, arith, slice_get, slice_set, IsSome, option_map, option_map_or, slice_get_within, SlotState, taken, filled, lock_row_at, lock_of, Dinode, Did, Waits, Ran, put, Inode, TablesState, place_of, references_in, holder_in, holder_at, lock_inode, unlock_inode, unlock_at, locked_as, IsSoundInodes, PlaceFits, InsideFits, found, all_placed_set, lock_ran, lock_good, lock_if, locked, PlacesShow, BothCame, loaded_of, loaded_at, loaded_in, LocksAreTaken, LocksAreGiven}
+use Rattle.sleep_lock.specs.SleepLock.{guard_of}
+use Rattle.fs_machine.proofs.Places.{Found}
+use Rattle.fs_machine.proofs.Locking.{slot_at}
 use Rattle.inode_machine.specs.Inodes.{seen_in}
 use Rattle.inode_machine.specs.World.{World}
-use Rattle.inode_machine.specs.Exec.{lock_if, locked}
-use Rattle.inodes_on_blocks.specs.ShownTables.{PlacesShow, Shows, BothCame, loaded_of, loaded_at, loaded_in}
-use Rattle.inodes_on_blocks.specs.TableLaws.{LocksAreTaken, LocksAreGiven}
+use Rattle.inodes_on_blocks.specs.ShownTables.{Shows}
 use Rattle.inodes_on_blocks.proofs.Places.{locks_set}
 
 -- a place where something stands

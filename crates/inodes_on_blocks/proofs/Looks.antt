@@ -1,30 +1,12 @@
 -- What a search of a directory's blocks finds is what its node has: under a name, and past its first two entries.
-use Rattle.std.proofs.Common.{◌≡◌, ⊎_elim, ℕ, zero, suc, ◌-◌, ◌*◌, ◌/◌, ◌<◌, ◌≤◌, nat_lt, ◌&&◌, ◌||◌, not, ℤ, pos, Bool, true, false, List, [], ◌∷◌, length, drop, get_or, Option, Some, None, is_some, refl, sym, ◌∙◌, ap, subst, arith, if◌then◌else◌}
-use Rattle.std.proofs.lemmas.Bool.{cases_lt, le-leb}
-use Rattle.std.proofs.lemmas.List.{get_or_append_left, get_or-append_right, get_or-map}
-use Rattle.directory.specs.declared.found.Found.{Found}
-use Rattle.directory.specs.Laws.{slot_at, is_sought, number_of, IsFirst}
-use Rattle.directory.specs.Programs.{Aim, Named, Entry, block_count, slot_count, is_number, is_positive, is_directory, is_live_directory}
-use Rattle.directory.specs.Slots.{is_named, is_used}
-use Rattle.directory.proofs.Searches.{found_from, found_first}
-use Rattle.fs_layout.specs.declared.inode.Dinode.{Dinode}
-use Rattle.fs_layout.specs.declared.entry.Dirent.{Dirent}
-use Rattle.fs_layout.specs.Widths.{block_len}
-use Rattle.image_tree.specs.Inodes.{inode_of, is_free, content_block, slot_at as slot_on, first_slots}
-use Rattle.inodes_on_blocks.specs.Holds.{HoldsAt, HasContent, entry_of, size_in, type_in}
+use Rattle.inodes_on_blocks.proofs.Vocabulary.{◌≡◌, ⊎_elim, ℕ, zero, suc, ◌-◌, ◌*◌, ◌/◌, ◌<◌, ◌≤◌, nat_lt, ◌&&◌, ◌||◌, not, ℤ, pos, Bool, true, false, List, [], ◌∷◌, length, drop, get_or, Option, Some, None, is_some, refl, sym, ◌∙◌, ap, subst, arith, if◌then◌else◌, cases_lt, le-leb, get_or_append_left, get_or-append_right, get_or-map, Found, is_sought, number_of, IsFirst, Aim, Named, block_count, slot_count, is_used, found_from, found_first, Dinode, Dirent, block_len, inode_of, is_free, content_block, slot_on, first_slots, HoldsAt, HasContent, entry_of, size_in, type_in, Slot, Node, Kind, Directory, File, Device, any_used, Name, first_slot, live_directory, look, same_name, same_pointwise, is_empty_kind, is_empty_node, has_name, IsFirstNamed, IsKnown, number_found, learned}
+use Rattle.directory.specs.Laws.{slot_at}
+use Rattle.directory.specs.Programs.{Entry, is_number, is_positive, is_directory, is_live_directory}
+use Rattle.directory.specs.Slots.{is_named}
 use Rattle.inodes_on_blocks.proofs.ImageNodes.{length_slots}
-use Rattle.plain_tree.specs.declared.node.Slot.{Slot}
-use Rattle.plain_tree.specs.declared.node.Node.{Node}
-use Rattle.plain_tree.specs.declared.node.Kind.{Kind}
-use Rattle.plain_tree.specs.declared.node.Kind.TheVariants.{Directory, File, Device}
 use Rattle.plain_tree.specs.Steps as steps
-use Rattle.plain_tree.specs.Steps.{any_used}
 use Rattle.plain_tree.specs.Tree as tree
-use Rattle.plain_tree.specs.Tree.{Name, first_slot, live_directory, look, same_name, slots_of}
-use Rattle.plain_tree.proofs.PathLemmas.{same_pointwise}
-use Rattle.inode_machine.specs.Inodes.{is_empty_kind, is_empty_node}
-use Rattle.inodes_on_blocks.specs.Lowering.{has_name, IsFirstNamed, IsKnown}
-use Rattle.inodes_on_blocks.specs.Reading.{number_found, learned}
+use Rattle.plain_tree.specs.Tree.{slots_of}
 
 -- ---- slots as they are read
 

@@ -1,33 +1,10 @@
 -- What an operation above is marked with changes nothing that the machine below shows.
-use Rattle.std.proofs.Common.{inl, inr, ◌≡◌, ℕ, ◌<◌, Bool, true, false, List, [], ◌∷◌, Option, Some, None, refl, sym, ◌∙◌, ap, subst, if◌then◌else◌}
-use Rattle.fs_layout.specs.declared.inode.Dinode.{Dinode}
-use Rattle.plain_tree.specs.declared.answer.Cause.{Cause}
-use Rattle.plain_tree.specs.declared.node.Node.{Node}
-use Rattle.plain_tree.specs.declared.step.Action.{Action}
-use Rattle.plain_tree.specs.declared.step.Action.TheVariants.{Open, Truncate, Read, WritePart, Find, Bump, Enter, Unbump, Unlink, Mkdir, Chdir, Dup, Close, Fstat, Inherit}
-use Rattle.plain_tree.specs.declared.tree.Hold.{Hold}
-use Rattle.plain_tree.specs.declared.tree.OpenFile.{OpenFile}
-use Rattle.plain_tree.specs.Tree.{Name, Tree, put, look, elements, resolve, parent}
+use Rattle.inodes_on_blocks.proofs.Vocabulary.{inl, inr, ◌≡◌, ℕ, ◌<◌, Bool, true, false, List, [], ◌∷◌, Option, Some, None, refl, sym, ◌∙◌, ap, subst, if◌then◌else◌, Dinode, Cause, Node, Action, OpenStep as Open, Truncate, ReadStep as Read, WritePart, Find, Bump, EnterStep as Enter, Unbump, Unlink, Mkdir, Chdir, Dup, Close, Fstat, Inherit, Hold, OpenFile, Name, Tree, put, look, elements, resolve, parent, creates, has_room, lowest, file_at, effect_with, refusal, refusal_with, path_of, hart_count, any_same, either, Walk, Move, Begin, Look, Quit, OwnMove as Own, Desk, Mark, Makes, Frees, Orphans, Fills, Mends, Spoils, sort_of, is_at, is_dead, put_elim, marked, made_by, with_made, with_opened, with_noted, with_left, spoiled, mended, act_all, new_id, unheld, unmoved, unopened, TablesState, descriptor, first, lent_by, place_with, loaded, Ghost, AreOnBlocks, log_of, tables_of, Shows, if_joined, ghost_of, on_blocks}
 use Rattle.plain_tree.specs.Steps as plain
-use Rattle.plain_tree.specs.Steps.{creates, has_room, lowest, file_at, effect_with, refusal, refusal_with, path_of}
-use Rattle.plain_tree.specs.Widths.{hart_count}
-use Rattle.tree_laws.proofs.Maps.{any_same, either}
-use Rattle.tree_laws.specs.Moves.{Walk, Move}
-use Rattle.tree_laws.specs.Moves.Move.{Begin, Look, Quit, Own}
-use Rattle.inode_machine.specs.World.{Desk, World, Mark}
-use Rattle.inode_machine.specs.World.Mark.{Makes, Frees, Orphans, Fills, Mends, Spoils}
-use Rattle.inode_machine.specs.Inodes.{sort_of}
-use Rattle.inode_machine.specs.Exec.{is_at, is_dead}
-use Rattle.inode_machine.proofs.Frame.{put_elim}
+use Rattle.inode_machine.specs.World.{World}
 use Rattle.inode_machine.specs.Marks as marks
-use Rattle.inode_machine.specs.Marks.{marked, made_by, with_made, with_opened, with_noted, with_left, spoiled, mended, act_all, new_id, unheld, unmoved, unopened}
-use Rattle.fs_machine.specs.Tables.{TablesState}
 use Rattle.inodes_on_blocks.specs.ShownTables as tables
-use Rattle.inodes_on_blocks.specs.ShownTables.{descriptor, first, lent_by, place_with, loaded}
-use Rattle.inodes_on_blocks.specs.OnBlocks.{Ghost, AreOnBlocks}
 use Rattle.inodes_on_blocks.specs.Below as below
-use Rattle.inodes_on_blocks.specs.Below.{log_of, tables_of}
-use Rattle.inodes_on_blocks.specs.Shown.{Shows, if_joined, ghost_of, on_blocks}
 use Rattle.inodes_on_blocks.proofs.News.{new_kept}
 
 -- ---- the tree keeps its number of inodes

@@ -1,42 +1,14 @@
 -- The world of a mount.
-use Rattle.std.proofs.Common.{◌≡◌, ◌≢◌, inl, inr, ℕ, zero, suc, ◌+◌, ◌<◌, Bool, true, false, ℤ, pos, negsuc, List, is_some, refl, sym, ◌∙◌, ap, subst, arith, Option, Some, None, replicate}
-use Rattle.std.proofs.lemmas.List.{get_or-replicate}
-use Rattle.std.proofs.lemmas.Option.{none-some}
-use Rattle.std.specs.Prelude.{nat_lt, ◌==◌, ◌&&◌, ◌||◌, if◌then◌else◌}
-use Rattle.fs_layout.specs.Bytes.{IsBytes}
-use Rattle.block_device.specs.Blocks.{block_at}
-use Rattle.fs_layout.specs.Recovered.{sizes_of}
+use Rattle.inodes_on_blocks.proofs.Vocabulary.{◌≡◌, ◌≢◌, inl, inr, ℕ, zero, suc, ◌+◌, ◌<◌, Bool, true, false, ℤ, pos, negsuc, List, is_some, refl, sym, ◌∙◌, ap, subst, arith, Option, Some, None, replicate, get_or-replicate, none-some, nat_lt, ◌==◌, ◌&&◌, ◌||◌, if◌then◌else◌, IsBytes, block_at, sizes_of, SeatState, is_held_by, unused_from, seen_in, sound_unused, seen_on_disk, Node, TreeData, Tree, tree_of, all_slots, settle, hart_count, root, folder, either, eq_not, same_or, inode_of, is_node, is_positive, count_of, node_of, tree_in, LogPart, fresh, is_dead, rests, idle_at_rest, loaded, is_joined, Ghost, AreOnBlocks, World, disk_of, Shows, LoadsShow, ghost_of, Stands, nothing, IsMountable, resting_log, mounted, first_world, MountsShowTheirTrees}
 use Rattle.buffer_cache.specs.Lists as lists
-use Rattle.buffer_cache.specs.Seats.{SeatState, is_held_by, unused_from, seen_in}
-use Rattle.buffer_cache.proofs.Sound.{sound_unused}
-use Rattle.group_log.proofs.Fresh.{fresh_good, seen_on_disk}
-use Rattle.plain_tree.specs.declared.node.Node.{Node}
-use Rattle.plain_tree.specs.TreeData.{TreeData}
-use Rattle.plain_tree.specs.Tree.{Tree, tree_of, all_slots, is_directory, is_live, is_named, settle}
-use Rattle.plain_tree.specs.Widths.{hart_count, root}
+use Rattle.group_log.proofs.Fresh.{fresh_good}
+use Rattle.plain_tree.specs.Tree.{is_directory, is_live, is_named}
 use Rattle.tree_laws.specs.WellFormed as trees
-use Rattle.tree_laws.specs.WellFormed.{folder}
-use Rattle.tree_laws.proofs.Maps.{either, eq_not, same_or}
-use Rattle.image_tree.specs.Inodes.{inode_of, is_node, is_positive}
 use Rattle.image_tree.specs.Inodes as inodes
-use Rattle.image_tree.specs.Trees.{count_of, kind_of, node_of, tree_in}
-use Rattle.inodes_on_blocks.proofs.HeldNamed.{image_at_rest}
-use Rattle.inodes_on_blocks.proofs.Nodes.{dead_node, live_node, ninodes_are, no_node, nodes_at}
-use Rattle.inodes_on_blocks.proofs.Trees.{tree_well}
-use Rattle.fs_machine.specs.LogPart.{LogPart}
-use Rattle.fs_machine.specs.Fresh.{fresh}
+use Rattle.image_tree.specs.Trees.{kind_of}
+use Rattle.inodes_on_blocks.proofs.Basics.{image_at_rest, dead_node, live_node, ninodes_are, no_node, nodes_at, tree_well, other_refs, fresh_tables_show, nothing_loaded, nothing_locked, mounted_ghost, mounted_on, image_shown}
 use Rattle.inode_machine.specs.World as above
-use Rattle.inode_machine.specs.Exec.{is_dead}
-use Rattle.inode_machine.proofs.Rest.{rests, idle_at_rest}
 use Rattle.inodes_on_blocks.specs.ShownTables as tables
-use Rattle.inodes_on_blocks.specs.ShownTables.{loaded}
-use Rattle.inodes_on_blocks.proofs.Fresh.{other_refs, fresh_tables_show, nothing_loaded, nothing_locked}
-use Rattle.inodes_on_blocks.specs.OnBlocks.{is_joined, Ghost, AreOnBlocks}
-use Rattle.inodes_on_blocks.specs.Below.{World, disk_of}
-use Rattle.inodes_on_blocks.specs.Shown.{Shows, LoadsShow, ghost_of}
-use Rattle.inodes_on_blocks.specs.Lowering.{Stands, nothing}
-use Rattle.inodes_on_blocks.specs.Mounted.{IsMountable, resting_log, mounted, first_world, MountsShowTheirTrees}
-use Rattle.inodes_on_blocks.proofs.Quiet.{mounted_ghost, mounted_on, image_shown}
 
 -- no buffer is in a hand
 none_held : (h n count : ℕ) → lists.count_of (is_held_by h) (unused_from n count) ≡ 0

@@ -1,34 +1,15 @@
 -- What descriptors name: doubled, shut, asked for; and the directory.
-use Rattle.std.proofs.Common.{◌≡◌, inl, inr, ℕ, ◌+◌, ◌<◌, nat_lt, Bool, true, false, if◌then◌else◌, Option, Some, None, refl, sym, ◌∙◌, ap, subst, arith}
-use Rattle.std.specs.Prelude.{List, slice_get, slice_set}
-use Rattle.std.specs.Option.{option_map}
-use Rattle.std.proofs.lemmas.Option.{none-some}
-use Rattle.fs_layout.specs.declared.inode.Dinode.{Dinode}
-use Rattle.atomic_programs.specs.Prog.{Ran}
-use Rattle.plain_tree.specs.Tree.{put}
-use Rattle.plain_tree.specs.Steps.{lowest, has_room}
-use Rattle.plain_tree.specs.Widths.{hart_count, descriptor_count}
-use Rattle.tree_laws.proofs.Maps.{same_or, put_same, put_other}
+use Rattle.inodes_on_blocks.proofs.Vocabulary.{◌≡◌, inl, inr, ℕ, ◌+◌, ◌<◌, nat_lt, Bool, true, false, if◌then◌else◌, Option, Some, None, refl, sym, ◌∙◌, ap, subst, arith, List, slice_get, slice_set, option_map, none-some, Dinode, Ran, put, lowest, has_room, hart_count, descriptor_count, same_or, put_same, put_other, FilePlace, TablesState, place_named, file_named, file_in, open_at, with_desk, unlock_inode, settle_inode, settled, directory_of, with_directory, refusal_of, mode_refuses, lock_file, lock_unless, with_file, lock_inode, moved_at, unlocked_in, LockedState, Refuses, Locks, tables_offset, double_descriptor, double_at, double_to, with_descriptor, IsSoundTables, Sort, OfDirectory, OfFile, OfDevice, face_of, face_or, Cause, Desk, Entry, LockResult, NotLocked, LocksIt, file_count, slot_at, entry_at, is_at, double_if, entry_moved, lock_if, locked, unlocked, mode_refusal, read_refused, with_offset, write_refused, Inv, opens_slots, BothCame, DeskShows, DesksShow, FilesShow, Runs, kind_of, file_of, place_with, is_taken, doubled_as, refused_as, DescriptorsAreDoubled, DirectoriesAreSettled, DescriptorsNameFiles, FitsStat, FitsRead, load_locked, FilesAreLocked, FilesAreLockedToRead, OffsetsAreMoved}
 use Rattle.fs_machine.specs.declared.desk.Desk as cards
-use Rattle.fs_machine.specs.declared.files.FilePlace.{FilePlace}
 use Rattle.fs_machine.specs.declared.files.FilePlace.TheVariants.{Open}
 use Rattle.fs_machine.specs.declared.files.Want.TheVariants as want
 use Rattle.fs_machine.specs.declared.files.OpenFile as tables
 use Rattle.fs_machine.specs.declared.slots.Doubled.TheVariants as doubled
-use Rattle.fs_machine.specs.Tables.{TablesState, place_named, file_named, file_in, open_at, with_desk}
-use Rattle.fs_machine.specs.Inodes.{unlock_inode, settle_inode, settled, directory_of, with_directory, refusal_of, mode_refuses, lock_file, lock_unless, with_file, lock_inode, moved_at, unlocked_in, LockedState, Refuses, Locks, with_offset as tables_offset}
 use Rattle.fs_machine.specs.declared.files.Refused.TheVariants as refused
-use Rattle.fs_machine.specs.Files.{double_descriptor, double_at, double_to, with_descriptor}
-use Rattle.fs_machine.specs.Soundness.{IsSoundTables}
-use Rattle.inode_machine.specs.Inodes.{Sort, OfDirectory, OfFile, OfDevice, face_of, face_or}
-use Rattle.plain_tree.specs.declared.answer.Cause.{Cause}
-use Rattle.inode_machine.specs.World.{Desk, Entry, World, LockResult, NotLocked, LocksIt}
+use Rattle.inode_machine.specs.World.{World}
 use Rattle.inode_machine.specs.Exec as above
-use Rattle.inode_machine.specs.Exec.{file_count, slot_at, entry_at, entry_of, is_at, double_if, entry_moved, lock_if, locked, unlocked, mode_refusal, read_refused, with_offset, write_refused}
-use Rattle.inode_machine.specs.Rules.{Inv}
-use Rattle.inode_machine.proofs.Rules.{opens_slots}
-use Rattle.inodes_on_blocks.specs.ShownTables.{Shows, BothCame, DeskShows, DesksShow, FilesShow, Runs, kind_of, file_of, place_with, is_taken, doubled_as, refused_as}
-use Rattle.inodes_on_blocks.specs.TableLaws.{DescriptorsAreDoubled, DirectoriesAreSettled, DescriptorsNameFiles, FitsStat, FitsRead, load_locked, FilesAreLocked, FilesAreLockedToRead, OffsetsAreMoved}
+use Rattle.inode_machine.specs.Exec.{entry_of}
+use Rattle.inodes_on_blocks.specs.ShownTables.{Shows}
 use Rattle.inodes_on_blocks.proofs.Locks.{both_ran, both_wait, by_lock, place_there, locks_are_given}
 use Rattle.inodes_on_blocks.proofs.Desks.{lenders_set, own_desk, named_is, taken_same}
 use Rattle.inodes_on_blocks.proofs.Slots.{card_set, below_is, desk_set, files_set, long_desks, long_files, empty_is}

@@ -1,36 +1,7 @@
 -- A record is put that names blocks which the hart has taken: they are the inode's then.
-use Rattle.std.proofs.Common.{◌≡◌, ◌≢◌, ◌⊎◌, inl, inr, ℕ, zero, suc, ◌<◌, ◌≤◌, ◌==◌, Bool, true, false, ◌&&◌, List, [], ◌∷◌, length, get_or, Option, Some, None, refl, sym, ◌∙◌, ap, subst, arith, eqb, if◌then◌else◌}
-use Rattle.std.specs.Prelude.{nat_lt}
-use Rattle.std.specs.List.{Contains}
-use Rattle.std.proofs.lemmas.Bool.Decides.{nat_tests}
-use Rattle.fs_layout.specs.declared.superblock.Super.{Super}
-use Rattle.fs_layout.specs.declared.inode.Dinode.{Dinode}
-use Rattle.fs_layout.specs.Inode.{IsDinode}
-use Rattle.fs_layout.specs.Recovered.{sizes_of}
-use Rattle.tree_laws.specs.WellFormed.{one_if}
-use Rattle.tree_laws.proofs.Maps.{either, same_or, eq_self, eq_not}
-use Rattle.tree_laws.proofs.Sums.{one_yes}
-use Rattle.image_tree.specs.Lists.{times}
-use Rattle.image_tree.specs.Inodes.{is_block, numbers_by, named_by, last}
-use Rattle.image_tree.specs.Checks.{IsData}
-use Rattle.inodes_on_blocks.specs.Holds.{HoldsAt, owner_upto}
-use Rattle.inodes_on_blocks.specs.Puts.{LeavesOthers}
-use Rattle.inodes_on_blocks.proofs.HeldFrames.{untouched}
-use Rattle.inodes_on_blocks.proofs.ImageBlocks.{block_true}
-use Rattle.inodes_on_blocks.proofs.Lists.{times_nil, times_cons, no_hit, times_filtered}
-use Rattle.inodes_on_blocks.proofs.SeenDisks.{good_seen}
-use Rattle.fs_machine.specs.Tables.{holder_of as lock_holder}
-use Rattle.fs_machine.specs.LogPart.{LogPart, put_block}
-use Rattle.fs_machine.specs.Shown.{seen_of}
-use Rattle.inode_table.specs.Programs.{inode_block, with_dinode}
+use Rattle.inodes_on_blocks.proofs.Vocabulary.{◌≡◌, ◌≢◌, ◌⊎◌, inl, inr, ℕ, zero, suc, ◌<◌, ◌≤◌, ◌==◌, Bool, true, false, ◌&&◌, List, [], ◌∷◌, length, get_or, Option, Some, None, refl, sym, ◌∙◌, ap, subst, arith, eqb, if◌then◌else◌, nat_lt, Contains, nat_tests, Super, Dinode, IsDinode, sizes_of, one_if, either, same_or, eq_self, eq_not, one_yes, times, is_block, numbers_by, named_by, last, IsData, HoldsAt, owner_upto, LeavesOthers, lock_holder, LogPart, put_block, seen_of, inode_block, with_dinode, is_hart, if_kept, Owners, named_of, is_named, inode_put, World, log_of, tables_of, disk_of, owners_of, CanPut, PutLeaves, Shows}
+use Rattle.inodes_on_blocks.proofs.Basics.{untouched, block_true, times_nil, times_cons, no_hit, times_filtered, good_seen, lock_range, record_put, leaves_others, taken_stays}
 use Rattle.inode_machine.specs.World as above
-use Rattle.inode_machine.specs.Rules.{is_hart, if_kept}
-use Rattle.inodes_on_blocks.specs.Owners.{Owners, named_of, is_named, inode_put}
-use Rattle.inodes_on_blocks.specs.Below.{World, log_of, tables_of, disk_of, owners_of}
-use Rattle.inodes_on_blocks.specs.Recording.{CanPut, PutLeaves}
-use Rattle.inodes_on_blocks.specs.Shown.{Shows}
-use Rattle.inodes_on_blocks.proofs.Putting.{lock_range}
-use Rattle.inodes_on_blocks.proofs.RecordPuts.{record_put, leaves_others, taken_stays}
 
 -- ---- who names a block
 

@@ -1,39 +1,11 @@
 -- The record put of an inode that a hart is changing: what it has taken and the record names is the inode's then, which holds its node.
-use Rattle.std.proofs.Common.{◌≡◌, ◌≢◌, inl, inr, ℕ, ◌<◌, ◌≤◌, Bool, true, false, List, length, Option, Some, None, refl, sym, ◌∙◌, ap, subst, arith, if◌then◌else◌}
-use Rattle.std.proofs.lemmas.Option.{none-some}
-use Rattle.fs_layout.specs.declared.inode.Dinode.{Dinode}
-use Rattle.fs_layout.specs.declared.superblock.Super.{Super}
-use Rattle.fs_layout.specs.Inode.{IsDinode}
-use Rattle.fs_layout.specs.Recovered.{sizes_of}
-use Rattle.image_tree.specs.Checks.{IsData}
-use Rattle.inodes_on_blocks.specs.Holds.{HoldsAt}
-use Rattle.inodes_on_blocks.specs.Puts.{IsInodePut}
-use Rattle.inodes_on_blocks.proofs.HeldPuts.{inode_is}
-use Rattle.inodes_on_blocks.proofs.LaidInodes.{node_held}
-use Rattle.inodes_on_blocks.proofs.SeenDisks.{good_seen}
-use Rattle.plain_tree.specs.declared.node.Node.{Node}
-use Rattle.plain_tree.specs.Tree.{put}
-use Rattle.tree_laws.proofs.Maps.{either, same_or, put_same, put_other}
-use Rattle.fs_machine.specs.Tables.{holder_of as lock_holder}
-use Rattle.fs_machine.specs.Shown.{seen_of}
-use Rattle.inode_table.specs.Programs.{inode_block}
+use Rattle.inodes_on_blocks.proofs.Vocabulary.{◌≡◌, ◌≢◌, inl, inr, ℕ, ◌<◌, ◌≤◌, Bool, true, false, List, length, Option, Some, None, refl, sym, ◌∙◌, ap, subst, arith, if◌then◌else◌, none-some, Dinode, Super, IsDinode, sizes_of, IsData, HoldsAt, IsInodePut, Node, put, either, same_or, put_same, put_other, lock_holder, seen_of, inode_block, is_hart, World, log_of, tables_of, disk_of, inode_in, owners_of, world_with, in_hand, NothingMore, Had, Has, Carry, IsLoaded, IsOpened, InHand, Base, Owners, is_named, inode_put, CanPut, IsChanging, PutLeaves, log_with, owners_with, Shows}
+use Rattle.inodes_on_blocks.proofs.Basics.{inode_is, node_held, good_seen, hart_is, is_here, through_put, open_same, open_then, lock_range, shows_put, record_put, node_then, put_hand}
 use Rattle.inode_machine.specs.World as above
 use Rattle.inode_machine.specs.Exec as above_exec
-use Rattle.inode_machine.specs.Rules.{is_hart}
-use Rattle.inodes_on_blocks.specs.Below.{World, log_of, tables_of, disk_of, inode_in, owners_of}
-use Rattle.inodes_on_blocks.specs.Giving.{world_with}
-use Rattle.inodes_on_blocks.specs.Holding.{in_hand}
-use Rattle.inodes_on_blocks.specs.Lowering.{NothingMore, Had, Has, Carry, IsLoaded, IsOpened, InHand, Base}
-use Rattle.inodes_on_blocks.specs.Owners.{Owners, is_named, inode_put}
-use Rattle.inodes_on_blocks.specs.Recording.{CanPut, IsChanging, PutLeaves, log_with, owners_with, with_record}
-use Rattle.inodes_on_blocks.specs.Shown.{Shows}
+use Rattle.inodes_on_blocks.specs.Recording.{with_record}
 use Rattle.inodes_on_blocks.proofs.Changing.{owner_with, Changing, others_put}
-use Rattle.inodes_on_blocks.proofs.Layer.{hart_is, is_here, through_put}
-use Rattle.inodes_on_blocks.proofs.OpenFiles.{open_same, open_then}
 use Rattle.inodes_on_blocks.proofs.PutLaws.{before, naming_puts_leave}
-use Rattle.inodes_on_blocks.proofs.Putting.{lock_range, shows_put}
-use Rattle.inodes_on_blocks.proofs.RecordPuts.{record_put, node_then}
-use Rattle.inodes_on_blocks.proofs.Recorded.{put_hand}
 
 -- an inode that holds a node does so for owners that are the same of the data blocks
 holds_on : (disk : List (List ℕ)) (owner owner' : ℕ → ℕ) (i : ℕ) (v : Option Node) → ((b : ℕ) → IsData (sizes_of disk) b → owner' b ≡ owner b) → HoldsAt disk owner i v → HoldsAt disk owner' i v

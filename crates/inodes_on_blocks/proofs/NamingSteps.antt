@@ -1,50 +1,14 @@
 -- An operation that puts the record of an inode that the hart was changing acts at the put.
-use Rattle.std.proofs.Common.{◌≡◌, ◌≢◌, ℕ, suc, ◌<◌, false, List, length, Option, Some, None, is_some, sym, ◌∙◌, ap, subst, arith}
-use Rattle.fs_layout.specs.declared.superblock.Super.{Super}
-use Rattle.fs_layout.specs.declared.inode.Dinode.{Dinode}
-use Rattle.fs_layout.specs.Inode.{IsDinode}
-use Rattle.fs_layout.specs.Recovered.{IsOutsideLog}
-use Rattle.buffer_cache.specs.Seats.{holder_of, kept}
-use Rattle.group_log.specs.Group.{has, HasRoom}
-use Rattle.plain_tree.specs.declared.node.Node.{Node}
-use Rattle.plain_tree.specs.Tree.{put}
-use Rattle.plain_tree.specs.Widths.{hart_count}
-use Rattle.atomic_programs.specs.Prog.{Ret, bind, Ran}
-use Rattle.atomic_programs.specs.Logic.{Laws, Machine, Wp}
-use Rattle.atomic_programs.specs.Joined.{Both, joined, Below, Lasts, Handover}
-use Rattle.atomic_programs.proofs.Sound.{Wp-weaker}
-use Rattle.atomic_programs.proofs.Joined.{Here, ToAct, to_act, may_act, Acting, s-act}
-use Rattle.fs_machine.specs.LogPart.{Outside}
-use Rattle.fs_machine.specs.Programs.{fetch}
-use Rattle.fs_machine.specs.Shown.{seen_of}
+use Rattle.inodes_on_blocks.proofs.Vocabulary.{◌≡◌, ◌≢◌, ℕ, suc, ◌<◌, false, List, length, Option, Some, None, is_some, sym, ◌∙◌, ap, subst, arith, Super, Dinode, IsDinode, IsOutsideLog, holder_of, kept, has, HasRoom, Node, put, hart_count, Ret, bind, Ran, Laws, Machine, Wp, Both, joined, Below, Lasts, Handover, Wp-weaker, Here, ToAct, to_act, may_act, Acting, s-act, Outside, fetch, seen_of, Put, inode_block, with_dinode, marked, with_mark, Inv, World, log_of, exec, KeepsRoom, world_with, in_hand, IsFetched, NothingMore, Has, Carry, below, Labels, labelled, Keeps, put_named, CanPut, IsChanging, owners_with, GivesRoom, Shows}
 use Rattle.fs_machine.specs.Steps as steps
-use Rattle.fs_machine.specs.Steps.{Put}
 use Rattle.fs_machine.specs.Premises as premises
-use Rattle.inode_table.specs.Programs.{inode_block, with_dinode}
 use Rattle.inode_machine.specs.World as above
 use Rattle.inode_machine.specs.Exec as above_exec
-use Rattle.inode_machine.specs.Marks.{marked, with_mark}
 use Rattle.inode_machine.specs.Rules as rules
-use Rattle.inode_machine.specs.Rules.{Inv}
-use Rattle.inodes_on_blocks.specs.Below.{World, log_of, exec}
-use Rattle.inodes_on_blocks.specs.Giving.{KeepsRoom, world_with}
-use Rattle.inodes_on_blocks.specs.Holding.{in_hand, IsFetched}
-use Rattle.inodes_on_blocks.specs.Lowering.{NothingMore, Has, Carry, below, Labels, labelled, Keeps}
-use Rattle.inodes_on_blocks.specs.Naming.{put_named}
-use Rattle.inodes_on_blocks.specs.Recording.{CanPut, IsChanging, owners_with, with_record}
-use Rattle.inodes_on_blocks.specs.Room.{GivesRoom}
-use Rattle.inodes_on_blocks.specs.Shown.{Shows}
+use Rattle.inodes_on_blocks.specs.Recording.{with_record}
 use Rattle.inodes_on_blocks.proofs.Changing.{Changing, left_but, left_same, changing_then}
-use Rattle.inodes_on_blocks.proofs.Fetching.{buffer_then, buffer_seen, s-fetch}
-use Rattle.inodes_on_blocks.proofs.Hands.{back_hand}
-use Rattle.inodes_on_blocks.proofs.Layer.{below_laws, base_marked}
-use Rattle.inodes_on_blocks.proofs.Loading.{inode_place}
-use Rattle.inodes_on_blocks.proofs.Marked.{marked_same, shows_marked}
+use Rattle.inodes_on_blocks.proofs.Basics.{buffer_then, buffer_seen, s-fetch, back_hand, below_laws, base_marked, inode_place, marked_same, shows_marked, same_put, lock_range, may_put, stored_long, stored_bytes, inode_home}
 use Rattle.inodes_on_blocks.proofs.NamingPuts.{naming_leaves, shows_both, base_then}
-use Rattle.inodes_on_blocks.proofs.Putting.{same_put, lock_range}
-use Rattle.inodes_on_blocks.proofs.Recorded.{may_put}
-use Rattle.inodes_on_blocks.proofs.Records.{stored_long, stored_bytes}
-use Rattle.inodes_on_blocks.proofs.RecordThen.{inode_home}
 
 module _ (sizes : Super) (l : Labels) (laws : Laws (labelled l)) (keeps : Keeps l) (h : ℕ) (lt : h < hart_count) (n : ℕ) where
   abbrev W : Type 0

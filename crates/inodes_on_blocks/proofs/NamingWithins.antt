@@ -1,20 +1,9 @@
 -- Names entered within what their call's transactions may record.
-use Rattle.std.proofs.Common.{[], ◌<◌, arith, ℕ, Bool, Option, refl}
-use Rattle.fs_layout.specs.declared.superblock.Super.{Super}
-use Rattle.plain_tree.specs.Tree.{Name}
-use Rattle.plain_tree.specs.Widths.{hart_count}
-use Rattle.atomic_programs.specs.Logic.{Laws}
-use Rattle.inode_machine.specs.Budget.{with_bitmap, with_record}
+use Rattle.inodes_on_blocks.proofs.Vocabulary.{[], ◌<◌, arith, ℕ, Bool, Option, refl, Super, Name, hart_count, Laws, with_bitmap, with_inode as with_record, Enter, Fill, Answers, IsDone, alone, enter, fill, Labels, labelled, Keeps, ActsWithin, DoesItWithin}
 use Rattle.inode_machine.specs.World as above
-use Rattle.inode_machine.specs.World.Op.{Enter, Fill}
-use Rattle.inodes_on_blocks.specs.Acting.{Answers, IsDone, alone}
-use Rattle.inodes_on_blocks.specs.Entering.{enter, fill}
-use Rattle.inodes_on_blocks.specs.Lowering.{Labels, labelled, Keeps}
-use Rattle.inodes_on_blocks.specs.Spending.{ActsWithin, DoesItWithin}
-use Rattle.inodes_on_blocks.proofs.Alone.{alone_keeps, alone_laws, lasts_done}
+use Rattle.inodes_on_blocks.proofs.Basics.{alone_keeps, alone_laws, lasts_done, both_more, record_spent}
 use Rattle.inodes_on_blocks.proofs.EnterSteps.{enter_acts}
 use Rattle.inodes_on_blocks.proofs.FillSteps.{fill_acts}
-use Rattle.inodes_on_blocks.proofs.SpentRoom.{both_more, record_spent}
 
 module _ (sizes : Super) (l : Labels) (laws : Laws (labelled l)) (keeps : Keeps l) (h : ℕ) (lt : h < hart_count) where
   pub fill_within : (n d : ℕ) (m : Bool → Option above.Mark) → ActsWithin sizes l h (Fill n d) m (fill sizes n d)

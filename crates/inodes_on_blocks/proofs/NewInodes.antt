@@ -1,23 +1,8 @@
 -- A new inode: which inodes of a block may be claimed, and what one holds once its record has a type.
-use Rattle.std.proofs.Common.{◌≡◌, inl, inr, ℕ, zero, suc, ◌+◌, ◌<◌, ◌≤◌, Bool, true, false, List, [], ◌∷◌, All, length, replicate, Some, None, refl, sym, ◌∙◌, ap, subst, arith, if◌then◌else◌}
-use Rattle.std.specs.Prelude.{get_or, Contains}
-use Rattle.std.specs.List.{find}
-use Rattle.std.proofs.lemmas.List.Elements.{Contains-append_cases}
-use Rattle.std.proofs.lemmas.Option.{none-some, same_Some}
-use Rattle.fs_layout.specs.declared.inode.Dinode.{Dinode}
-use Rattle.fs_layout.specs.Recovered.{sizes_of}
-use Rattle.fs_layout.specs.Widths.{addresses}
-use Rattle.image_tree.specs.Damage.{UpToLog}
-use Rattle.image_tree.specs.Inodes.{inode_of, is_free}
-use Rattle.image_tree.proofs.NumberLists.{numbers_by_free}
-use Rattle.inodes_on_blocks.specs.Holds.{HoldsAt, IsInode, NamesOwned, size_in}
-use Rattle.inodes_on_blocks.specs.Puts.{IsInodePut}
+use Rattle.inodes_on_blocks.proofs.Vocabulary.{◌≡◌, inl, inr, ℕ, zero, suc, ◌+◌, ◌<◌, ◌≤◌, Bool, true, false, List, [], ◌∷◌, length, replicate, Some, None, refl, sym, ◌∙◌, ap, subst, arith, if◌then◌else◌, get_or, find, Contains-append_cases, none-some, same_Some, Dinode, sizes_of, addresses, UpToLog, inode_of, is_free, numbers_by_free, HoldsAt, IsInode, NamesOwned, size_in, IsInodePut, is_free_in, free_among, new_record, blank, Sort, OfDirectory, OfFile, OfDevice, kind_of, IsMade}
+use Rattle.std.proofs.Common.{All}
+use Rattle.std.specs.Prelude.{Contains}
 use Rattle.inodes_on_blocks.proofs.LaidInodes.{node_held, empty_laid, empty_named}
-use Rattle.inode_table.specs.NewInodes.{is_free_in, free_among, new_record}
-use Rattle.inode_machine.specs.Exec.{blank}
-use Rattle.inode_machine.specs.Inodes.{Sort, OfDirectory, OfFile, OfDevice}
-use Rattle.inodes_on_blocks.specs.ShownTables.{kind_of}
-use Rattle.inodes_on_blocks.specs.Making.{IsMade}
 
 -- ---- which may be claimed
 

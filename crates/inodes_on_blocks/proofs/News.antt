@@ -1,17 +1,6 @@
 -- New inodes, which a hart has claimed and not put yet: how long they are so, and which inodes are none.
-use Rattle.std.proofs.Common.{◌≡◌, inl, inr, ℕ, ◌<◌, Bool, true, false, List, Option, Some, None, refl, sym, ◌∙◌, ap, subst, if◌then◌else◌}
-use Rattle.std.proofs.lemmas.Option.{none-some}
-use Rattle.fs_layout.specs.declared.inode.Dinode.{Dinode}
-use Rattle.fs_layout.specs.declared.superblock.Super.{Super}
-use Rattle.image_tree.specs.Inodes.{is_free}
-use Rattle.plain_tree.specs.declared.node.Node.{Node}
-use Rattle.plain_tree.specs.Tree.{put}
-use Rattle.tree_laws.proofs.Maps.{same_or, put_same, put_other}
-use Rattle.fs_machine.specs.LogPart.{LogPart}
+use Rattle.inodes_on_blocks.proofs.Vocabulary.{◌≡◌, inl, inr, ℕ, ◌<◌, Bool, true, false, List, Option, Some, None, refl, sym, ◌∙◌, ap, subst, if◌then◌else◌, none-some, Dinode, Super, is_free, Node, put, same_or, put_same, put_other, LogPart, is_joined, World, inode_in, untyped, IsNew, on_blocks, unless_new, Shows}
 use Rattle.inode_machine.specs.World as above
-use Rattle.inodes_on_blocks.specs.OnBlocks.{is_joined}
-use Rattle.inodes_on_blocks.specs.Below.{World, inode_in, untyped}
-use Rattle.inodes_on_blocks.specs.Shown.{IsNew, on_blocks, unless_new, Shows}
 
 -- no inode is new by a put
 pub untyped_less : (l : LogPart) (was : ℕ → Option ℕ) (n k : ℕ) → untyped l was n ≡ Some k → was n ≡ Some k

@@ -1,25 +1,7 @@
 -- The content of an inode's node is the bytes that its blocks have.
-use Rattle.std.proofs.Common.{◌≡◌, ◌≢◌, ℕ, ℤ, zero, suc, ◌+◌, ◌-◌, ◌*◌, ◌/◌, ◌%◌, ◌<◌, ◌^◌, ◌==◌, ◌&&◌, Bool, true, false, List, [], ◌∷◌, ◌++◌, length, take, drop, get_or, replicate, Option, Some, None, refl, sym, ap, subst, ◌∙◌, arith, if◌then◌else◌}
-use Rattle.std.specs.List.{list_all, position_or_len}
-use Rattle.std.proofs.lemmas.Option.{same_Some, none-some}
-use Rattle.std.proofs.lemmas.List.{drop-drop, length-drop, length-take, take-take, take-append-drop}
-use Rattle.fs_layout.specs.declared.inode.Dinode.{Dinode}
-use Rattle.fs_layout.specs.declared.entry.Dirent.TheVariants.{Free, Used}
-use Rattle.fs_layout.specs.Bytes.{record_at, u16_at, u16_bytes, IsBytes}
-use Rattle.fs_layout.specs.Entry.{dirent_of, free_of, used_of, name_of}
-use Rattle.fs_layout.specs.Name.{is_name, is_zero}
-use Rattle.fs_layout.proofs.Entries.{spell-dirent_of}
-use Rattle.fs_layout.proofs.Numbers.{u16_at-lt}
-use Rattle.image_tree.specs.Inodes.{inode_of, is_free, content_block, blocks_for, front_blocks}
-use Rattle.inodes_on_blocks.specs.Holds.{HoldsAt, HasContent, entry_of, size_in}
-use Rattle.plain_tree.specs.declared.node.Slot.{Slot}
-use Rattle.plain_tree.specs.declared.node.Node.{Node}
-use Rattle.plain_tree.specs.declared.node.Kind.{Kind}
-use Rattle.plain_tree.specs.declared.node.Kind.TheVariants.{Directory, File, Device}
-use Rattle.plain_tree.specs.Steps.{content, entries, entry_bytes}
-use Rattle.inode_data.proofs.ContentFronts.{block_there, drop_of_take, front, length-front}
-use Rattle.inodes_on_blocks.proofs.Looks.{shown}
-use Rattle.inodes_on_blocks.proofs.Records.{take_bytes, drop_bytes}
+use Rattle.inodes_on_blocks.proofs.Vocabulary.{◌≡◌, ◌≢◌, ℕ, ℤ, zero, suc, ◌+◌, ◌-◌, ◌*◌, ◌/◌, ◌%◌, ◌<◌, ◌^◌, ◌==◌, ◌&&◌, Bool, true, false, List, [], ◌∷◌, ◌++◌, length, take, drop, get_or, replicate, Option, Some, None, refl, sym, ap, subst, ◌∙◌, arith, if◌then◌else◌, list_all, position_or_len, same_Some, none-some, drop-drop, length-drop, take-take, take-append-drop, Dinode, Free, Used, record_at, u16_at, u16_bytes, IsBytes, dirent_of, free_of, used_of, name_of, is_name, is_zero, spell-dirent_of, u16_at-lt, inode_of, is_free, content_block, blocks_for, front_blocks, HoldsAt, HasContent, entry_of, size_in, Slot, Node, Kind, Directory, File, Device, content, entries, entry_bytes, block_there, drop_of_take, front, length-front}
+use Rattle.std.proofs.lemmas.List.{length-take}
+use Rattle.inodes_on_blocks.proofs.Basics.{shown, take_bytes, drop_bytes}
 
 -- ---- a slot's bytes
 

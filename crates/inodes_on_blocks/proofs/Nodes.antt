@@ -1,24 +1,8 @@
 -- The nodes of the tree that an image holds, and their slots.
-use Rattle.std.proofs.Common.{◌≡◌, ⊎_elim, ℕ, zero, suc, ◌<◌, ◌≤◌, true, false, ℤ, pos, negsuc, eqb, inl, inr, refl, sym, ◌∙◌, ap, arith, List, [], ◌∷◌, length, length-append, drop, get_or, Option, Some, None}
-use Rattle.std.specs.Prelude.{nat_lt}
-use Rattle.std.proofs.lemmas.Bool.{false≢true, false_from_ne_true, cases_lt, eqb-true}
-use Rattle.std.proofs.lemmas.List.{get_or_past, get_or_append_left, get_or_at}
-use Rattle.fs_layout.specs.declared.inode.Dinode.{Dinode}
-use Rattle.fs_layout.specs.Recovered.{sizes_of}
-use Rattle.plain_tree.specs.declared.node.Node.{Node}
-use Rattle.plain_tree.specs.declared.node.Kind.{Kind}
-use Rattle.plain_tree.specs.declared.node.Kind.TheVariants.{Directory}
-use Rattle.plain_tree.specs.Tree.{tree_of, is_directory, live_directory}
-use Rattle.image_tree.specs.Lists.{times}
-use Rattle.image_tree.specs.Inodes.{inode_of, is_number, is_positive, is_live, is_node, is_live_directory}
+use Rattle.inodes_on_blocks.proofs.Vocabulary.{◌≡◌, ⊎_elim, ℕ, zero, suc, ◌<◌, ◌≤◌, true, false, ℤ, pos, negsuc, eqb, inl, inr, refl, sym, ◌∙◌, ap, arith, List, [], ◌∷◌, length, length-append, drop, get_or, Option, Some, None, nat_lt, false≢true, false_from_ne_true, cases_lt, eqb-true, get_or_past, get_or_append_left, get_or_at, Dinode, sizes_of, Node, Kind, Directory, tree_of, live_directory, times, inode_of, is_number, is_positive, is_live, is_node, is_live_directory, slots_in, slot_numbers, further_in, is_file, count_of, node_of, first_nodes, tree_in, node_is, node_from, directory_is, directory_from, Slots, folder, past, count_in, either, folder_dead, count_nil}
+use Rattle.plain_tree.specs.Tree.{is_directory}
 use Rattle.image_tree.specs.Inodes as inodes
-use Rattle.image_tree.specs.Links.{slots_in, slot_numbers, further_in}
-use Rattle.image_tree.specs.Trees.{is_file, kind_of, count_of, node_of, first_nodes, tree_in}
-use Rattle.image_tree.proofs.Nodes.{node_is, node_from, directory_is, directory_from}
-use Rattle.tree_laws.specs.WellFormed.{Slots, folder, past, count_in}
-use Rattle.tree_laws.proofs.Maps.{either}
-use Rattle.tree_laws.proofs.Nodes.{folder_dead}
-use Rattle.tree_laws.proofs.Sums.{count_nil}
+use Rattle.image_tree.specs.Trees.{kind_of}
 use Rattle.inodes_on_blocks.proofs.ImageSlots.{Entries, in_tree, past_in_tree, counts_same}
 
 -- ---- the nodes by number

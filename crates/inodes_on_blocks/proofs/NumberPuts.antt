@@ -1,34 +1,11 @@
 -- A block that was taken for an inode comes to be named: in the record that will be put, or in the indirect block.
-use Rattle.std.proofs.Common.{◌≡◌, ◌≢◌, ℕ, zero, suc, ◌+◌, ◌-◌, ◌*◌, ◌^◌, ◌<◌, ◌≤◌, nat_lt, Bool, true, false, List, [], ◌∷◌, ◌++◌, length, length-set, Option, sym, ◌∙◌, ap, subst, arith, get_or-set_same, if◌then◌else◌, refl}
-use Rattle.std.specs.Prelude.{slice_index, slice_set}
-use Rattle.std.specs.List.{AllByRecursion}
-use Rattle.std.proofs.lemmas.Bool.Decides.{nat_tests}
-use Rattle.std.proofs.lemmas.List.{get_or_append_left, get_or-append_right}
-use Rattle.fs_layout.specs.declared.inode.Dinode.{Dinode}
-use Rattle.fs_layout.specs.Bytes.{IsBytes, u32_bytes}
-use Rattle.fs_layout.specs.Indirect.{numbers_in}
-use Rattle.fs_layout.specs.Inode.{IsDinode}
-use Rattle.fs_layout.specs.Recovered.{recovered}
-use Rattle.fs_layout.proofs.Numbers.{length-u32_bytes, length-u32s_at}
-use Rattle.fs_layout.proofs.Overwrites.{length-overwrite}
-use Rattle.fs_layout.proofs.Words.{u32s_at-write}
-use Rattle.image_tree.specs.Inodes.{numbers_of, block_number, indirect_numbers}
-use Rattle.image_tree.proofs.NumberLists.{numbers_with}
-use Rattle.inodes_on_blocks.specs.Holds.{NamesOwned}
-use Rattle.inodes_on_blocks.specs.Puts.{IsLaidOut}
+use Rattle.inodes_on_blocks.proofs.Vocabulary.{◌≡◌, ◌≢◌, ℕ, zero, suc, ◌+◌, ◌-◌, ◌*◌, ◌^◌, ◌<◌, ◌≤◌, nat_lt, Bool, true, false, List, [], ◌∷◌, ◌++◌, length, length-set, Option, sym, ◌∙◌, ap, subst, arith, get_or-set_same, if◌then◌else◌, refl, slice_index, slice_set, AllByRecursion, nat_tests, get_or_append_left, get_or-append_right, Dinode, IsBytes, u32_bytes, numbers_in, IsDinode, recovered, length-u32_bytes, length-u32s_at, length-overwrite, u32s_at-write, numbers_of, block_number, indirect_numbers, numbers_with, NamesOwned, IsLaidOut, Node, zeros, with_address, World, log_of, disk_of, world_with, Carry, Shows}
 use Rattle.inodes_on_blocks.proofs.LaidNumbers.{direct_named, table_named, number_named}
-use Rattle.plain_tree.specs.declared.node.Node.{Node}
-use Rattle.bitmap_alloc.specs.Bytes.{zeros}
-use Rattle.inode_data.specs.Writing.{with_address, with_number}
+use Rattle.inode_data.specs.Writing.{with_number}
 use Rattle.inode_machine.specs.World as above
-use Rattle.inodes_on_blocks.specs.Below.{World, log_of, disk_of}
-use Rattle.inodes_on_blocks.specs.Giving.{world_with}
-use Rattle.inodes_on_blocks.specs.Lowering.{Carry}
-use Rattle.inodes_on_blocks.specs.Shown.{Shows}
 use Rattle.inodes_on_blocks.proofs.Changing.{owner_with, Changing, others_put}
-use Rattle.inodes_on_blocks.proofs.Layer.{through_put}
+use Rattle.inodes_on_blocks.proofs.Basics.{through_put, overwrite_bytes, u32s}
 use Rattle.inodes_on_blocks.proofs.OwnPuts.{IsOwnPut}
-use Rattle.inodes_on_blocks.proofs.Records.{overwrite_bytes, u32s}
 use Rattle.inodes_on_blocks.proofs.Taking.{HasSpare}
 
 -- ---- records

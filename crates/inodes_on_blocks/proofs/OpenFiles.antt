@@ -1,13 +1,7 @@
 -- The open file by which a hart has locked an inode: it is behind its descriptor still, with its offset.
-use Rattle.std.proofs.Common.{◌≡◌, ℕ, ◌<◌, Some, None, refl, ◌∙◌, ap}
-use Rattle.plain_tree.specs.declared.tree.OpenFile.{OpenFile}
-use Rattle.plain_tree.specs.Tree.{put}
-use Rattle.plain_tree.specs.Widths.{descriptor_count}
-use Rattle.tree_laws.proofs.Maps.{put_same}
+use Rattle.inodes_on_blocks.proofs.Vocabulary.{◌≡◌, ℕ, ◌<◌, Some, None, refl, ◌∙◌, ap, OpenFile, put, descriptor_count, put_same, Desk, Entry, Kept, NothingMore, Finds, Opened, Had, Apart, Has, Emptied, IsOpened}
 use Rattle.inode_machine.specs.World as above
-use Rattle.inode_machine.specs.World.{Desk, Entry}
 use Rattle.inode_machine.specs.Rules.{Own}
-use Rattle.inodes_on_blocks.specs.Lowering.{Kept, NothingMore, Finds, Opened, Had, Apart, Has, Emptied, IsOpened}
 
 -- A descriptor of hart h that has inode i open has it open still, by the same file.
 abbrev pub OpenStays : ℕ → ℕ → above.World → above.World → Type 0

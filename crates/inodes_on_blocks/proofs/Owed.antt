@@ -1,20 +1,8 @@
 -- A reference in hand is one that the tables don't have.
-use Rattle.std.proofs.Common.{◌≡◌, inl, inr, ℕ, zero, suc, ◌+◌, ◌<◌, ◌≤◌, ◌==◌, Bool, true, false, cond, List, [], ◌∷◌, length, Option, Some, None, refl, sym, ◌∙◌, ap, subst, arith}
-use Rattle.std.specs.Prelude.{slice_get, count_by}
-use Rattle.std.proofs.lemmas.Option.{same_Some, slice_get_within}
-use Rattle.std.proofs.lemmas.List.Sums.{sum_by-cons}
-use Rattle.fs_layout.specs.declared.inode.Dinode.{Dinode}
-use Rattle.plain_tree.specs.Widths.{hart_count}
-use Rattle.tree_laws.specs.WellFormed.{sum_below, one_if}
-use Rattle.tree_laws.proofs.Maps.{same_or, eq_not, eq_self}
-use Rattle.tree_laws.proofs.Sums.{one_yes, one_no}
+use Rattle.inodes_on_blocks.proofs.Vocabulary.{◌≡◌, inl, inr, ℕ, zero, suc, ◌+◌, ◌<◌, ◌≤◌, ◌==◌, Bool, true, false, cond, List, [], ◌∷◌, length, Option, Some, None, refl, sym, ◌∙◌, ap, subst, arith, slice_get, count_by, same_Some, slice_get_within, sum_by-cons, Dinode, hart_count, sum_below, one_if, same_or, eq_not, eq_self, one_yes, one_no, FilePlace, TablesState, owed, references_of, is_file_of, is_directory_of, Entry, Inv, Spares, number_is, place_with, is_taken}
 use Rattle.fs_machine.specs.declared.desk.Desk as cards
-use Rattle.fs_machine.specs.declared.files.FilePlace.{FilePlace}
-use Rattle.fs_machine.specs.Tables.{TablesState, owed, references_of, is_file_of, is_directory_of}
-use Rattle.inode_machine.specs.World.{Entry, World}
-use Rattle.inode_machine.specs.Rules.{Inv, Spares, number_is}
+use Rattle.inode_machine.specs.World.{World}
 use Rattle.inodes_on_blocks.specs.ShownTables as tables
-use Rattle.inodes_on_blocks.specs.ShownTables.{place_with, is_taken}
 
 -- ---- sums
 

@@ -1,35 +1,11 @@
 -- A block put for an inode that a hart is changing, from what is known of the inode before the put to what is known behind it.
-use Rattle.std.proofs.Common.{◌≡◌, ◌≢◌, ℕ, suc, ◌<◌, List, length, Option, Some, is_some, refl, sym, ◌∙◌, ap, subst, if◌then◌else◌}
-use Rattle.fs_layout.specs.declared.superblock.Super.{Super}
-use Rattle.fs_layout.specs.Bytes.{IsBytes}
-use Rattle.fs_layout.specs.Recovered.{recovered, sizes_of}
-use Rattle.buffer_cache.specs.Seats.{holder_of}
-use Rattle.image_tree.specs.Checks.{IsData}
-use Rattle.inodes_on_blocks.specs.Puts.{IsPut}
-use Rattle.inodes_on_blocks.proofs.SeenDisks.{good_seen}
-use Rattle.plain_tree.specs.Widths.{hart_count}
-use Rattle.atomic_programs.specs.Prog.{Do, unmarked}
-use Rattle.atomic_programs.specs.Logic.{Machine, Laws, P, Wp}
-use Rattle.atomic_programs.specs.Joined.{Both, joined}
-use Rattle.atomic_programs.proofs.Joined.{Stable}
-use Rattle.fs_machine.specs.Shown.{seen_of}
-use Rattle.fs_machine.specs.Steps.{Put}
+use Rattle.inodes_on_blocks.proofs.Vocabulary.{◌≡◌, ◌≢◌, ℕ, suc, ◌<◌, List, length, Option, Some, is_some, refl, sym, ◌∙◌, ap, subst, if◌then◌else◌, Super, IsBytes, recovered, sizes_of, holder_of, IsData, IsPut, hart_count, Do, unmarked, Machine, Laws, P, Wp, Both, joined, Stable, seen_of, Put, if_kept, is_hart, Inv, World, log_of, disk_of, world_with, KeepsRoom, in_hand, HasBuffer, Kept, buffer_in, below, Labels, labelled, Keeps, CanPut, IsChanging, PutLeaves, log_with, owners_with, Shows}
+use Rattle.inodes_on_blocks.proofs.Basics.{good_seen, buffer_then, buffer_seen, same_view, below_laws, disk_put, put_bytes, old_bytes, put_hand}
 use Rattle.inode_machine.specs.World as above
-use Rattle.inode_machine.specs.Rules.{if_kept, is_hart, Inv}
-use Rattle.inodes_on_blocks.specs.Below.{World, log_of, disk_of}
-use Rattle.inodes_on_blocks.specs.Giving.{world_with, KeepsRoom}
-use Rattle.inodes_on_blocks.specs.Holding.{in_hand, HasBuffer}
-use Rattle.inodes_on_blocks.specs.Lowering.{Kept, buffer_in, below, Labels, labelled, Keeps}
-use Rattle.inodes_on_blocks.specs.Recording.{CanPut, IsChanging, PutLeaves, log_with, owners_with}
-use Rattle.inodes_on_blocks.specs.Shown.{Shows}
 use Rattle.inodes_on_blocks.proofs.Changing.{owner_with, LeftTo, left_same, data_owners}
 use Rattle.inodes_on_blocks.proofs.DataPuts.{data_home, own_or_taken}
-use Rattle.inodes_on_blocks.proofs.Fetching.{buffer_then, buffer_seen}
-use Rattle.inodes_on_blocks.proofs.Hands.{same_view}
-use Rattle.inodes_on_blocks.proofs.Layer.{below_laws}
 use Rattle.inodes_on_blocks.proofs.PutLaws.{data_puts_leave}
 use Rattle.inodes_on_blocks.proofs.PutSteps.{s-put}
-use Rattle.inodes_on_blocks.proofs.Recorded.{disk_put, put_bytes, old_bytes, put_hand}
 
 -- What such a put makes of the disk: the block alone is other, and whose the blocks are stays. It could be put with any bytes.
 pub record IsOwnPut (h n b : ℕ) (old bytes : List ℕ) (r : World) : Type 0 where

@@ -1,22 +1,8 @@
 -- The block numbers of an inode in the order in which their blocks are given back: its own, those in its indirect block, and that block's.
-use Rattle.std.proofs.Common.{◌≡◌, ◌≢◌, inl, inr, ℕ, zero, suc, ◌+◌, ◌≤◌, ◌==◌, List, [], ◌∷◌, ◌++◌, Contains, length, take, filter, slice_index, refl, sym, ◌∙◌, ap, subst, arith}
-use Rattle.std.proofs.lemmas.List.Elements.{Contains-append_left, Contains-append_right, Contains-append_cases}
-use Rattle.fs_layout.specs.declared.inode.Dinode.{Dinode}
-use Rattle.fs_layout.specs.declared.superblock.Super.{Super}
-use Rattle.fs_layout.specs.Recovered.{sizes_of}
-use Rattle.plain_tree.specs.declared.node.Node.{Node}
-use Rattle.tree_laws.proofs.Maps.{eq_self}
-use Rattle.tree_laws.proofs.Sums.{one_yes}
-use Rattle.image_tree.specs.Checks.{IsData}
-use Rattle.image_tree.specs.Inodes.{is_block, indirect_numbers, numbers_of}
-use Rattle.image_tree.specs.Lists.{times}
-use Rattle.inodes_on_blocks.specs.Holds.{IsOwned, NamesOwned}
-use Rattle.inodes_on_blocks.specs.Puts.{IsLaidOut}
+use Rattle.inodes_on_blocks.proofs.Vocabulary.{◌≡◌, ◌≢◌, inl, inr, ℕ, zero, suc, ◌+◌, ◌≤◌, ◌==◌, List, [], ◌∷◌, ◌++◌, length, take, filter, slice_index, refl, sym, ◌∙◌, ap, subst, arith, Contains-append_left, Contains-append_right, Contains-append_cases, Dinode, Super, sizes_of, Node, eq_self, one_yes, IsData, is_block, indirect_numbers, numbers_of, times, IsOwned, NamesOwned, IsLaidOut, table_of, direct, Avoids, Owns}
+use Rattle.std.proofs.Common.{Contains}
 use Rattle.inodes_on_blocks.proofs.ImageBlocks.{block_true, once_times}
 use Rattle.inodes_on_blocks.proofs.Lists.{times_cons, times_filtered, times_nil}
-use Rattle.inode_data.specs.Addresses.{table_of}
-use Rattle.inode_data.specs.Widths.{direct}
-use Rattle.inodes_on_blocks.specs.Giving.{Avoids, Owns}
 
 -- ---- numbers that stand once
 

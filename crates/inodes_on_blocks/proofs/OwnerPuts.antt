@@ -1,23 +1,7 @@
 -- Whose the blocks are after a put of an inode's data block, and after one of the bitmap that sets or clears a bit.
-use Rattle.std.proofs.Common.{◌≡◌, ◌≢◌, ◌⊎◌, inl, inr, ℕ, ◌<◌, ◌≤◌, Bool, true, false, ◌||◌, not, List, length, Option, Some, None, refl, sym, ◌∙◌, ap, subst, arith, if◌then◌else◌}
-use Rattle.std.proofs.lemmas.Option.{same_Some}
-use Rattle.fs_layout.specs.declared.superblock.Super.{Super}
-use Rattle.fs_layout.specs.Recovered.{sizes_of, IsOutsideLog}
-use Rattle.tree_laws.proofs.Maps.{either, same_or, eq_self, eq_not, put_same, put_other}
-use Rattle.plain_tree.specs.Tree.{put}
-use Rattle.image_tree.specs.Checks.{IsData, is_marked}
-use Rattle.inodes_on_blocks.specs.Puts.{IsPut, IsBitPut, IsUntouched}
-use Rattle.inodes_on_blocks.proofs.HeldPuts.{data_leaves, taken, given_back}
-use Rattle.inodes_on_blocks.proofs.SeenDisks.{good_seen}
-use Rattle.fs_machine.specs.LogPart.{LogPart, put_block}
-use Rattle.fs_machine.specs.Shown.{seen_of}
+use Rattle.inodes_on_blocks.proofs.Vocabulary.{◌≡◌, ◌≢◌, ◌⊎◌, inl, inr, ℕ, ◌<◌, ◌≤◌, Bool, true, false, ◌||◌, not, List, length, Option, Some, None, refl, sym, ◌∙◌, ap, subst, arith, if◌then◌else◌, same_Some, Super, sizes_of, IsOutsideLog, either, same_or, eq_self, eq_not, put_same, put_other, put, IsData, is_marked, IsPut, IsBitPut, IsUntouched, LogPart, put_block, seen_of, if_kept, Owners, bits_put, World, log_of, disk_of, owners_of, CanPut, PutLeaves, Shows}
+use Rattle.inodes_on_blocks.proofs.Basics.{data_leaves, taken, given_back, good_seen, disk_put, seen_put_other}
 use Rattle.inode_machine.specs.World as above
-use Rattle.inode_machine.specs.Rules.{if_kept}
-use Rattle.inodes_on_blocks.specs.Owners.{Owners, bits_put}
-use Rattle.inodes_on_blocks.specs.Below.{World, log_of, disk_of, owners_of}
-use Rattle.inodes_on_blocks.specs.Recording.{CanPut, PutLeaves}
-use Rattle.inodes_on_blocks.specs.Shown.{Shows}
-use Rattle.inodes_on_blocks.proofs.Recorded.{disk_put, seen_put_other}
 
 -- an inode is left so with owners that are the same of each data block
 owners_alike : (disk new : List (List ℕ)) (o p q : ℕ → ℕ) (j : ℕ) → IsUntouched disk new o p j → ((c : ℕ) → IsData (sizes_of disk) c → q c ≡ p c) → IsUntouched disk new o q j

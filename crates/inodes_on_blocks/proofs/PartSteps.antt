@@ -1,46 +1,12 @@
 -- A part of a content is written into its next block, which is found or taken for it, by a hart that is changing the inode. Nothing of it is seen above.
-use Rattle.std.proofs.Common.{◌≡◌, ◌≢◌, ℕ, suc, ◌+◌, ◌-◌, ◌%◌, ◌<◌, ◌≤◌, nat_lt, Bool, true, false, List, length, length-take, Option, Some, None, sym, ◌∙◌, ap, subst, arith, if◌then◌else◌}
-use Rattle.fs_layout.specs.declared.inode.Dinode.{Dinode}
-use Rattle.fs_layout.specs.declared.superblock.Super.{Super}
-use Rattle.fs_layout.specs.Bytes.{IsBytes}
-use Rattle.fs_layout.proofs.Overwrites.{length-overwrite}
-use Rattle.image_tree.specs.Checks.{IsData}
-use Rattle.image_tree.specs.Inodes.{numbers_of, block_number}
-use Rattle.inodes_on_blocks.specs.Holds.{IsOwned, NamesOwned}
-use Rattle.inodes_on_blocks.specs.Puts.{IsLaidOut, Becomes}
-use Rattle.inodes_on_blocks.proofs.ImageNodes.{at_index}
-use Rattle.inodes_on_blocks.proofs.SeenDisks.{good_seen}
-use Rattle.plain_tree.specs.declared.node.Node.{Node}
-use Rattle.plain_tree.specs.Widths.{hart_count}
-use Rattle.atomic_programs.specs.Prog.{bind}
-use Rattle.atomic_programs.specs.Logic.{Machine, Laws, P, Wp}
-use Rattle.atomic_programs.specs.Joined.{Both, joined}
-use Rattle.atomic_programs.proofs.Joined.{Stable}
-use Rattle.atomic_programs.proofs.Prog.{bind-assoc}
-use Rattle.atomic_programs.proofs.Sound.{Wp-more}
-use Rattle.fs_machine.specs.Programs.{fetch}
-use Rattle.fs_machine.specs.Shown.{seen_of}
-use Rattle.inode_data.specs.declared.locate.Located.{Located}
-use Rattle.inode_data.specs.Addresses.{table_of}
-use Rattle.inode_data.specs.Writing.{WriteResult, front_of, with_part, put_part, write_in, write_located, locate}
-use Rattle.inode_machine.specs.Budget.{Spent, size, with_number as with_block, most_recorded}
+use Rattle.inodes_on_blocks.proofs.Vocabulary.{◌≡◌, ◌≢◌, ℕ, suc, ◌+◌, ◌-◌, ◌%◌, ◌<◌, ◌≤◌, nat_lt, Bool, true, false, List, length, length-take, Option, Some, None, sym, ◌∙◌, ap, subst, arith, if◌then◌else◌, Dinode, Super, IsBytes, length-overwrite, IsData, numbers_of, block_number, IsOwned, NamesOwned, IsLaidOut, Becomes, Node, hart_count, bind, Machine, Laws, P, Wp, Both, joined, Stable, bind-assoc, Wp-more, fetch, seen_of, Located, table_of, WriteResult, front_of, with_part, put_part, write_in, write_located, locate, Spent, size, with_number as with_block, most_recorded, Inv, World, log_of, disk_of, KeepsRoom, world_with, Kept, Carry, below, Labels, labelled, Keeps, IsChanging, log_with, Shows}
+use Rattle.inodes_on_blocks.proofs.Basics.{at_index, good_seen, HasBlocks, extra, number_new, block_room, s-fetch, below_laws, empty_hand, overwrite_bytes, take_bytes}
 use Rattle.inode_machine.specs.World as above
-use Rattle.inode_machine.specs.Rules.{Inv}
-use Rattle.inodes_on_blocks.specs.Below.{World, log_of, disk_of}
-use Rattle.inodes_on_blocks.specs.Giving.{KeepsRoom, world_with}
-use Rattle.inodes_on_blocks.specs.Lowering.{Kept, Carry, below, Labels, labelled, Keeps}
-use Rattle.inodes_on_blocks.specs.Recording.{IsChanging, log_with}
-use Rattle.inodes_on_blocks.specs.Shown.{Shows}
-use Rattle.inodes_on_blocks.proofs.BlocksRoom.{HasBlocks, extra, number_new, block_room}
 use Rattle.inodes_on_blocks.proofs.Changing.{owner_with, LeftTo, Changing, left_but, changing_then, changed_put, numbers_stay}
 use Rattle.inodes_on_blocks.proofs.DataPuts.{data_home}
-use Rattle.inodes_on_blocks.proofs.Fetching.{s-fetch}
-use Rattle.inodes_on_blocks.proofs.Layer.{below_laws}
-use Rattle.inodes_on_blocks.proofs.Loading.{empty_hand}
 use Rattle.inodes_on_blocks.proofs.LocateSteps.{Between, Fits, Found, locate_steps, s-locate}
 use Rattle.inodes_on_blocks.proofs.NumberPuts.{sized}
 use Rattle.inodes_on_blocks.proofs.OwnPuts.{IsOwnPut, s-own}
-use Rattle.inodes_on_blocks.proofs.Records.{overwrite_bytes, take_bytes}
 
 -- ---- bytes
 

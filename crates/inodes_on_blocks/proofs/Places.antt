@@ -1,19 +1,8 @@
 -- Where inodes have their places after an entry or a lock changed.
-use Rattle.fs_layout.specs.declared.inode.Dinode.{Dinode}
-use Rattle.std.proofs.Common.{◌≡◌, ◌≢◌, ◌⊎◌, inl, inr, ℕ, ◌<◌, List, length, Option, Some, None, refl, sym, ◌∙◌, ap, subst}
-use Rattle.std.specs.Prelude.{slice_get, slice_set}
-use Rattle.std.proofs.lemmas.Option.{same_Some, none-some}
-use Rattle.sleep_lock.specs.SleepLock.{SlotState}
-use Rattle.sleep_lock.proofs.Lists.{slice_get-set_same, slice_get-set_other}
-use Rattle.plain_tree.specs.Tree.{put}
-use Rattle.tree_laws.proofs.Maps.{same_or, put_same, put_other}
+use Rattle.inodes_on_blocks.proofs.Vocabulary.{Dinode, ◌≡◌, ◌≢◌, ◌⊎◌, inl, inr, ℕ, ◌<◌, List, length, Option, Some, None, refl, sym, ◌∙◌, ap, subst, slice_get, slice_set, same_Some, none-some, SlotState, slice_get-set_same, slice_get-set_other, put, same_or, put_same, put_other, Inode, place_of, references_in, references_at, holder_in, holder_at, found, placed, at_set, PlacesShow, loaded_of, loaded_in, loaded_at}
 use Rattle.fs_machine.specs.declared.entries.Entry.{Entry}
-use Rattle.fs_machine.specs.declared.entries.Inode.{Inode}
-use Rattle.fs_machine.specs.Tables.{place_of, references_in, references_at, holder_in, holder_at}
 use Rattle.fs_machine.specs.Soundness.{IsOnce}
-use Rattle.fs_machine.proofs.Places.{Found, found, placed}
-use Rattle.fs_machine.proofs.Counting.{at_set}
-use Rattle.inodes_on_blocks.specs.ShownTables.{PlacesShow, loaded_of, loaded_in, loaded_at}
+use Rattle.fs_machine.proofs.Places.{Found}
 
 -- Place k's entry changed, which is of inode n, or free.
 module _ (entries : List Entry) (k n : ℕ) (e f : Entry) (there : slice_get entries k ≡ Some e) (was : 0 < e.references → e.number ≡ n) (is : 0 < f.references → f.number ≡ n) (once : IsOnce entries) (once_then : IsOnce (slice_set entries k f)) where

@@ -1,23 +1,8 @@
 -- The laws of recorded puts.
-use Rattle.std.proofs.Common.{◌≡◌, inl, inr, ℕ, ◌<◌, true, List, length, Option, refl, sym, subst, arith, ◌≢◌, false, Some, None, ◌∙◌}
-use Rattle.std.specs.Prelude.{nat_lt}
-use Rattle.std.proofs.lemmas.Bool.Decides.{nat_tests}
-use Rattle.fs_layout.specs.declared.superblock.Super.{Super}
-use Rattle.tree_laws.proofs.Maps.{either, eq_self, eq_not}
-use Rattle.std.specs.List.{Contains}
-use Rattle.image_tree.specs.Inodes.{numbers_by}
-use Rattle.inodes_on_blocks.specs.Holds.{HoldsAt}
-use Rattle.inodes_on_blocks.proofs.SeenDisks.{good_seen}
-use Rattle.fs_machine.specs.Tables.{holder_of as lock_holder}
-use Rattle.fs_machine.specs.Shown.{seen_of}
+use Rattle.inodes_on_blocks.proofs.Vocabulary.{◌≡◌, inl, inr, ℕ, ◌<◌, true, List, length, Option, refl, sym, subst, arith, ◌≢◌, false, Some, None, ◌∙◌, nat_lt, nat_tests, Super, either, eq_self, eq_not, Contains, numbers_by, HoldsAt, lock_holder, seen_of, inode_block, Owners, inode_put, owners_put, log_of, tables_of, disk_of, owners_of, PutLeaves, log_with, owners_with, RecordedPutsKeep, DataPutsLeave, ClearedBitsLeave, SetBitsLeave, RecordPutsLeave, NamingPutsLeave}
+use Rattle.inodes_on_blocks.proofs.Basics.{good_seen, may_put, same_put, shows_put, lock_range, quiet_owners, quiet_leaves}
 use Rattle.fs_machine.specs.Steps as steps
-use Rattle.inode_table.specs.Programs.{inode_block}
-use Rattle.inodes_on_blocks.specs.Owners.{Owners, inode_put, owners_put}
-use Rattle.inodes_on_blocks.specs.Below.{log_of, tables_of, disk_of, owners_of}
-use Rattle.inodes_on_blocks.specs.Recording.{PutLeaves, log_with, owners_with, with_record, RecordedPutsKeep, DataPutsLeave, ClearedBitsLeave, SetBitsLeave, RecordPutsLeave, NamingPutsLeave}
-use Rattle.inodes_on_blocks.proofs.Recorded.{may_put}
-use Rattle.inodes_on_blocks.proofs.Putting.{same_put, shows_put, lock_range}
-use Rattle.inodes_on_blocks.proofs.RecordPuts.{quiet_owners, quiet_leaves}
+use Rattle.inodes_on_blocks.specs.Recording.{with_record}
 use Rattle.inodes_on_blocks.proofs.NamedPuts.{named_leaves, named_here}
 use Rattle.inodes_on_blocks.proofs.OwnerPuts.{give_leaves, take_leaves, taken_here, data_put_leaves}
 

@@ -1,55 +1,12 @@
 -- A block put between two operations above, recorded, and a block of an inode given back: nothing of it is seen above.
-use Rattle.std.proofs.Common.{◌≡◌, ◌≢◌, ℕ, zero, suc, ◌-◌, ◌/◌, ◌%◌, ◌^◌, ◌<◌, ◌≤◌, true, false, List, [], ◌∷◌, length, length-set, Option, Some, None, bit_and, inl, inr, refl, sym, ◌∙◌, ap, subst, arith, is_some}
-use Rattle.std.specs.Prelude.{slice_index, slice_set}
-use Rattle.std.proofs.lemmas.Nat.{and_le_l}
-use Rattle.std.specs.Option.{option_map, option_and_then}
-use Rattle.fs_layout.specs.declared.superblock.Super.{Super}
-use Rattle.fs_layout.specs.Bytes.{IsBytes}
-use Rattle.fs_layout.specs.Recovered.{sizes_of, IsOutsideLog}
+use Rattle.inodes_on_blocks.proofs.Vocabulary.{◌≡◌, ◌≢◌, ℕ, zero, suc, ◌-◌, ◌/◌, ◌%◌, ◌^◌, ◌<◌, ◌≤◌, true, false, List, [], ◌∷◌, length, length-set, Option, Some, None, bit_and, inl, inr, refl, sym, ◌∙◌, ap, subst, arith, is_some, slice_index, slice_set, and_le_l, option_map, option_and_then, Super, IsBytes, sizes_of, IsOutsideLog, SeatState, has_block, holder_of, kept, seat_of, with_seat, with_content, with_pin, without_holder, given_back as seats_given_back, has, HasRoom, IsHome, seat_given_back, hart_count, put, same_or, eq_self, put_same, put_other, IsData, IsBitPut, IsGivenBack, Do, bind, unmarked, Machine, Laws, P, Wp, Both, joined, Stable, Here, s-silent, bind-assoc, lock_holder, Outside, Passes, fetch, seen_of, Put, count_first, without_bit, free_block, clear_bit, if_kept, Inv, World, log_of, tables_of, disk_of, Shows, below, Labels, labelled, Keeps, in_hand, SameBut, IsFetched, CanPut, PutLeaves, IsChanging, log_with, owners_with, world_with, KeepsRoom, GaveBlock, Gave}
 use Rattle.buffer_cache.specs.Lists.{count_of}
-use Rattle.buffer_cache.specs.Seats.{SeatState, has_block, holder_of, kept, seat_of, with_seat, with_content, with_pin, without_holder, given_back as seats_given_back}
-use Rattle.group_log.specs.Group.{has, HasRoom}
-use Rattle.group_log.specs.Soundness.{IsHome}
-use Rattle.group_log.proofs.Seats.{seat_given_back}
-use Rattle.plain_tree.specs.Widths.{hart_count}
-use Rattle.plain_tree.specs.Tree.{put}
-use Rattle.tree_laws.proofs.Maps.{same_or, eq_self, put_same, put_other}
-use Rattle.image_tree.specs.Checks.{IsData}
-use Rattle.inodes_on_blocks.specs.Puts.{IsBitPut, IsGivenBack}
-use Rattle.inodes_on_blocks.proofs.HeldPuts.{before_bits, other_inode, given_back}
-use Rattle.inodes_on_blocks.proofs.SeenDisks.{good_seen}
-use Rattle.atomic_programs.specs.Prog.{Do, bind, unmarked}
-use Rattle.atomic_programs.specs.Logic.{Machine, Laws, P, Wp}
-use Rattle.atomic_programs.specs.Joined.{Both, joined}
-use Rattle.atomic_programs.proofs.Joined.{Stable, Here, s-silent}
-use Rattle.atomic_programs.proofs.Prog.{bind-assoc}
-use Rattle.fs_machine.specs.Tables.{holder_of as lock_holder}
-use Rattle.fs_machine.specs.LogPart.{Outside, Passes}
-use Rattle.fs_machine.specs.Programs.{fetch}
-use Rattle.fs_machine.specs.Shown.{seen_of}
+use Rattle.inodes_on_blocks.proofs.Basics.{before_bits, other_inode, given_back, good_seen, kept_then, same_view, below_laws, untouched_then, but_same, but_then, buffer_then, buffer_seen, s-fetch, put_hand, lock_range, put_begun, bitmaps_put_bits}
 use Rattle.fs_machine.specs.Steps as steps
-use Rattle.fs_machine.specs.Steps.{Put}
 use Rattle.fs_machine.specs.Premises as premises
-use Rattle.fs_machine.proofs.Owning.{count_first}
-use Rattle.bitmap_alloc.specs.Bytes.{without_bit}
-use Rattle.bitmap_alloc.specs.Programs.{free_block, clear_bit}
 use Rattle.inode_machine.specs.World as above
-use Rattle.inode_machine.specs.Rules.{if_kept, Inv}
-use Rattle.inodes_on_blocks.specs.Below.{World, log_of, tables_of, disk_of}
-use Rattle.inodes_on_blocks.specs.Shown.{Shows}
-use Rattle.inodes_on_blocks.specs.Lowering.{below, Labels, labelled, Keeps}
-use Rattle.inodes_on_blocks.specs.Holding.{in_hand, SameBut, IsFetched}
-use Rattle.inodes_on_blocks.specs.Recording.{CanPut, PutLeaves, IsChanging, log_with, owners_with}
-use Rattle.inodes_on_blocks.specs.Giving.{world_with, KeepsRoom, GaveBlock, Gave}
-use Rattle.inodes_on_blocks.proofs.Alone.{kept_then}
-use Rattle.inodes_on_blocks.proofs.Hands.{same_view}
-use Rattle.inodes_on_blocks.proofs.Layer.{below_laws, untouched_then}
-use Rattle.inodes_on_blocks.proofs.Fetching.{but_same, but_then, buffer_then, buffer_seen, s-fetch}
-use Rattle.inodes_on_blocks.proofs.Recorded.{put_hand}
-use Rattle.inodes_on_blocks.proofs.Putting.{lock_range, put_begun}
 use Rattle.inodes_on_blocks.proofs.OwnerPuts.{owner_given, taken_given, taken_seen}
 use Rattle.inodes_on_blocks.proofs.PutLaws.{recorded_puts_keep, cleared_bits_leave}
-use Rattle.inodes_on_blocks.proofs.BitmapPuts.{bitmaps_put_bits}
 
 -- ---- bytes
 

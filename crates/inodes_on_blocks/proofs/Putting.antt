@@ -1,35 +1,11 @@
 -- A block recorded for an inode that the hart is changing: the others have theirs, and what is shown stays.
-use Rattle.std.proofs.Common.{◌≡◌, ◌≢◌, ℕ, ◌<◌, ◌≤◌, Bool, true, List, length, Option, Some, None, refl, sym, ◌∙◌, ap, subst, inl, inr, if◌then◌else◌, false}
-use Rattle.std.specs.Prelude.{slice_get}
-use Rattle.std.proofs.lemmas.Option.{none-some, same_Some}
-use Rattle.fs_layout.specs.declared.superblock.Super.{Super}
-use Rattle.fs_layout.specs.declared.inode.Dinode.{Dinode}
-use Rattle.fs_layout.specs.Recovered.{sizes_of}
-use Rattle.tree_laws.proofs.Maps.{same_or}
-use Rattle.image_tree.specs.Inodes.{is_free}
-use Rattle.inodes_on_blocks.specs.Running.{IsRunning}
+use Rattle.inodes_on_blocks.proofs.Vocabulary.{◌≡◌, ◌≢◌, ℕ, ◌<◌, ◌≤◌, Bool, true, List, length, Option, Some, None, refl, sym, ◌∙◌, ap, subst, inl, inr, if◌then◌else◌, false, slice_get, none-some, same_Some, Super, Dinode, sizes_of, same_or, is_free, IsRunning, TablesState, place_of, lock_holder, holder_in, holder_at, references_in, references_at, found, InsideFits, PlaceFits, Inode, SlotState, LogPart, put_block, Own, seen_of, Desk, is_hart, loaded, loaded_in, loaded_at, loaded_of, is_joined, AreOnBlocks, Owners, World, log_of, tables_of, disk_of, inode_in, untyped, Shows, if_joined, ghost_of, on_blocks, Same, commit_in, undertaken, CanPut, PutLeaves}
 use Rattle.inodes_on_blocks.proofs.SeenDisks.{good_seen}
 use Rattle.inodes_on_blocks.proofs.HeldFrames.{untouched}
-use Rattle.fs_machine.specs.Tables.{TablesState, place_of, holder_of as lock_holder, holder_in, holder_at, references_in, references_at}
-use Rattle.fs_machine.proofs.Places.{Found, found}
+use Rattle.fs_machine.proofs.Places.{Found}
 use Rattle.fs_machine.proofs.Locking.{slot_at}
-use Rattle.fs_machine.specs.Soundness.{InsideFits, PlaceFits}
-use Rattle.fs_machine.specs.declared.entries.Inode.{Inode}
-use Rattle.sleep_lock.specs.SleepLock.{SlotState}
-use Rattle.fs_machine.specs.LogPart.{LogPart, put_block}
-use Rattle.fs_machine.specs.Own.{Own}
-use Rattle.fs_machine.specs.Shown.{seen_of}
 use Rattle.inode_machine.specs.World as above
-use Rattle.inode_machine.specs.World.{Desk}
-use Rattle.inode_machine.specs.Rules.{is_hart}
 use Rattle.inodes_on_blocks.specs.ShownTables as tables
-use Rattle.inodes_on_blocks.specs.ShownTables.{loaded, loaded_in, loaded_at, loaded_of}
-use Rattle.inodes_on_blocks.specs.OnBlocks.{is_joined, AreOnBlocks}
-use Rattle.inodes_on_blocks.specs.Owners.{Owners}
-use Rattle.inodes_on_blocks.specs.Below.{World, log_of, tables_of, disk_of, inode_in, untyped}
-use Rattle.inodes_on_blocks.specs.Shown.{Shows, if_joined, ghost_of, on_blocks}
-use Rattle.inodes_on_blocks.specs.Lowering.{Same, commit_in, undertaken}
-use Rattle.inodes_on_blocks.specs.Recording.{CanPut, PutLeaves}
 use Rattle.inodes_on_blocks.proofs.Committing.{is_member, nobody_commits, commit_none}
 use Rattle.inodes_on_blocks.proofs.Groups.{put_grows}
 use Rattle.inodes_on_blocks.proofs.Hands.{same_view}

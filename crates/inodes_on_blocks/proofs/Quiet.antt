@@ -1,29 +1,8 @@
 -- The nodes on the seen blocks, and what keeps them there.
-use Rattle.std.proofs.Common.{◌≡◌, ℕ, zero, suc, true, false, cond, refl, sym, ◌∙◌, ap, subst, arith, List, [], ◌∷◌, length, Option, Some, None, ◌+◌, is_some, ◌≢◌, ◌<◌, ◌≤◌, set, get_or-set_other}
-use Rattle.std.proofs.lemmas.List.Sums.{sum_by-cons}
-use Rattle.block_device.specs.Blocks.{HasWholeBlocks, block_at}
-use Rattle.fs_layout.specs.declared.superblock.Super.{Super}
-use Rattle.fs_layout.specs.Bytes.{u32_at}
-use Rattle.fs_layout.specs.Super.{super_fields}
-use Rattle.fs_layout.specs.Recovered.{logged, sizes_of}
-use Rattle.fs_layout.proofs.RecoveredDisk.{recovered-empty}
-use Rattle.buffer_cache.specs.Seats.{SeatState, seen_in}
-use Rattle.group_log.specs.Group.{joined}
-use Rattle.plain_tree.specs.TreeData.{TreeData}
-use Rattle.plain_tree.specs.declared.node.Node.{Node}
-use Rattle.plain_tree.specs.Tree.{Tree, put, tree_of}
-use Rattle.tree_laws.proofs.Maps.{put_same}
+use Rattle.inodes_on_blocks.proofs.Vocabulary.{◌≡◌, ℕ, zero, suc, true, false, cond, refl, sym, ◌∙◌, ap, subst, arith, List, [], ◌∷◌, length, Option, Some, None, ◌+◌, is_some, ◌≢◌, ◌<◌, ◌≤◌, set, get_or-set_other, sum_by-cons, HasWholeBlocks, block_at, Super, u32_at, super_fields, logged, sizes_of, recovered-empty, SeatState, seen_in, joined_count as joined, TreeData, Node, Tree, put, tree_of, put_same, IsWellFormed, node_of, tree_in, HoldsAt, owner_in, IsImageOf, LeavesOthers, HasOwners, IsRunning, IsTreeOf, left_in, seen_blocks, AreSeen, IsGoodSeen, AreSeenAlike, IsSeenPut, IsRecoveredSo, is_joined, Ghost, shown, AreOnBlocks}
 use Rattle.tree_laws.specs.WellFormed as trees
-use Rattle.image_tree.specs.Damage.{IsWellFormed}
-use Rattle.image_tree.specs.Trees.{node_of, tree_in}
-use Rattle.inodes_on_blocks.specs.Holds.{HoldsAt, owner_in}
-use Rattle.inodes_on_blocks.specs.ImageLaws.{IsImageOf}
-use Rattle.inodes_on_blocks.specs.Puts.{LeavesOthers}
-use Rattle.inodes_on_blocks.specs.Running.{HasOwners, IsRunning, IsTreeOf, left_in}
-use Rattle.inodes_on_blocks.specs.Seen.{seen_blocks, AreSeen, IsGoodSeen, AreSeenAlike, IsSeenPut, IsRecoveredSo}
 use Rattle.inodes_on_blocks.proofs.RunningBlocks.{quiet_image, begins, node_any, ends, joins, puts_keep, image_runs, image_tree_runs}
 use Rattle.inodes_on_blocks.proofs.SeenDisks.{good_seen, seen_put, seen_stays, recovered_image, image_seen}
-use Rattle.inodes_on_blocks.specs.OnBlocks.{is_joined, Ghost, shown, AreOnBlocks}
 
 one_joined : (k : ℕ) (members : List (Option ℕ)) → joined (Some k ∷ members) ≡ 1 + joined members
 one_joined k members = sum_by-cons (λ (m : Option ℕ). cond (is_some m) 1 0) (Some k) members

@@ -1,31 +1,8 @@
 -- In a world where nobody is in a transaction the seen blocks are an image of the tree.
-use Rattle.std.proofs.Common.{◌≡◌, inl, inr, ℕ, Bool, true, false, ◌||◌, if◌then◌else◌, length, is_some, Option, Some, None, refl, sym, ◌∙◌, ap, arith, subst}
-use Rattle.std.proofs.lemmas.Bool.{cases_lt}
-use Rattle.std.proofs.lemmas.List.{get_or_past}
-use Rattle.fs_layout.specs.declared.superblock.Super.{Super}
-use Rattle.fs_layout.specs.Recovered.{sizes_of}
-use Rattle.plain_tree.specs.declared.node.Node.{Node}
-use Rattle.plain_tree.specs.declared.tree.Hold.{Hold}
-use Rattle.plain_tree.specs.Steps.{holds_raised}
-use Rattle.plain_tree.specs.Explains.{IsNamedPart}
-use Rattle.plain_tree.specs.Tree.{tree_of, is_live, is_named, settle}
-use Rattle.image_tree.specs.Trees.{tree_in}
-use Rattle.tree_laws.proofs.Nodes.{settled_well}
-use Rattle.inodes_on_blocks.specs.Holds.{live_part}
-use Rattle.inodes_on_blocks.specs.ImageLaws.{IsImageOf}
-use Rattle.inodes_on_blocks.specs.Running.{IsTreeOf, IsRunning}
-use Rattle.inodes_on_blocks.proofs.Held.{live_none}
-use Rattle.inodes_on_blocks.proofs.RunningBlocks.{quiet_image}
-use Rattle.inodes_on_blocks.proofs.SeenDisks.{good_seen}
-use Rattle.fs_machine.specs.Shown.{seen_of}
+use Rattle.inodes_on_blocks.proofs.Vocabulary.{◌≡◌, inl, inr, ℕ, Bool, true, false, ◌||◌, if◌then◌else◌, length, is_some, Option, Some, None, refl, sym, ◌∙◌, ap, arith, subst, cases_lt, get_or_past, Super, sizes_of, Node, Hold, holds_raised, IsNamedPart, tree_of, settle, tree_in, settled_well, live_part, IsImageOf, IsTreeOf, IsRunning, seen_of, Inv, is_joined, World, log_of, disk_of, Shows, if_joined, ghost_of, on_blocks, IsQuiet, QuietWorldsAreImages, RestingWorldsAreImages}
+use Rattle.plain_tree.specs.Tree.{is_live, is_named}
+use Rattle.inodes_on_blocks.proofs.Basics.{live_none, quiet_image, good_seen, none_new, old_node, quiet_disk}
 use Rattle.inode_machine.specs.World as above
-use Rattle.inode_machine.specs.Rules.{Inv}
-use Rattle.inodes_on_blocks.specs.OnBlocks.{is_joined}
-use Rattle.inodes_on_blocks.specs.Below.{World, log_of, disk_of}
-use Rattle.inodes_on_blocks.specs.Shown.{Shows, if_joined, ghost_of, on_blocks}
-use Rattle.inodes_on_blocks.specs.QuietWorlds.{IsQuiet, QuietWorldsAreImages, RestingWorldsAreImages}
-use Rattle.inodes_on_blocks.proofs.News.{none_new, old_node}
-use Rattle.inodes_on_blocks.proofs.Quiet.{quiet_disk}
 
 module _ (r : World) (w : above.World) (shows : Shows r w) (inv : Inv w) (quiet : IsQuiet w) where
   -- what is on the blocks is the tree's

@@ -1,27 +1,10 @@
 -- A part of the content of an inode that holds its node: what its blocks have of it, and how long that is.
-use Rattle.std.proofs.Common.{◌≡◌, ◌≢◌, ⊎_elim, ℕ, ℤ, ◌+◌, ◌-◌, ◌*◌, ◌/◌, ◌<◌, ◌≤◌, Bool, cond, false, List, [], length, take, drop, Some, None, refl, sym, ◌∙◌, ap, subst, arith}
-use Rattle.std.proofs.lemmas.Bool.{cases_lt, lt-ltb, le-ltb}
-use Rattle.std.proofs.lemmas.List.{length-drop, length-take}
-use Rattle.std.proofs.lemmas.Option.{none-some}
-use Rattle.fs_layout.specs.declared.inode.Dinode.{Dinode}
-use Rattle.fs_layout.specs.Bytes.{IsBytes}
-use Rattle.fs_layout.specs.Widths.{block_len}
-use Rattle.image_tree.specs.Checks.{largest_size}
-use Rattle.image_tree.specs.Inodes.{is_free, content_block, blocks_for, numbers_of, block_number}
-use Rattle.inodes_on_blocks.specs.Holds.{HoldsAt}
-use Rattle.inode_data.specs.Programs.{blocks_between, end_of}
-use Rattle.inode_data.proofs.ContentFronts.{front}
-use Rattle.plain_tree.specs.declared.answer.Cause.TheVariants.{NoDriver}
-use Rattle.plain_tree.specs.declared.node.Node.{Node}
-use Rattle.plain_tree.specs.declared.node.Kind.TheVariants.{Device}
+use Rattle.inodes_on_blocks.proofs.Vocabulary.{◌≡◌, ◌≢◌, ⊎_elim, ℕ, ℤ, ◌+◌, ◌-◌, ◌*◌, ◌/◌, ◌<◌, ◌≤◌, Bool, cond, false, List, [], length, take, drop, Some, None, refl, sym, ◌∙◌, ap, subst, arith, cases_lt, lt-ltb, le-ltb, length-drop, none-some, Dinode, IsBytes, block_len, largest_size, is_free, content_block, blocks_for, numbers_of, block_number, HoldsAt, blocks_between, end_of, front, NoDriver, Node, Device, no_driver, seen_of, World, log_of, disk_of, inode_in, Shows}
+use Rattle.std.proofs.lemmas.List.{length-take}
 use Rattle.plain_tree.specs.Steps as tree
-use Rattle.plain_tree.specs.Steps.{no_driver}
-use Rattle.fs_machine.specs.Shown.{seen_of}
 use Rattle.inode_machine.specs.Exec.{part_of}
 use Rattle.inode_machine.specs.World as above
-use Rattle.inodes_on_blocks.specs.Below.{World, log_of, disk_of, inode_in}
-use Rattle.inodes_on_blocks.specs.Shown.{Shows}
-use Rattle.inodes_on_blocks.proofs.ContentBlocks.{data_place, block_data, block_seen}
+use Rattle.inodes_on_blocks.proofs.Basics.{data_place, block_data, block_seen}
 use Rattle.inodes_on_blocks.proofs.ContentParts.{with_bytes, read_all, up_to}
 use Rattle.inodes_on_blocks.proofs.ContentReads.{filled_from}
 use Rattle.inodes_on_blocks.proofs.NodeBytes.{all_whole, node_bytes}

@@ -1,58 +1,20 @@
 -- A part of a locked file is read, and the operation acts where the lock is given up and the offset moves.
-use Rattle.std.proofs.Common.{◌≡◌, ◌≢◌, ℕ, zero, suc, ◌+◌, ◌-◌, ◌/◌, ◌<◌, ◌≤◌, nat_lt, Bool, true, false, List, [], length, Option, Some, None, refl, sym, ◌∙◌, ap, subst, arith, if◌then◌else◌}
-use Rattle.std.specs.Option.{option_map, unwrap_or}
-use Rattle.std.specs.Prelude.{IfSome}
-use Rattle.std.proofs.lemmas.Option.{none-some, same_Some}
-use Rattle.fs_layout.specs.declared.inode.Dinode.{Dinode}
-use Rattle.fs_layout.specs.declared.superblock.Super.{Super}
-use Rattle.image_tree.specs.Checks.{largest_size}
-use Rattle.inodes_on_blocks.specs.Holds.{HoldsAt}
-use Rattle.plain_tree.specs.declared.node.Node.{Node}
-use Rattle.plain_tree.specs.Tree.{put}
-use Rattle.plain_tree.specs.Widths.{hart_count}
-use Rattle.tree_laws.proofs.Maps.{put_other}
-use Rattle.atomic_programs.specs.Prog.{Ret, bind, Ran}
-use Rattle.atomic_programs.specs.Logic.{Machine, Laws, Wp}
-use Rattle.atomic_programs.specs.Joined.{Both, Handover, joined, Below, Lasts}
-use Rattle.atomic_programs.proofs.Joined.{Acting, ToAct, to_act, may_act, s-act}
-use Rattle.atomic_programs.proofs.Sound.{Wp-more}
+use Rattle.inodes_on_blocks.proofs.Vocabulary.{◌≡◌, ◌≢◌, ℕ, zero, suc, ◌+◌, ◌-◌, ◌/◌, ◌<◌, ◌≤◌, nat_lt, Bool, true, false, List, [], length, Option, Some, None, refl, sym, ◌∙◌, ap, subst, arith, if◌then◌else◌, option_map, unwrap_or, IfSome, none-some, same_Some, Dinode, Super, largest_size, HoldsAt, Node, put, hart_count, put_other, Ret, bind, Ran, Machine, Laws, Wp, Both, Handover, joined, Below, Lasts, Acting, ToAct, to_act, may_act, s-act, Wp-more, Inode, unlock_inode, TablesState, file_named, lock_holder, Outside, no_record, Direct, InTable, FilledMemory, blocks_between, end_of, fetch_at, next_block, read_blocks, read_from, read_part, Entry, ReadFile, entry_at, entry_moved, offset_of, read_at, slot_at, unlocked, with_offset, Inv, loaded, file_of, ActsOnceAt, World, log_of, tables_of, disk_of, inode_in, exec, give_read, read_file, Apart, Emptied, Has, Had, Carry, InHand, IsLoaded, Stands, below, Labels, labelled, Keeps, record_had, Shows, OffsetsShow, record_in}
 use Rattle.fs_machine.specs.declared.files.OpenFile as files
-use Rattle.fs_machine.specs.declared.entries.Inode.{Inode}
-use Rattle.fs_machine.specs.Inodes.{unlock_inode}
-use Rattle.fs_machine.specs.Tables.{TablesState, file_named, holder_of as lock_holder}
-use Rattle.fs_machine.specs.LogPart.{Outside}
 use Rattle.fs_machine.specs.Premises as premises
 use Rattle.fs_machine.specs.Steps as steps
-use Rattle.inode_table.specs.Programs.{no_record}
-use Rattle.inode_data.specs.declared.addresses.Address.TheVariants.{Direct, InTable}
-use Rattle.inode_data.specs.Programs.{FilledMemory, blocks_between, end_of, fetch_at, next_block, read_blocks, read_from, read_part}
 use Rattle.inode_machine.specs.World as above
-use Rattle.inode_machine.specs.World.{Entry}
-use Rattle.inode_machine.specs.World.Op.{ReadFile}
 use Rattle.inode_machine.specs.Exec as above_exec
-use Rattle.inode_machine.specs.Exec.{entry_at, entry_moved, entry_of, offset_of, part_of, read_at, slot_at, unlocked, with_offset}
+use Rattle.inode_machine.specs.Exec.{entry_of, part_of}
 use Rattle.inode_machine.specs.Rules as rules
-use Rattle.inode_machine.specs.Rules.{Inv}
 use Rattle.inodes_on_blocks.specs.ShownTables as tables
-use Rattle.inodes_on_blocks.specs.ShownTables.{loaded, file_of}
-use Rattle.inodes_on_blocks.proofs.Named.{file_is, offsets_are_moved}
-use Rattle.inodes_on_blocks.specs.Acting.{ActsOnceAt}
-use Rattle.inodes_on_blocks.specs.Below.{World, log_of, tables_of, disk_of, inode_in, exec}
-use Rattle.inodes_on_blocks.specs.Files.{give_read, read_file}
-use Rattle.inodes_on_blocks.specs.Lowering.{Apart, Emptied, Has, Had, Carry, InHand, IsLoaded, Stands, below, Labels, labelled, Keeps, record_had}
-use Rattle.inodes_on_blocks.specs.Shown.{Shows, OffsetsShow}
-use Rattle.inodes_on_blocks.specs.Storing.{record_in}
-use Rattle.inodes_on_blocks.proofs.Alone.{kept_same}
+use Rattle.inodes_on_blocks.proofs.Basics.{file_is, offsets_are_moved, kept_same, below_laws, kept_disk, OpenStays, TakesStep, s-here, with_tables}
 use Rattle.inodes_on_blocks.proofs.ContentParts.{with_bytes}
 use Rattle.inodes_on_blocks.proofs.ContentReads.{s-reads, touches, touches_are}
-use Rattle.inodes_on_blocks.proofs.Layer.{below_laws, kept_disk}
-use Rattle.inodes_on_blocks.proofs.OpenFiles.{OpenStays}
 use Rattle.inodes_on_blocks.proofs.ReadParts.{part_read, part_short, few_blocks, blocks_within}
 use Rattle.inodes_on_blocks.proofs.SlotSteps.{offsets_put}
-use Rattle.inodes_on_blocks.proofs.Starting.{TakesStep, s-here}
 use Rattle.inodes_on_blocks.proofs.StatSteps.{in_use, came_acting}
 use Rattle.inodes_on_blocks.proofs.TableSteps.{GivesBack, given_came}
-use Rattle.inodes_on_blocks.proofs.Tables.{with_tables}
 
 -- ---- a lock given up, and an offset that moves in the same step
 

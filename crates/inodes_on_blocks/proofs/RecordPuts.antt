@@ -1,33 +1,10 @@
 -- An inode's record is put by the hart that has its lock, in its transaction, where it has taken no block.
-use Rattle.std.proofs.Common.{◌≡◌, ◌≢◌, inl, inr, ℕ, ◌+◌, ◌/◌, ◌%◌, ◌<◌, ◌≤◌, Bool, true, false, List, length, Option, Some, None, refl, sym, ◌∙◌, ap, subst, arith, if◌then◌else◌}
-use Rattle.std.specs.Prelude.{nat_lt}
-use Rattle.std.proofs.lemmas.Option.{none-some}
-use Rattle.fs_layout.specs.declared.superblock.Super.{Super}
-use Rattle.fs_layout.specs.declared.inode.Dinode.{Dinode}
-use Rattle.fs_layout.specs.Inode.{dinode_at, IsDinode}
-use Rattle.fs_layout.specs.Recovered.{recovered, sizes_of}
-use Rattle.plain_tree.specs.declared.node.Node.{Node}
-use Rattle.tree_laws.proofs.Maps.{either, same_or, eq_not, put_other}
-use Rattle.image_tree.specs.Checks.{IsData}
-use Rattle.inodes_on_blocks.specs.Puts.{IsPut, IsInodePut, LeavesOthers}
+use Rattle.inodes_on_blocks.proofs.Vocabulary.{◌≡◌, ◌≢◌, inl, inr, ℕ, ◌+◌, ◌/◌, ◌%◌, ◌<◌, ◌≤◌, Bool, true, false, List, length, Option, Some, None, refl, sym, ◌∙◌, ap, subst, arith, if◌then◌else◌, nat_lt, none-some, Super, Dinode, dinode_at, IsDinode, recovered, sizes_of, Node, either, same_or, eq_not, put_other, IsData, IsPut, IsInodePut, LeavesOthers, LogPart, put_block, seen_of, inode_block, with_dinode, stores_one, with_record, is_dead, if_kept, is_hart, loaded, is_joined, Owners, is_named, named_of, inode_put, owners_put, World, log_of, tables_of, disk_of, owners_of, CanPut, PutLeaves, Shows, if_joined, on_blocks, IsRunning}
 use Rattle.inodes_on_blocks.proofs.HeldPuts.{inode_leaves}
 use Rattle.inodes_on_blocks.proofs.RunningBlocks.{node_any}
 use Rattle.inodes_on_blocks.proofs.SeenDisks.{good_seen}
-use Rattle.fs_machine.specs.LogPart.{LogPart, put_block}
-use Rattle.fs_machine.specs.Shown.{seen_of}
-use Rattle.inode_table.specs.Programs.{inode_block, with_dinode}
-use Rattle.inode_table.proofs.Stored.{stores_one}
 use Rattle.inode_machine.specs.World as above
-use Rattle.inode_machine.specs.Exec.{with_record, is_dead}
-use Rattle.inode_machine.specs.Rules.{if_kept, is_hart}
 use Rattle.inodes_on_blocks.specs.ShownTables as tables
-use Rattle.inodes_on_blocks.specs.ShownTables.{loaded}
-use Rattle.inodes_on_blocks.specs.OnBlocks.{is_joined}
-use Rattle.inodes_on_blocks.specs.Owners.{Owners, is_named, named_of, inode_put, owners_put}
-use Rattle.inodes_on_blocks.specs.Below.{World, log_of, tables_of, disk_of, owners_of}
-use Rattle.inodes_on_blocks.specs.Recording.{CanPut, PutLeaves}
-use Rattle.inodes_on_blocks.specs.Shown.{Shows, if_joined, on_blocks}
-use Rattle.inodes_on_blocks.specs.Running.{IsRunning}
 use Rattle.inodes_on_blocks.proofs.News.{put_node, locked_old}
 use Rattle.inodes_on_blocks.proofs.Recorded.{disk_put, put_bytes, old_bytes, seen_put_other}
 use Rattle.inodes_on_blocks.proofs.Putting.{not_loaded, lock_range}

@@ -1,32 +1,9 @@
 -- An inode's record put by the hart that has its lock: what the hart has of its own then.
-use Rattle.std.proofs.Common.{◌≡◌, ◌≢◌, inr, ℕ, ◌+◌, ◌/◌, ◌%◌, ◌<◌, ◌≤◌, true, false, List, length, Option, Some, None, sym, ◌∙◌, ap, subst, arith}
-use Rattle.std.specs.Prelude.{is_some}
-use Rattle.fs_layout.specs.declared.superblock.Super.{Super}
-use Rattle.fs_layout.specs.declared.inode.Dinode.{Dinode}
-use Rattle.fs_layout.specs.Inode.{dinode_at, IsDinode}
-use Rattle.fs_layout.specs.Recovered.{recovered, sizes_of}
-use Rattle.group_log.specs.Group.{has, HasRoom}
-use Rattle.group_log.specs.Soundness.{IsHome}
-use Rattle.plain_tree.specs.declared.node.Node.{Node}
-use Rattle.plain_tree.specs.Widths.{hart_count}
-use Rattle.image_tree.specs.Checks.{IsData, IsGoodSuper}
-use Rattle.image_tree.specs.Inodes.{inode_of}
-use Rattle.inodes_on_blocks.specs.Holds.{HoldsAt, NamesOwned}
-use Rattle.inodes_on_blocks.specs.Puts.{IsInodePut}
+use Rattle.inodes_on_blocks.proofs.Vocabulary.{◌≡◌, ◌≢◌, inr, ℕ, ◌+◌, ◌/◌, ◌%◌, ◌<◌, ◌≤◌, true, false, List, length, Option, Some, None, sym, ◌∙◌, ap, subst, arith, is_some, Super, Dinode, dinode_at, IsDinode, recovered, sizes_of, has, HasRoom, IsHome, Node, hart_count, IsData, IsGoodSuper, inode_of, HoldsAt, NamesOwned, IsInodePut, lock_holder, LogPart, put_block, seen_of, inode_block, with_dinode, if_kept, Idle, World, log_of, tables_of, disk_of, inode_in, owners_of, in_hand, HasBuffer, KeepsInode, Kept, Same, Carry, IsLoaded, InHand, IsThrough, CanPut, PutLeaves, Shows}
 use Rattle.inodes_on_blocks.proofs.HeldFrames.{untouched}
 use Rattle.inodes_on_blocks.proofs.HeldPuts.{inode_is}
 use Rattle.inodes_on_blocks.proofs.SeenDisks.{good_seen}
-use Rattle.fs_machine.specs.Tables.{holder_of as lock_holder}
-use Rattle.fs_machine.specs.LogPart.{LogPart, put_block}
-use Rattle.fs_machine.specs.Shown.{seen_of}
-use Rattle.inode_table.specs.Programs.{inode_block, with_dinode}
 use Rattle.inode_machine.specs.World as above
-use Rattle.inode_machine.specs.Rules.{if_kept, Idle}
-use Rattle.inodes_on_blocks.specs.Below.{World, log_of, tables_of, disk_of, inode_in, owners_of}
-use Rattle.inodes_on_blocks.specs.Holding.{in_hand, HasBuffer}
-use Rattle.inodes_on_blocks.specs.Lowering.{KeepsInode, Kept, Same, Carry, IsLoaded, InHand, IsThrough}
-use Rattle.inodes_on_blocks.specs.Recording.{CanPut, PutLeaves}
-use Rattle.inodes_on_blocks.specs.Shown.{Shows}
 use Rattle.inodes_on_blocks.proofs.Layer.{held_back}
 use Rattle.inodes_on_blocks.proofs.Putting.{after, same_put, shows_put, lock_range}
 use Rattle.inodes_on_blocks.proofs.RecordPuts.{record_put, quiet_leaves}

@@ -1,31 +1,8 @@
 -- What a recorded put makes of the buffers in a hart's own hand, of the transactions, and of what is seen.
-use Rattle.std.proofs.Common.{◌≡◌, ◌≢◌, ℕ, zero, suc, true, List, [], ◌∷◌, length, Option, Some, None, refl, sym, ◌∙◌, ap, subst, inl, inr}
-use Rattle.std.specs.Option.{option_map, option_and_then}
-use Rattle.fs_layout.specs.Bytes.{IsBytes}
-use Rattle.fs_layout.specs.Recovered.{recovered}
-use Rattle.buffer_cache.specs.Seats.{SeatState, holder_of, has_block, is_held_by, with_seat, with_content, with_pin, given_back, seat_of}
-use Rattle.group_log.specs.Group.{has, one_more, members_with}
-use Rattle.group_log.proofs.Seats.{seat_changed, seat_of_others}
-use Rattle.group_log.proofs.Whole.{seat_in}
-use Rattle.tree_laws.proofs.Maps.{either, same_or, eq_self, eq_not}
-use Rattle.inodes_on_blocks.specs.Puts.{IsPut}
-use Rattle.inodes_on_blocks.specs.Seen.{AreSeen, IsSeenPut, IsGoodSeen}
+use Rattle.inodes_on_blocks.proofs.Vocabulary.{◌≡◌, ◌≢◌, ℕ, zero, suc, true, List, [], ◌∷◌, length, Option, Some, None, refl, sym, ◌∙◌, ap, subst, inl, inr, option_map, option_and_then, IsBytes, recovered, SeatState, holder_of, has_block, is_held_by, with_seat, with_content, with_pin, given_back, seat_of, has, one_more, members_with, seat_changed, seat_of_others, seat_in, either, same_or, eq_self, eq_not, IsPut, AreSeen, IsSeenPut, IsGoodSeen, LogPart, put_block, Passes, own_of, mine_of, seen_of, State, Put, IsWholeLog, keeps_whole, leaves_own, count_first, put_shows, is_joined, disk_of, AreBytes, CanPut}
 use Rattle.inodes_on_blocks.proofs.SeenDisks.{seen_put, good_seen}
-use Rattle.fs_machine.specs.LogPart.{LogPart, put_block, Passes}
-use Rattle.fs_machine.specs.Own.{own_of, mine_of}
 use Rattle.fs_machine.specs.Premises as premises
-use Rattle.fs_machine.specs.Shown.{seen_of}
 use Rattle.fs_machine.specs.Steps as steps
-use Rattle.fs_machine.specs.Steps.{State, Put}
-use Rattle.fs_machine.specs.Whole.{IsWholeLog}
-use Rattle.fs_machine.proofs.Keeping.{keeps_whole}
-use Rattle.fs_machine.proofs.Owned.{leaves_own}
-use Rattle.fs_machine.proofs.Owning.{count_first}
-use Rattle.fs_machine.proofs.Showing.{put_shows}
-use Rattle.inodes_on_blocks.specs.OnBlocks.{is_joined}
-use Rattle.inodes_on_blocks.specs.Below.{disk_of}
-use Rattle.inodes_on_blocks.specs.Shown.{AreBytes}
-use Rattle.inodes_on_blocks.specs.Recording.{CanPut}
 use Rattle.inodes_on_blocks.proofs.Committing.{is_member}
 use Rattle.inodes_on_blocks.proofs.Hands.{GivenBack, back_hand, read_hand}
 

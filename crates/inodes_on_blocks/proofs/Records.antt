@@ -1,15 +1,6 @@
 -- An inode as it stands in a block, and in one that it was stored in.
-use Rattle.std.proofs.Common.{◌≡◌, ◌⊎◌, inl, inr, ℕ, zero, suc, pos, ◌+◌, ◌*◌, ◌^◌, ◌<◌, ◌≤◌, List, [], ◌∷◌, ◌++◌, length, take, drop, ◌∙◌, subst, arith, w16, FitsSigned}
-use Rattle.std.specs.List.{flat_map, AllByRecursion}
-use Rattle.std.specs.Int.{byte_at, cast_unsigned}
-use Rattle.std.proofs.Math.Facts.{Fits-of_lt, sfits_to_z}
-use Rattle.fs_layout.specs.declared.inode.Dinode.{Dinode}
-use Rattle.fs_layout.specs.Bytes.{overwrite, u16_bytes, u32_bytes, i16_bytes, u16_at, i16_at, u32s_at, IsBytes}
-use Rattle.fs_layout.specs.Inode.{spell_dinode, dinode_of, dinode_at, IsDinode}
-use Rattle.fs_layout.proofs.Inodes.{length-spell_dinode}
-use Rattle.fs_layout.proofs.Numbers.{u16_at-lt, u32_at-lt, length-u32s_at}
-use Rattle.fs_layout.proofs.Overwrites.{length-overwrite}
-use Rattle.inode_table.specs.Programs.{place_of, with_dinode}
+use Rattle.inodes_on_blocks.proofs.Vocabulary.{◌≡◌, ◌⊎◌, inl, inr, ℕ, zero, suc, pos, ◌+◌, ◌*◌, ◌^◌, ◌<◌, ◌≤◌, List, [], ◌∷◌, ◌++◌, length, take, drop, ◌∙◌, subst, arith, w16, FitsSigned, flat_map, AllByRecursion, byte_at, cast_unsigned, Fits-of_lt, sfits_to_z, Dinode, overwrite, u16_bytes, u32_bytes, i16_bytes, u16_at, i16_at, u32s_at, IsBytes, spell_dinode, dinode_of, dinode_at, IsDinode, length-spell_dinode, u16_at-lt, u32_at-lt, length-u32s_at, length-overwrite, with_dinode}
+use Rattle.inode_table.specs.Programs.{place_of}
 
 -- ---- bytes
 

@@ -1,28 +1,12 @@
 -- References counted up and down.
-use Rattle.std.proofs.Common.{◌≡◌, inl, inr, ℕ, ◌+◌, ◌<◌, ◌≤◌, ◌||◌, nat_lt, Bool, true, false, List, length, Option, Some, None, refl, sym, ◌∙◌, ap, subst, arith}
-use Rattle.std.specs.Prelude.{slice_get, slice_set, position, is_some}
-use Rattle.std.proofs.lemmas.Bool.Decides.{nat_tests}
-use Rattle.std.proofs.lemmas.Option.{slice_get_within}
-use Rattle.sleep_lock.specs.SleepLock.{SlotState, filled}
-use Rattle.sleep_lock.proofs.Lists.{slice_get-set_same, slice_get-set_other}
-use Rattle.fs_layout.specs.declared.inode.Dinode.{Dinode}
-use Rattle.atomic_programs.specs.Prog.{Ran}
-use Rattle.plain_tree.specs.Tree.{put}
-use Rattle.tree_laws.proofs.Maps.{same_or, put_same, put_other}
-use Rattle.fs_machine.specs.Lists.{change_at}
+use Rattle.inodes_on_blocks.proofs.Vocabulary.{◌≡◌, inl, inr, ℕ, ◌+◌, ◌<◌, ◌≤◌, ◌||◌, nat_lt, Bool, true, false, List, length, Option, Some, None, refl, sym, ◌∙◌, ap, subst, arith, slice_get, slice_set, position, is_some, nat_tests, slice_get_within, SlotState, filled, slice_get-set_same, slice_get-set_other, Dinode, Ran, put, same_or, put_same, put_other, change_at, Inode, TablesState, place_of, references_in, references_at, holder_in, holder_at, is_unused, up_inode, up_directory, directory_of, counted_at, begun_at, IsSoundInodes, found, placed, change_set, counted_good, free, begun_good, up_counted, up_begun, up_full, has_place, referenced, counted_up, up_if, start_if, start_number, PlacesShow, loaded_in, loaded_at, TablesCountReferences, StartsAreCounted, DirectoriesAreStarts}
 use Rattle.fs_machine.specs.declared.entries.Entry.{Entry}
-use Rattle.fs_machine.specs.declared.entries.Inode.{Inode}
-use Rattle.fs_machine.specs.Tables.{TablesState, place_of, references_in, references_at, holder_in, holder_at, one_more, is_unused}
-use Rattle.fs_machine.specs.Inodes.{up_inode, up_directory, directory_of, counted_at, begun_at}
-use Rattle.fs_machine.specs.Soundness.{IsSoundInodes}
-use Rattle.fs_machine.proofs.Places.{Found, found, placed, change_set}
-use Rattle.fs_machine.proofs.Counting.{counted_good}
-use Rattle.fs_machine.proofs.Beginning.{Free, free, begun_good, up_counted, up_begun, up_full}
+use Rattle.fs_machine.specs.Tables.{one_more}
+use Rattle.fs_machine.proofs.Places.{Found}
+use Rattle.fs_machine.proofs.Beginning.{Free}
 use Rattle.inode_machine.specs.World.{World}
 use Rattle.inode_machine.specs.Exec as above
-use Rattle.inode_machine.specs.Exec.{has_place, referenced, counted_up, up_if, start_if, start_number}
-use Rattle.inodes_on_blocks.specs.ShownTables.{PlacesShow, Shows, loaded_in, loaded_at}
-use Rattle.inodes_on_blocks.specs.TableLaws.{TablesCountReferences, StartsAreCounted, DirectoriesAreStarts}
+use Rattle.inodes_on_blocks.specs.ShownTables.{Shows}
 use Rattle.inodes_on_blocks.proofs.Places.{places_set}
 use Rattle.inodes_on_blocks.proofs.Counts.{room_is}
 use Rattle.inodes_on_blocks.proofs.Locks.{both_ran}

@@ -1,7 +1,5 @@
 -- A transaction that may record one block more has room for any.
-use Rattle.std.proofs.Common.{◌≡◌, ℕ, zero, suc, ◌<◌, List, [], ◌∷◌, Option, Some, None, arith}
-use Rattle.std.specs.Prelude.{slice_get}
-use Rattle.group_log.specs.Group.{HasRoom}
+use Rattle.inodes_on_blocks.proofs.Vocabulary.{◌≡◌, ℕ, zero, suc, ◌<◌, List, [], ◌∷◌, Option, Some, None, arith, slice_get, HasRoom}
 
 pub room_of : (members : List (Option ℕ)) (h k : ℕ) → slice_get members h ≡ Some (Some k) → k < 10 → HasRoom members h
 room_of [] h k e lt = absurd (let q : None ≡ Some (Some k) = e in cc)

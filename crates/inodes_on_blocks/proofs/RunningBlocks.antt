@@ -1,26 +1,6 @@
 -- The blocks of a running file system.
-use Rattle.std.proofs.Common.{◌≡◌, ℕ, zero, suc, ◌<◌, ◌≤◌, Bool, true, false, ◌&&◌, ◌==◌, inl, inr, refl, sym, ◌∙◌, ap, subst, arith, List, Option, Some, None}
-use Rattle.std.specs.Prelude.{nat_lt}
-use Rattle.block_device.specs.Blocks.{HasWholeBlocks}
-use Rattle.fs_layout.specs.declared.superblock.Super.{Super}
-use Rattle.fs_layout.specs.Recovered.{sizes_of}
-use Rattle.plain_tree.specs.declared.node.Node.{Node}
-use Rattle.plain_tree.specs.declared.tree.Hold.{Hold}
-use Rattle.plain_tree.specs.Widths.{hart_count}
-use Rattle.plain_tree.specs.Tree.{Tree, put, tree_of}
-use Rattle.image_tree.specs.Lists.{times}
-use Rattle.image_tree.specs.Inodes.{named_by, last}
-use Rattle.image_tree.specs.Checks.{is_marked}
-use Rattle.image_tree.specs.Damage.{UpToLog, IsWellFormed}
-use Rattle.image_tree.specs.Trees.{node_of, tree_in}
+use Rattle.inodes_on_blocks.proofs.Vocabulary.{◌≡◌, ℕ, zero, suc, ◌<◌, ◌≤◌, Bool, true, false, ◌&&◌, ◌==◌, inl, inr, refl, sym, ◌∙◌, ap, subst, arith, List, Option, Some, None, nat_lt, HasWholeBlocks, Super, sizes_of, Node, Hold, hart_count, Tree, put, tree_of, times, named_by, last, is_marked, UpToLog, IsWellFormed, node_of, tree_in, raises, raised_at, one_if, sum_none, either, same_or, eq_self, eq_not, put_same, put_other, Nodes, HoldsAt, Holds, MarksNoOthers, owner_upto, owner_in, LeavesOthers, IsImageOf, HasOwners, IsRunning, IsTreeOf, left_in}
 use Rattle.tree_laws.specs.WellFormed as trees
-use Rattle.tree_laws.specs.WellFormed.{raises, raised_at, one_if}
-use Rattle.tree_laws.proofs.Sums.{sum_none}
-use Rattle.tree_laws.proofs.Maps.{either, same_or, eq_self, eq_not, put_same, put_other}
-use Rattle.inodes_on_blocks.specs.Holds.{Nodes, HoldsAt, Holds, MarksNoOthers, owner_upto, owner_in}
-use Rattle.inodes_on_blocks.specs.Puts.{LeavesOthers}
-use Rattle.inodes_on_blocks.specs.ImageLaws.{IsImageOf}
-use Rattle.inodes_on_blocks.specs.Running.{HasOwners, IsRunning, IsTreeOf, left_in}
 use Rattle.inodes_on_blocks.proofs.Held.{some_or}
 use Rattle.inodes_on_blocks.proofs.HeldImages.{image_of}
 use Rattle.inodes_on_blocks.proofs.HeldNamed.{image_at_rest}

@@ -1,27 +1,5 @@
 -- The disk as it is seen.
-use Rattle.std.proofs.Common.{◌≡◌, ◌≢◌, ⊎_elim, ℕ, zero, suc, ◌+◌, ◌<◌, ◌≤◌, inl, inr, refl, sym, ◌∙◌, ap, subst, arith, List, [], ◌∷◌, ◌++◌, length, length-append, replicate, get_or, true, false}
-use Rattle.std.specs.Prelude.{if◌then◌else◌, ◌⊎◌}
-use Rattle.std.proofs.lemmas.Bool.Decides.{nat_tests}
-use Rattle.std.specs.List.{All}
-use Rattle.std.proofs.lemmas.Bool.{cases_lt}
-use Rattle.std.proofs.lemmas.List.{get_or_past, get_or_append_left, length-replicate}
-use Rattle.std.proofs.lemmas.List.Elements.{All-nil}
-use Rattle.block_device.specs.Blocks.{HasWholeBlocks, block_at}
-use Rattle.fs_layout.specs.declared.superblock.Super.{Super}
-use Rattle.fs_layout.specs.Bytes.{u32_at}
-use Rattle.fs_layout.specs.Super.{super_fields}
-use Rattle.fs_layout.specs.Recovered.{log_head_at, log_count, logged, recovered, sizes_of, IsOutsideLog}
-use Rattle.fs_layout.proofs.RecoveredDisk.{logged-empty, recovered-empty, recovered-own}
-use Rattle.image_tree.specs.Lists.{IsOnce}
-use Rattle.image_tree.specs.Checks.{IsGoodSuper, HasGoodLog}
-use Rattle.image_tree.specs.Damage.{UpToLog, IsWellFormed}
-use Rattle.image_tree.specs.Trees.{tree_in}
-use Rattle.image_tree.specs.Views.{IsViewOf}
-use Rattle.image_tree.proofs.MarkLemmas.{once_nil}
-use Rattle.image_tree.proofs.Views.{checks_see_recovered, trees_see_recovered}
-use Rattle.tree_laws.proofs.Maps.{same_or}
-use Rattle.inodes_on_blocks.specs.Puts.{IsPut}
-use Rattle.inodes_on_blocks.specs.Seen.{is_in_log, seen_blocks, AreSeen, IsGoodSeen, AreSeenAlike, IsSeenPut, IsRecoveredSo}
+use Rattle.inodes_on_blocks.proofs.Vocabulary.{◌≡◌, ◌≢◌, ⊎_elim, ℕ, zero, suc, ◌+◌, ◌<◌, ◌≤◌, inl, inr, refl, sym, ◌∙◌, ap, subst, arith, List, [], ◌∷◌, ◌++◌, length, length-append, replicate, get_or, true, false, if◌then◌else◌, ◌⊎◌, nat_tests, All, cases_lt, get_or_past, get_or_append_left, length-replicate, All-nil, HasWholeBlocks, block_at, Super, u32_at, super_fields, log_head_at, log_count, logged, recovered, sizes_of, IsOutsideLog, logged-empty, recovered-empty, recovered-own, IsOnce, IsGoodSuper, HasGoodLog, UpToLog, IsWellFormed, tree_in, IsViewOf, once_nil, checks_see_recovered, trees_see_recovered, same_or, IsPut, is_in_log, seen_blocks, AreSeen, IsGoodSeen, AreSeenAlike, IsSeenPut, IsRecoveredSo}
 
 -- ---- its blocks
 

@@ -1,33 +1,14 @@
 -- A descriptor shut: whether others name its open file still.
-use Rattle.std.proofs.Common.{◌≡◌, ◌≢◌, ◌⊎◌, inl, inr, ℕ, zero, suc, ◌+◌, ◌-◌, ◌<◌, ◌==◌, ◌||◌, Bool, true, false, List, [], ◌∷◌, length, Option, Some, None, refl, sym, ◌∙◌, ap, subst, arith}
-use Rattle.std.specs.Prelude.{slice_get}
-use Rattle.std.specs.List.{list_any}
-use Rattle.std.proofs.lemmas.Option.{slice_get_within, same_Some, none-some}
-use Rattle.fs_layout.specs.declared.inode.Dinode.{Dinode}
-use Rattle.atomic_programs.specs.Prog.{Did}
-use Rattle.plain_tree.specs.Tree.{put, any_below}
-use Rattle.plain_tree.specs.Widths.{hart_count, descriptor_count}
-use Rattle.tree_laws.specs.WellFormed.{sum_below, one_if}
-use Rattle.tree_laws.proofs.Maps.{either, eq_is, eq_not, eq_self, same_or, put_same, put_other, any_none, none_any}
-use Rattle.tree_laws.proofs.Sums.{sum_none, sum_part, one_yes, one_no}
+use Rattle.inodes_on_blocks.proofs.Vocabulary.{◌≡◌, ◌≢◌, ◌⊎◌, inl, inr, ℕ, zero, suc, ◌+◌, ◌-◌, ◌<◌, ◌==◌, ◌||◌, Bool, true, false, List, [], ◌∷◌, length, Option, Some, None, refl, sym, ◌∙◌, ap, subst, arith, slice_get, list_any, slice_get_within, same_Some, none-some, Dinode, Did, put, any_below, hart_count, descriptor_count, sum_below, one_if, either, eq_is, eq_not, eq_self, same_or, put_same, put_other, any_none, none_any, sum_none, sum_part, one_yes, one_no, ShutState as Shut, TablesState, place_named, with_desk, is_place, names, shut_descriptor, shut_at, freed_at, freed_if, with_descriptor, with_place, IsSoundTables, Desk, slot_at, entry_at, is_at, close_if, close_less, close_last, Inv, uses, users, users_put, BothCame, DeskShows, DesksShow, Runs, descriptor, first, lent_by, place_with, is_taken, shut_as, DescriptorsAreShut}
 use Rattle.fs_machine.specs.declared.desk.Desk as cards
 use Rattle.fs_machine.specs.declared.files.FilePlace.TheVariants.{Free}
-use Rattle.fs_machine.specs.declared.slots.Shut.{Shut}
 use Rattle.fs_machine.specs.declared.slots.Shut.TheVariants as shut
-use Rattle.fs_machine.specs.Tables.{TablesState, place_named, with_desk}
-use Rattle.fs_machine.specs.Files.{is_at as is_place, names, is_named, shut_descriptor, shut_at, freed_at, freed_if, with_descriptor, with_place}
-use Rattle.fs_machine.specs.Soundness.{IsSoundTables}
-use Rattle.inode_machine.specs.World.{Desk, World}
+use Rattle.fs_machine.specs.Files.{is_named}
+use Rattle.inode_machine.specs.World.{World}
 use Rattle.inode_machine.specs.Exec as above
-use Rattle.inode_machine.specs.Exec.{slot_at, entry_at, entry_of, is_at, close_if, close_less, close_last}
-use Rattle.inode_machine.specs.Rules.{Inv, uses, users}
-use Rattle.inode_machine.proofs.Tables.{users_put}
-use Rattle.inodes_on_blocks.specs.ShownTables.{Shows, BothCame, DeskShows, DesksShow, Runs, descriptor, first, lent_by, place_with, is_taken, shut_as}
-use Rattle.inodes_on_blocks.specs.TableLaws.{DescriptorsAreShut}
-use Rattle.inodes_on_blocks.proofs.Locks.{both_ran}
-use Rattle.inodes_on_blocks.proofs.Desks.{named_is, lenders_set, taken_same, part_same}
-use Rattle.inodes_on_blocks.proofs.Slots.{files_set, desk_set, long_desks, long_files}
-use Rattle.inodes_on_blocks.proofs.Named.{Names, names_at, open_there, card_named, files_counted}
+use Rattle.inode_machine.specs.Exec.{entry_of}
+use Rattle.inodes_on_blocks.specs.ShownTables.{Shows}
+use Rattle.inodes_on_blocks.proofs.Basics.{both_ran, named_is, lenders_set, taken_same, part_same, files_set, desk_set, long_desks, long_files, Names, names_at, open_there, card_named, files_counted}
 
 -- ---- lists
 

@@ -1,25 +1,7 @@
 -- An entry put into a slot of a directory that a hart is changing.
-use Rattle.std.proofs.Common.{◌≡◌, ◌≢◌, ℕ, zero, suc, ◌*◌, ◌/◌, ◌%◌, ◌<◌, ◌≤◌, true, false, List, [], ◌∷◌, length, replicate, Option, Some, None, refl, sym, ◌∙◌, ap, subst, arith, max}
-use Rattle.directory.specs.Programs.{with_dirent}
-use Rattle.fs_layout.specs.declared.inode.Dinode.{Dinode}
-use Rattle.fs_layout.specs.declared.entry.Dirent.{Dirent}
-use Rattle.fs_layout.specs.declared.entry.Dirent.TheVariants.{Free}
-use Rattle.fs_layout.specs.Bytes.{overwrite, IsBytes}
-use Rattle.fs_layout.specs.Entry.{IsDirent, spell_dirent}
-use Rattle.fs_layout.specs.Recovered.{recovered}
-use Rattle.fs_layout.proofs.Entries.{length-spell_dirent}
-use Rattle.fs_layout.proofs.Overwrites.{length-overwrite}
-use Rattle.image_tree.specs.Checks.{largest_size}
-use Rattle.image_tree.specs.Inodes.{numbers_of, block_number}
-use Rattle.inodes_on_blocks.specs.Holds.{entry_of}
-use Rattle.inodes_on_blocks.specs.Puts.{IsPut, IsSlotPut, IsLaidOut, slots_with, Becomes}
+use Rattle.inodes_on_blocks.proofs.Vocabulary.{◌≡◌, ◌≢◌, ℕ, zero, suc, ◌*◌, ◌/◌, ◌%◌, ◌<◌, ◌≤◌, true, false, List, [], ◌∷◌, length, replicate, Option, Some, None, refl, sym, ◌∙◌, ap, subst, arith, max, with_dirent, Dinode, Dirent, Free, overwrite, IsBytes, IsDirent, spell_dirent, recovered, length-spell_dirent, length-overwrite, largest_size, numbers_of, block_number, entry_of, IsPut, IsSlotPut, IsLaidOut, slots_with, Becomes, Slot, Directory, cleared, Name, same_name, IsFirstNamed}
 use Rattle.inodes_on_blocks.proofs.LaidSlots.{slot_laid}
-use Rattle.plain_tree.specs.declared.node.Slot.{Slot}
-use Rattle.plain_tree.specs.declared.node.Kind.TheVariants.{Directory}
-use Rattle.plain_tree.specs.Steps.{cleared}
-use Rattle.plain_tree.specs.Tree.{Name, same_name}
-use Rattle.inodes_on_blocks.specs.Lowering.{IsFirstNamed}
-use Rattle.inodes_on_blocks.proofs.Records.{overwrite_bytes}
+use Rattle.inodes_on_blocks.proofs.Basics.{overwrite_bytes}
 
 -- ---- bytes
 

@@ -1,52 +1,16 @@
 -- The operations on descriptors and open files act at their one step.
-use Rattle.std.proofs.Common.{◌≡◌, inl, inr, ℕ, ◌<◌, ◌≤◌, ◌==◌, Bool, true, false, Option, Some, None, refl, sym, ◌∙◌, ap, subst, arith, ◌+◌, ◌-◌, ◌≢◌}
-use Rattle.std.specs.Prelude.{IsSome}
-use Rattle.std.specs.Option.{option_map}
-use Rattle.std.proofs.lemmas.Option.{none-some, same_Some}
-use Rattle.plain_tree.specs.declared.answer.Cause.{Cause}
-use Rattle.plain_tree.specs.declared.tree.OpenFile.{OpenFile}
-use Rattle.plain_tree.specs.Tree.{put}
-use Rattle.plain_tree.specs.Steps.{lowest, has_room}
-use Rattle.plain_tree.specs.Widths.{hart_count}
-use Rattle.image_tree.specs.Checks.{largest_size}
-use Rattle.atomic_programs.specs.Prog.{Did, Waits, Ran, Stops, did_in}
-use Rattle.atomic_programs.specs.Logic.{Laws}
-use Rattle.atomic_programs.specs.Joined.{Both}
+use Rattle.inodes_on_blocks.proofs.Vocabulary.{◌≡◌, inl, inr, ℕ, ◌<◌, ◌≤◌, ◌==◌, Bool, true, false, Option, Some, None, refl, sym, ◌∙◌, ap, subst, arith, ◌+◌, ◌-◌, ◌≢◌, IsSome, option_map, none-some, same_Some, Cause, OpenFile, put, lowest, has_room, hart_count, largest_size, Did, Waits, Ran, Stops, did_in, Laws, Both, Doubled, TablesState, file_named, refusal_of, take_place, open_file, double_descriptor, shut_descriptor, Entry, Install, CheckFile, Double, Shut, Say, slot_if, install_if, first_from, file_count, is_empty_slot, double_if, slot_at, close_at, close_if, mode_refusal, write_refused, entry_at, Sort, OfDirectory, OfFile, OfDevice, loaded, new_file, Runs, BothCame, doubled_as, shut_as, refused_as, World, tables_of, came_to, commits_after, owners_of, owners_after, new_after, Shows, OffsetsShow, Carry, Base, Labels, labelled, Keeps, doubled_to, shut_to, cause_if, slot, install, double, close, check_file, say, ActsOnce, LogPart, lowest_free, renewed_same, Inv, same_or, put_same, put_other}
 use Rattle.fs_machine.specs.declared.files.Want.TheVariants as want
-use Rattle.fs_machine.specs.declared.slots.Doubled.{Doubled}
 use Rattle.fs_machine.specs.declared.slots.Shut as shuts
-use Rattle.fs_machine.specs.Tables.{TablesState, file_named}
-use Rattle.fs_machine.specs.Inodes.{refusal_of}
-use Rattle.fs_machine.specs.Files.{take_place, open_file, double_descriptor, shut_descriptor}
 use Rattle.fs_machine.specs.Steps as steps
 use Rattle.fs_machine.specs.Premises as premises
 use Rattle.inode_machine.specs.World as above
-use Rattle.inode_machine.specs.World.{Entry}
-use Rattle.inode_machine.specs.World.Op.{Slot, Install, CheckFile, Double, Shut, Say}
+use Rattle.inode_machine.specs.World.Op.{Slot}
 use Rattle.inode_machine.specs.Exec as above_exec
-use Rattle.inode_machine.specs.Exec.{slot_if, install_if, first_from, file_count, is_empty_slot, double_at, double_if, slot_at, entry_of, close_at, close_if, mode_refusal, write_refused, entry_at}
-use Rattle.inode_machine.specs.Inodes.{Sort, OfDirectory, OfFile, OfDevice}
+use Rattle.inode_machine.specs.Exec.{double_at, entry_of}
 use Rattle.inodes_on_blocks.specs.ShownTables as tables
-use Rattle.inodes_on_blocks.specs.ShownTables.{loaded, new_file, Runs, BothCame, doubled_as, shut_as, refused_as}
-use Rattle.inodes_on_blocks.proofs.Desks.{part_same}
-use Rattle.inodes_on_blocks.proofs.Slots.{places_are_taken, files_are_opened, hand_here}
-use Rattle.inodes_on_blocks.proofs.Named.{descriptors_are_doubled, descriptors_name_files}
+use Rattle.inodes_on_blocks.proofs.Basics.{part_same, places_are_taken, files_are_opened, hand_here, descriptors_are_doubled, descriptors_name_files, tables_left, fewer_owed, Came, CameTo, one_step, with_tables, shows_then, base_then, OpenStays, open_same, open_put}
 use Rattle.inodes_on_blocks.proofs.Shuts.{descriptors_are_shut}
-use Rattle.inodes_on_blocks.specs.Below.{World, tables_of, came_to, commits_after, owners_of, owners_after, new_after}
-use Rattle.inodes_on_blocks.specs.Shown.{Shows, OffsetsShow}
-use Rattle.inodes_on_blocks.specs.Lowering.{Carry, Base, Labels, labelled, Keeps}
-use Rattle.inodes_on_blocks.specs.Handlers.{doubled_to, shut_to, cause_if, slot, install, double, close, check_file, say}
-use Rattle.inodes_on_blocks.specs.Acting.{ActsOnce}
-use Rattle.fs_machine.specs.LogPart.{LogPart}
-use Rattle.inodes_on_blocks.proofs.Layer.{tables_left}
-use Rattle.inodes_on_blocks.proofs.Owed.{fewer_owed}
-use Rattle.inodes_on_blocks.proofs.Stepping.{Came, CameTo, one_step}
-use Rattle.inodes_on_blocks.proofs.Tables.{with_tables, shows_then, base_then}
-use Rattle.inodes_on_blocks.proofs.OpenFiles.{OpenStays, open_same, open_put}
-use Rattle.inode_machine.proofs.Tables.{lowest_free}
-use Rattle.inode_machine.proofs.Dups.{renewed_same}
-use Rattle.inode_machine.specs.Rules.{Inv}
-use Rattle.tree_laws.proofs.Maps.{same_or, put_same, put_other}
 
 -- where one open file is put
 pub offsets_put : (files : ℕ → Option Entry) (s : ℕ) (o : Option Entry) → ((e : Entry) → o ≡ Some e → e.file.offset ≤ largest_size) → OffsetsShow files → OffsetsShow (put files s o)

@@ -1,28 +1,10 @@
 -- Open files and descriptors.
-use Rattle.std.proofs.Common.{◌≡◌, ◌≢◌, inl, inr, ℕ, ◌<◌, ◌&&◌, not, nat_lt, Bool, true, false, if◌then◌else◌, List, length, length-set, Option, Some, None, refl, sym, ◌∙◌, ap, subst, arith}
-use Rattle.std.specs.Prelude.{slice_get, slice_set, position}
-use Rattle.std.proofs.lemmas.Bool.Decides.{nat_tests}
-use Rattle.std.proofs.lemmas.Option.{slice_get_within, slice_get-get_or, same_Some}
-use Rattle.std.proofs.lemmas.List.Quantifiers.{position-Some}
-use Rattle.sleep_lock.proofs.Lists.{slice_get-set_same, slice_get-set_other}
-use Rattle.fs_layout.specs.declared.inode.Dinode.{Dinode}
-use Rattle.plain_tree.specs.Tree.{put}
-use Rattle.plain_tree.specs.Steps.{lowest, has_room}
-use Rattle.plain_tree.specs.Widths.{hart_count, descriptor_count}
-use Rattle.tree_laws.proofs.Maps.{eq_not, eq_self, same_or, put_same, put_other, any_at, none_any}
-use Rattle.fs_machine.specs.Lists.{change_at, first_empty}
+use Rattle.inodes_on_blocks.proofs.Vocabulary.{◌≡◌, ◌≢◌, inl, inr, ℕ, ◌<◌, ◌&&◌, not, nat_lt, Bool, true, false, if◌then◌else◌, List, length, length-set, Option, Some, None, refl, sym, ◌∙◌, ap, subst, arith, slice_get, slice_set, position, nat_tests, slice_get_within, slice_get-get_or, same_Some, position-Some, slice_get-set_same, slice_get-set_other, Dinode, put, lowest, has_room, hart_count, descriptor_count, eq_not, eq_self, same_or, put_same, put_other, any_at, none_any, change_at, first_empty, FilePlace, Taken, desk_count, file_places, TablesState, with_desk, take_place, take_at, with_hand, with_descriptor, with_place, opened, open_file, open_in, open_by, hand_of, descriptors_of, change_set, length-change_at, Desk, Entry, file_count, is_nothing, is_at, is_empty_slot, first_from, slot_if, install_if, installed, put_elim, BothCame, kind_of, new_file, DeskShows, DesksShow, FilesShow, Runs, place_with, is_taken, PlacesAreTaken, FilesAreOpened}
 use Rattle.fs_machine.specs.declared.desk.Desk as cards
-use Rattle.fs_machine.specs.declared.files.FilePlace.{FilePlace}
-use Rattle.fs_machine.specs.declared.files.FilePlace.TheVariants.{Free, Taken, Open}
-use Rattle.fs_machine.specs.Limits.{desk_count, file_places}
-use Rattle.fs_machine.specs.Tables.{TablesState, with_desk}
-use Rattle.fs_machine.specs.Files.{is_free, take_place, take_at, with_hand, with_descriptor, with_place, opened, open_file, open_in, open_by, hand_of, descriptors_of}
-use Rattle.fs_machine.proofs.Places.{change_set, length-change_at}
-use Rattle.inode_machine.specs.World.{Desk, Entry, World}
-use Rattle.inode_machine.specs.Exec.{file_count, is_nothing, is_at, is_empty_slot, first_from, slot_if, install_if, installed}
-use Rattle.inode_machine.proofs.Frame.{put_elim}
-use Rattle.inodes_on_blocks.specs.ShownTables.{Shows, BothCame, kind_of, new_file, DeskShows, DesksShow, FilesShow, Runs, place_with, is_taken}
-use Rattle.inodes_on_blocks.specs.TableLaws.{PlacesAreTaken, FilesAreOpened}
+use Rattle.fs_machine.specs.declared.files.FilePlace.TheVariants.{Free, Open}
+use Rattle.fs_machine.specs.Files.{is_free}
+use Rattle.inode_machine.specs.World.{World}
+use Rattle.inodes_on_blocks.specs.ShownTables.{Shows}
 use Rattle.inodes_on_blocks.proofs.Locks.{both_ran}
 use Rattle.inodes_on_blocks.proofs.Desks.{position_first, first_empty_is, desks_set, lenders_set, own_desk, taken_same}
 

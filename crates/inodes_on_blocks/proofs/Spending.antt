@@ -1,48 +1,13 @@
 -- What the steps of a hart make of what its transaction has spent.
-use Rattle.std.proofs.Common.{◌≡◌, ◌≢◌, inl, inr, ℕ, zero, suc, Bool, true, false, List, [], ◌∷◌, length, Option, Some, None, sym, ◌∙◌, ap, subst, arith}
-use Rattle.std.specs.Prelude.{slice_get, slice_set}
-use Rattle.std.proofs.lemmas.Option.{same_Some}
-use Rattle.fs_layout.specs.declared.superblock.Super.{Super}
-use Rattle.buffer_cache.specs.Getting.{get_of}
-use Rattle.buffer_cache.specs.Seats.{SeatState}
-use Rattle.buffer_cache.specs.declared.got.Got.{Got}
+use Rattle.inodes_on_blocks.proofs.Vocabulary.{◌≡◌, ◌≢◌, inl, inr, ℕ, zero, suc, Bool, true, false, List, [], ◌∷◌, length, Option, Some, None, sym, ◌∙◌, ap, subst, arith, slice_get, slice_set, same_Some, Super, get_of, SeatState, Got, joined_count, limit_of, turn_is_out, join_waits, Open, Halted, open_of, Ret, Do, Did, Waits, Ran, Stops, Machine, Wp, ActOf, Both, both, joined, ran_to, Below, Leads, Tracks, Wp-tracks, Refused, TablesState, file_named, refusal_of, lock_inode, lock_file, settle_inode, up_inode, first_free, take_place, open_file, double_descriptor, shut_descriptor, give_next, LogPart, Outside, Passes, Fails, join_if, got_by, read_block, put_block, commit_if, State, in_log, in_tables, joins, join_unless, lock_opened as lock_open, claims, claim_first, up_whom, drop_which, IsWholeLog, After, more, Spent, spent_after, Accounts, World, log_of, came_to, Handler, Carry, below, Labels, labelled, alone, IsDone, Answers, HasSpent, NoMore, LeadsTo, Records, Spends, ProgramsStayWithin}
 use Rattle.buffer_cache.specs.declared.got.Got.TheVariants as got
-use Rattle.group_log.specs.Group.{joined as joined_count}
-use Rattle.group_log.specs.Soundness.{limit_of}
-use Rattle.group_log.specs.Turns.{turn_is_out}
-use Rattle.group_log.specs.Waiting.{join_waits}
-use Rattle.group_log.specs.declared.phase.Phase.TheVariants.{Open, Halted}
-use Rattle.group_log.proofs.Steps.{open_of}
-use Rattle.atomic_programs.specs.Prog.{Ret, Do, Did, Waits, Ran, Stops}
-use Rattle.atomic_programs.specs.Logic.{Machine, Wp}
-use Rattle.atomic_programs.specs.Joined.{ActOf, Both, both, joined, ran_to, Below}
-use Rattle.atomic_programs.specs.Spending.{Leads, Tracks}
-use Rattle.atomic_programs.proofs.Spending.{Wp-tracks}
 use Rattle.fs_machine.specs.declared.files.OpenFile.{OpenFile}
-use Rattle.fs_machine.specs.declared.files.Refused.{Refused}
 use Rattle.fs_machine.specs.declared.files.Want.TheVariants as want
-use Rattle.fs_machine.specs.Tables.{TablesState, file_named}
-use Rattle.fs_machine.specs.Inodes.{refusal_of, lock_inode, lock_file, settle_inode, up_inode, first_free}
-use Rattle.fs_machine.specs.Files.{take_place, open_file, double_descriptor, shut_descriptor, give_next}
-use Rattle.fs_machine.specs.LogPart.{LogPart, Outside, Passes, Fails, join_if, got_by, read_block, put_block, commit_if}
 use Rattle.fs_machine.specs.Premises as premises
 use Rattle.fs_machine.specs.Steps as steps
-use Rattle.fs_machine.specs.Steps.{State, in_log, in_tables, joins, join_unless, lock_open, claims, claim_first, up_whom, drop_which}
-use Rattle.fs_machine.specs.Whole.{IsWholeLog, After}
 use Rattle.inode_machine.specs.World as above
-use Rattle.inode_machine.specs.Rules.{more}
-use Rattle.inode_machine.specs.Budget.{Spent, spent_after}
-use Rattle.inodes_on_blocks.specs.Accounts.{Accounts}
-use Rattle.inodes_on_blocks.specs.Below.{World, log_of, came_to}
-use Rattle.inodes_on_blocks.specs.Handlers.{Handler, P}
-use Rattle.inodes_on_blocks.specs.Lowering.{Carry, below, Labels, labelled}
-use Rattle.inodes_on_blocks.specs.Acting.{alone, IsDone, Answers}
-use Rattle.inodes_on_blocks.specs.Room.{HasSpent}
-use Rattle.inodes_on_blocks.specs.Spending.{NoMore, LeadsTo, Records, Spends, ProgramsStayWithin}
-use Rattle.inodes_on_blocks.proofs.Accounts.{other_put, set_at, spent_put}
-use Rattle.inodes_on_blocks.proofs.Groups.{has_members}
-use Rattle.inodes_on_blocks.proofs.SpentRoom.{spent_stays}
-use Rattle.inodes_on_blocks.proofs.Stepping.{same_sizes}
+use Rattle.inodes_on_blocks.specs.Handlers.{P}
+use Rattle.inodes_on_blocks.proofs.Basics.{other_put, set_at, spent_put, has_members, spent_stays, same_sizes}
 
 -- ---- one step of what all harts share
 

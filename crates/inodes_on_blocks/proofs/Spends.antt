@@ -1,46 +1,12 @@
 -- What the programs of operations record, by their text.
-use Rattle.std.proofs.Common.{◌≡◌, inl, inr, ℕ, zero, suc, ◌+◌, ◌/◌, ◌==◌, Bool, true, false, not, pos, List, [], ◌∷◌, Option, Some, None, refl, arith, if◌then◌else◌}
-use Rattle.std.specs.Prelude.{is_some, slice_index, take}
-use Rattle.fs_layout.specs.declared.inode.Dinode.{Dinode}
-use Rattle.fs_layout.specs.declared.superblock.Super.{Super}
-use Rattle.fs_layout.specs.Indirect.{numbers_in}
-use Rattle.fs_layout.specs.Widths.{block_len, dirents_per_block}
-use Rattle.plain_tree.specs.Tree.{Name, same_name}
-use Rattle.group_log.specs.declared.log.Left.{Left}
-use Rattle.group_log.specs.declared.log.Left.TheVariants.{Free, Commits}
-use Rattle.atomic_programs.specs.Prog.{Ret, Do, bind}
-use Rattle.atomic_programs.specs.Joined.{Handover}
-use Rattle.fs_machine.specs.Inodes.{LockedState, Refuses, Locks}
-use Rattle.fs_machine.specs.LogPart.{LogPart}
-use Rattle.fs_machine.specs.Steps.{ClaimResult, Claims, NoPlace, NoInode}
-use Rattle.fs_machine.specs.Programs.{fetch, read_unless, commit_unless, commits, most_writes, after_leave}
-use Rattle.bitmap_alloc.specs.Programs.{free_block, clear_bit}
-use Rattle.inode_table.specs.NewInodes.{inode_blocks}
-use Rattle.inode_table.specs.Programs.{give_back, inode_block, load_unless, put_inode, store as store_inode}
-use Rattle.inode_data.specs.Addresses.{address, table_of}
-use Rattle.inode_data.specs.Freeing.{free_numbers, free_table, free_in_table, free_indirect, freed, without_content}
-use Rattle.inode_data.specs.Programs.{FilledMemory, blocks_between, end_of, fetch_at, fetch_block, fetch_named, fetch_number, filled_with, give_fetched, next_block, part_of, read_blocks, read_from, read_part}
-use Rattle.inode_data.specs.Widths.{direct}
-use Rattle.inode_data.specs.declared.addresses.Address.{Address}
-use Rattle.inode_data.specs.declared.addresses.Address.TheVariants.{Direct, InTable}
-use Rattle.directory.specs.Programs.{Aim, Entry, Named, block_count, found_in, is_directory, is_live_directory, look_at, lookup, or_next, search, search_from, with_slot}
-use Rattle.directory.specs.declared.found.Found.{Found}
-use Rattle.inode_machine.specs.Budget.{Spent, unspent, with_bitmap, with_contents, with_record}
-use Rattle.inode_machine.specs.Inodes.{Query, AtNothing, AtName, AtEntries, Sort}
+use Rattle.inodes_on_blocks.proofs.Vocabulary.{◌≡◌, inl, inr, ℕ, zero, suc, ◌+◌, ◌/◌, ◌==◌, Bool, true, false, not, pos, List, [], ◌∷◌, Option, Some, None, refl, arith, if◌then◌else◌, is_some, slice_index, take, Dinode, Super, numbers_in, block_len, dirents_per_block, Name, same_name, Left, Commits, Ret, Do, bind, Handover, LockedState, Refuses, Locks, LogPart, ClaimResult, Claims, NoPlace, NoInode, fetch, read_unless, commit_unless, commits, most_writes, after_leave, free_block, clear_bit, inode_blocks, give_back, inode_block, load_unless, put_inode, store_inode, address, table_of, free_numbers, free_table, free_in_table, free_indirect, freed, without_content, FilledMemory, blocks_between, end_of, fetch_at, fetch_block, fetch_named, fetch_number, filled_with, give_fetched, next_block, part_of, read_blocks, read_from, read_part, direct, Address, Direct, InTable, Aim, Named, block_count, found_in, look_at, lookup, or_next, search, search_from, with_slot, Found, Spent, unspent, with_bitmap, with_contents, with_inode as with_record, Query, AtNothing, AtName, AtEntries, Sort, used, Accounts, IsSpent, Carry, Had, Apart, Has, Emptied, NothingMore, Finds, Opened, give_content, file_locked, give_read, learned, looked, number_found, search_entries, seen_record, stat_loaded, stat_locked, kind_of, claim_at, claim_from, claim_in, clear, clear_in, clear_slot, put_named, slot_found, put_record, record_in, NoMore, Records, ProgramsSpend}
+use Rattle.group_log.specs.declared.log.Left.TheVariants.{Free}
+use Rattle.directory.specs.Programs.{Entry, is_directory, is_live_directory}
 use Rattle.inode_machine.specs.World as above
-use Rattle.inodes_on_blocks.specs.Accounts.{used, Accounts, IsSpent}
 use Rattle.inodes_on_blocks.specs.Handlers.{P}
-use Rattle.inodes_on_blocks.specs.Lowering.{Carry, Had, Apart, Has, Emptied, NothingMore, Finds, Opened}
-use Rattle.inodes_on_blocks.specs.Emptying.{give_content}
-use Rattle.inodes_on_blocks.specs.Files.{file_locked, give_read, with_file}
-use Rattle.inodes_on_blocks.specs.Reading.{learned, looked, number_found, search_entries, seen_record, stat_loaded, stat_locked}
-use Rattle.inodes_on_blocks.specs.ShownTables.{kind_of}
-use Rattle.inodes_on_blocks.specs.Making.{claim_at, claim_from, claim_in}
-use Rattle.inodes_on_blocks.specs.Naming.{clear, clear_in, clear_slot, put_named, slot_found, slot_of}
-use Rattle.inodes_on_blocks.specs.Storing.{put_record, record_in}
-use Rattle.inodes_on_blocks.specs.Spending.{NoMore, Records, ProgramsSpend}
-use Rattle.inodes_on_blocks.proofs.Accounts.{transactions_have_room}
-use Rattle.inodes_on_blocks.proofs.SpentRoom.{record_spent}
+use Rattle.inodes_on_blocks.specs.Files.{with_file}
+use Rattle.inodes_on_blocks.specs.Naming.{slot_of}
+use Rattle.inodes_on_blocks.proofs.Basics.{transactions_have_room, record_spent}
 
 -- ---- amounts
 

@@ -1,17 +1,6 @@
 -- What is known of a transaction by what its call may have spent gives room for each block of that, and lasts.
-use Rattle.std.proofs.Common.{◌≡◌, inl, inr, ℕ, ◌<◌, ◌≤◌, ◌||◌, true, Bool, List, [], ◌∷◌, refl, sym, ◌∙◌, ap, subst, if◌then◌else◌}
-use Rattle.fs_layout.specs.declared.superblock.Super.{Super}
-use Rattle.tree_laws.proofs.Maps.{eq_self}
-use Rattle.group_log.proofs.Seats.{pick}
-use Rattle.inode_table.specs.Programs.{inode_block}
-use Rattle.inode_machine.specs.Budget.{Spent, size, with_number, with_record, with_bitmap, with_contents, most_recorded}
+use Rattle.inodes_on_blocks.proofs.Vocabulary.{◌≡◌, inl, inr, ℕ, ◌<◌, ◌≤◌, ◌||◌, true, Bool, List, [], ◌∷◌, refl, sym, ◌∙◌, ap, subst, if◌then◌else◌, Super, eq_self, pick, inode_block, Spent, size, with_number, with_inode as with_record, with_bitmap, with_contents, most_recorded, Accounts, IsSpent, LeavesGroup, World, log_of, KeepsRoom, SameBut, Same, HasSpent}
 use Rattle.inode_machine.specs.Budget as budget
-use Rattle.inodes_on_blocks.specs.Accounts.{Accounts, IsSpent, LeavesGroup}
-use Rattle.inodes_on_blocks.specs.Below.{World, log_of}
-use Rattle.inodes_on_blocks.specs.Giving.{KeepsRoom}
-use Rattle.inodes_on_blocks.specs.Holding.{SameBut}
-use Rattle.inodes_on_blocks.specs.Lowering.{Same}
-use Rattle.inodes_on_blocks.specs.Room.{HasSpent}
 use Rattle.inodes_on_blocks.proofs.Accounts.{transactions_have_room, spent_put, other_put}
 use Rattle.inodes_on_blocks.proofs.Committing.{is_member}
 use Rattle.inodes_on_blocks.proofs.Groups.{member_at}

@@ -1,14 +1,6 @@
 -- What a hart knows where its program takes its first step.
-use Rattle.std.proofs.Common.{ℕ, ◌<◌, List, []}
-use Rattle.fs_layout.specs.declared.superblock.Super.{Super}
-use Rattle.plain_tree.specs.Widths.{hart_count}
-use Rattle.atomic_programs.specs.Prog.{Ret, Do}
-use Rattle.atomic_programs.specs.Logic.{Machine, Laws, P, Wp, onto}
-use Rattle.atomic_programs.specs.Joined.{Both, joined}
-use Rattle.atomic_programs.proofs.Joined.{Stable, Here}
+use Rattle.inodes_on_blocks.proofs.Vocabulary.{ℕ, ◌<◌, List, [], Super, hart_count, Ret, Do, Machine, Laws, P, Wp, onto, Both, joined, Stable, Here, World, below, Labels, labelled, Keeps}
 use Rattle.inode_machine.specs.World as above
-use Rattle.inodes_on_blocks.specs.Below.{World}
-use Rattle.inodes_on_blocks.specs.Lowering.{below, Labels, labelled, Keeps}
 use Rattle.inodes_on_blocks.proofs.Layer.{below_laws}
 
 module _ (sizes : Super) (l : Labels) (laws : Laws (labelled l)) (keeps : Keeps l) (h : ℕ) (lt : h < hart_count) (B : List l.Step → Type 0) where

@@ -1,62 +1,17 @@
 -- An operation that locks an inode and loads it acts where the lock is had: so the one that tells a descriptor's state.
-use Rattle.std.proofs.Common.{◌≡◌, ◌≢◌, inl, inr, ℕ, pos, ◌<◌, Bool, false, List, Option, Some, None, refl, sym, ◌∙◌, ap, subst, arith, if◌then◌else◌}
-use Rattle.std.specs.Prelude.{IsSome}
-use Rattle.std.specs.Option.{option_map, MatchOption}
-use Rattle.std.proofs.lemmas.Option.{none-some}
-use Rattle.fs_layout.specs.declared.inode.Dinode.{Dinode}
-use Rattle.fs_layout.specs.declared.superblock.Super.{Super}
-use Rattle.plain_tree.specs.declared.node.Node.{Node}
-use Rattle.plain_tree.specs.declared.node.Kind.{Kind}
-use Rattle.plain_tree.specs.declared.node.Kind.TheVariants.{Directory, File, Device}
-use Rattle.plain_tree.specs.Tree.{put}
-use Rattle.plain_tree.specs.Widths.{hart_count}
-use Rattle.tree_laws.proofs.Maps.{same_or, put_same, put_other}
-use Rattle.image_tree.specs.Inodes.{is_number, is_free}
-use Rattle.inodes_on_blocks.specs.Holds.{IsInode, IsRecord, type_in}
-use Rattle.atomic_programs.specs.Prog.{Did, Waits, Ran, did_in}
-use Rattle.atomic_programs.specs.Logic.{Laws, Wp}
-use Rattle.atomic_programs.specs.Joined.{Both, joined, Below, Lasts}
-use Rattle.atomic_programs.proofs.Joined.{Acting, acted, s-act}
+use Rattle.inodes_on_blocks.proofs.Vocabulary.{◌≡◌, ◌≢◌, inl, inr, ℕ, pos, ◌<◌, Bool, false, List, Option, Some, None, refl, sym, ◌∙◌, ap, subst, arith, if◌then◌else◌, IsSome, option_map, MatchOption, none-some, Dinode, Super, Node, Kind, Directory, File, Device, put, hart_count, same_or, put_same, put_other, is_number, is_free, IsInode, IsRecord, type_in, Did, Waits, Ran, did_in, Laws, Wp, Both, joined, Below, Lasts, Acting, acted, s-act, TablesState, file_named, lock_holder, LockedState, Refuses, Locks, refusal_of, lock_file, lock_unless, lock_inode, with_file, Outside, Lock, LockFile, MayLockFile, IsElsewhere, Face, face_of, face_or, Entry, Take, StatFile, entry_at, slot_at, lock_if, locked, stat_at, marked, with_mark, Inv, ours_none, ours_some, lone_file, opens_slots, node_there, loaded, file_of, World, log_of, tables_of, inode_in, exec, Shows, NothingMore, Had, Has, Carry, IsLoaded, InHand, Base, Stands, below, Labels, labelled, Keeps, IsOpened, ActsOnceAt, face_in, sort_at, natural, stat_file, stat_locked, stat_loaded}
 use Rattle.fs_machine.specs.declared.files.Want.TheVariants as want
 use Rattle.fs_machine.specs.declared.files.OpenFile as files
-use Rattle.fs_machine.specs.Tables.{TablesState, file_named, holder_of as lock_holder}
-use Rattle.fs_machine.specs.Inodes.{LockedState, Refuses, Locks, refusal_of, lock_file, lock_unless, lock_inode, with_file}
 use Rattle.fs_machine.specs.declared.files.Refused.TheVariants as refused
-use Rattle.fs_machine.specs.LogPart.{Outside}
 use Rattle.fs_machine.specs.Steps as steps
-use Rattle.fs_machine.specs.Steps.{Lock, LockFile}
 use Rattle.fs_machine.specs.Premises as premises
-use Rattle.fs_machine.specs.Premises.{MayLockFile, IsElsewhere}
-use Rattle.inode_machine.specs.Inodes.{Face, face_of, face_or}
 use Rattle.inode_machine.specs.World as above
-use Rattle.inode_machine.specs.World.{Entry}
-use Rattle.inode_machine.specs.World.Op.{Take, StatFile}
 use Rattle.inode_machine.specs.Exec as above_exec
-use Rattle.inode_machine.specs.Exec.{entry_at, entry_of, slot_at, lock_if, locked, stat_at}
-use Rattle.inode_machine.specs.Marks.{marked, with_mark}
+use Rattle.inode_machine.specs.Exec.{entry_of}
 use Rattle.inode_machine.specs.Rules as rules
-use Rattle.inode_machine.specs.Rules.{Inv}
-use Rattle.inode_machine.proofs.Frame.{ours_none, ours_some}
-use Rattle.inode_machine.proofs.Freeing.{lone_file}
-use Rattle.inode_machine.proofs.Rules.{opens_slots}
-use Rattle.inode_machine.proofs.Stats.{node_there}
 use Rattle.inodes_on_blocks.specs.ShownTables as tables
-use Rattle.inodes_on_blocks.specs.ShownTables.{loaded, file_of}
-use Rattle.inodes_on_blocks.proofs.Locks.{by_lock, place_there}
-use Rattle.inodes_on_blocks.proofs.Named.{names_at, file_is}
-use Rattle.inodes_on_blocks.specs.Below.{World, log_of, tables_of, inode_in, exec}
-use Rattle.inodes_on_blocks.specs.Shown.{Shows}
-use Rattle.inodes_on_blocks.specs.Lowering.{NothingMore, Had, Has, Carry, IsLoaded, InHand, Base, Stands, below, Labels, labelled, Keeps, IsOpened}
-use Rattle.inodes_on_blocks.specs.Acting.{ActsOnceAt}
-use Rattle.inodes_on_blocks.specs.Reading.{face_in, sort_at, natural, stat_file, stat_locked, stat_loaded}
-use Rattle.inodes_on_blocks.proofs.News.{none_new}
-use Rattle.inodes_on_blocks.proofs.Layer.{below_laws, base_marked, tables_left}
-use Rattle.inodes_on_blocks.proofs.Loading.{s-load}
-use Rattle.inodes_on_blocks.proofs.Marked.{SameCode, marked_same, shows_marked}
+use Rattle.inodes_on_blocks.proofs.Basics.{by_lock, place_there, names_at, file_is, none_new, below_laws, base_marked, tables_left, s-load, SameCode, marked_same, shows_marked, Came, with_tables, unlocked_holds, shows_then, base_then, open_alike}
 use Rattle.inodes_on_blocks.proofs.SlotSteps.{in_tables_is, came_quiet, all_same}
-use Rattle.inodes_on_blocks.proofs.Stepping.{Came}
-use Rattle.inodes_on_blocks.proofs.Tables.{with_tables, unlocked_holds, shows_then, base_then}
-use Rattle.inodes_on_blocks.proofs.OpenFiles.{open_alike}
 
 -- ---- a record shows its node's face
 

@@ -1,27 +1,10 @@
 -- A program of one step on the tables acts at it.
-use Rattle.std.proofs.Common.{◌≡◌, ◌≢◌, ℕ, suc, List, Option, None, ap, ◌∙◌, arith}
-use Rattle.fs_layout.specs.declared.superblock.Super.{Super}
-use Rattle.atomic_programs.specs.Prog.{Ret, once, Did, Waits, Ran, Stops}
-use Rattle.atomic_programs.specs.Logic.{Laws, Wp}
-use Rattle.atomic_programs.specs.Joined.{Both, joined, Below, Lasts}
-use Rattle.atomic_programs.proofs.Joined.{Acting, s-act}
-use Rattle.fs_machine.specs.LogPart.{Outside}
+use Rattle.inodes_on_blocks.proofs.Vocabulary.{◌≡◌, ◌≢◌, ℕ, suc, List, Option, None, ap, ◌∙◌, arith, Super, Ret, once, Did, Waits, Ran, Stops, Laws, Wp, Both, joined, Below, Lasts, Acting, s-act, Outside, Own, own_of, IsWholeLog, After, leaves_own, Desk, marked, with_mark, Inv, Idle, more, World, log_of, owners_after, commits_after, came_to, exec, new_after, Shows, Same, Kept, Carry, Base, Stands, below, Labels, labelled, Keeps, one, ActsOnce}
 use Rattle.fs_machine.specs.Steps as steps
 use Rattle.fs_machine.specs.Premises as premises
-use Rattle.fs_machine.specs.Own.{Own, own_of}
-use Rattle.fs_machine.specs.Whole.{IsWholeLog, After}
-use Rattle.fs_machine.proofs.Owned.{leaves_own}
 use Rattle.inode_machine.specs.World as above
-use Rattle.inode_machine.specs.World.{Desk}
 use Rattle.inode_machine.specs.Exec as above_exec
-use Rattle.inode_machine.specs.Marks.{marked, with_mark}
 use Rattle.inode_machine.specs.Rules as rules
-use Rattle.inode_machine.specs.Rules.{Inv, Idle, more}
-use Rattle.inodes_on_blocks.specs.Below.{World, log_of, owners_after, commits_after, came_to, exec, new_after}
-use Rattle.inodes_on_blocks.specs.Shown.{Shows}
-use Rattle.inodes_on_blocks.specs.Lowering.{Same, Kept, Carry, Base, Stands, below, Labels, labelled, Keeps}
-use Rattle.inodes_on_blocks.specs.Handlers.{one}
-use Rattle.inodes_on_blocks.specs.Acting.{ActsOnce}
 use Rattle.inodes_on_blocks.proofs.Marked.{marked_same, shows_marked}
 use Rattle.inodes_on_blocks.proofs.Layer.{below_laws, base_marked}
 

@@ -1,61 +1,12 @@
 -- An operation that puts an inode's record acts at the put.
-use Rattle.std.proofs.Common.{◌≡◌, ◌≢◌, inl, inr, ℕ, suc, pos, ◌<◌, true, false, List, length, Option, Some, None, refl, sym, ◌∙◌, ap, subst, arith}
-use Rattle.std.specs.Option.{unwrap_or}
-use Rattle.std.proofs.lemmas.Option.{none-some}
-use Rattle.fs_layout.specs.declared.superblock.Super.{Super}
-use Rattle.fs_layout.specs.declared.inode.Dinode.{Dinode}
-use Rattle.fs_layout.specs.Inode.{IsDinode}
-use Rattle.fs_layout.specs.Recovered.{sizes_of, IsOutsideLog}
-use Rattle.buffer_cache.specs.Seats.{holder_of}
-use Rattle.group_log.specs.Group.{has, HasRoom}
-use Rattle.plain_tree.specs.declared.node.Node.{Node}
-use Rattle.plain_tree.specs.Steps.{node_or}
-use Rattle.plain_tree.specs.Tree.{put}
-use Rattle.plain_tree.specs.Widths.{hart_count}
-use Rattle.tree_laws.proofs.Maps.{same_or, put_same, put_other}
-use Rattle.image_tree.specs.Damage.{UpToLog}
-use Rattle.image_tree.specs.Inodes.{numbers_of}
-use Rattle.inodes_on_blocks.specs.Holds.{HoldsAt, NamesOwned}
-use Rattle.inodes_on_blocks.specs.Puts.{IsInodePut, IsLaidOut}
-use Rattle.inodes_on_blocks.proofs.LaidInodes.{laid_before, node_held, count_laid}
-use Rattle.inodes_on_blocks.proofs.SeenDisks.{good_seen}
-use Rattle.atomic_programs.specs.Prog.{Ret, bind, once, Ran}
-use Rattle.atomic_programs.specs.Logic.{Laws, Machine, Wp}
-use Rattle.atomic_programs.specs.Joined.{Both, joined, Below, Lasts, Handover}
-use Rattle.atomic_programs.proofs.Joined.{Here, ToAct, to_act, may_act, Acting, s-act}
-use Rattle.fs_machine.specs.Tables.{holder_of as lock_holder}
-use Rattle.fs_machine.specs.LogPart.{LogPart, Outside, put_block}
-use Rattle.fs_machine.specs.Programs.{fetch}
-use Rattle.fs_machine.specs.Shown.{seen_of}
+use Rattle.inodes_on_blocks.proofs.Vocabulary.{◌≡◌, ◌≢◌, inl, inr, ℕ, suc, pos, ◌<◌, true, false, List, length, Option, Some, None, refl, sym, ◌∙◌, ap, subst, arith, unwrap_or, none-some, Super, Dinode, IsDinode, sizes_of, IsOutsideLog, holder_of, has, HasRoom, Node, node_or, put, hart_count, same_or, put_same, put_other, UpToLog, numbers_of, HoldsAt, NamesOwned, IsInodePut, IsLaidOut, Ret, bind, once, Ran, Laws, Machine, Wp, Both, joined, Below, Lasts, Handover, Here, ToAct, to_act, may_act, Acting, s-act, lock_holder, LogPart, Outside, put_block, fetch, seen_of, Put, no_record, inode_block, with_dinode, Store, with_record, with_count, marked, with_mark, Inv, more, Owners, World, log_of, tables_of, disk_of, inode_in, owners_of, exec, CanPut, Shows, NothingMore, Had, Apart, Has, Emptied, Carry, record_had, IsLoaded, InHand, Base, Stands, below, Labels, labelled, Keeps, IsOpened, IsThrough, in_hand, HasBuffer, IsFetched, GivesRoom, record_in, put_record, store}
+use Rattle.inodes_on_blocks.proofs.Basics.{laid_before, node_held, count_laid, good_seen, marked_same, shows_marked, below_laws, base_marked, AllInHand, in_hand_then, lent_then, through_then, through_put, back_hand, buffer_then, buffer_seen, s-fetch, count_fits, may_put, after, lock_range, quiet_owners, node_then, AllBut, LastsInHand, Ready, inode_home, seen_dinode, untaken, place_in, can_record, then_, is_put, same_then, inode_then, others_then, none_then, open_alike}
 use Rattle.fs_machine.specs.Steps as steps
-use Rattle.fs_machine.specs.Steps.{Put}
 use Rattle.fs_machine.specs.Premises as premises
-use Rattle.inode_table.specs.Programs.{no_record, inode_block, with_dinode}
 use Rattle.inode_machine.specs.World as above
-use Rattle.inode_machine.specs.World.Op.{Store}
 use Rattle.inode_machine.specs.Exec as above_exec
-use Rattle.inode_machine.specs.Exec.{with_record, with_count}
-use Rattle.inode_machine.specs.Marks.{marked, with_mark}
 use Rattle.inode_machine.specs.Rules as rules
-use Rattle.inode_machine.specs.Rules.{Inv, more}
-use Rattle.inodes_on_blocks.specs.Owners.{Owners}
-use Rattle.inodes_on_blocks.specs.Below.{World, log_of, tables_of, disk_of, inode_in, owners_of, exec}
-use Rattle.inodes_on_blocks.specs.Recording.{CanPut}
-use Rattle.inodes_on_blocks.specs.Shown.{Shows}
-use Rattle.inodes_on_blocks.specs.Lowering.{NothingMore, Had, Apart, Has, Emptied, Carry, record_had, IsLoaded, InHand, Base, Stands, below, Labels, labelled, Keeps, IsOpened, IsThrough}
-use Rattle.inodes_on_blocks.specs.Holding.{in_hand, HasBuffer, IsFetched}
-use Rattle.inodes_on_blocks.specs.Room.{GivesRoom}
-use Rattle.inodes_on_blocks.specs.Storing.{record_in, put_record, store}
-use Rattle.inodes_on_blocks.proofs.Marked.{marked_same, shows_marked}
-use Rattle.inodes_on_blocks.proofs.Layer.{below_laws, base_marked, AllInHand, in_hand_then, lent_then, through_then, through_put}
-use Rattle.inodes_on_blocks.proofs.Hands.{back_hand}
-use Rattle.inodes_on_blocks.proofs.Fetching.{buffer_then, buffer_seen, s-fetch}
-use Rattle.inodes_on_blocks.proofs.Records.{count_fits}
-use Rattle.inodes_on_blocks.proofs.Recorded.{may_put}
-use Rattle.inodes_on_blocks.proofs.Putting.{after, lock_range}
-use Rattle.inodes_on_blocks.proofs.RecordPuts.{quiet_owners, node_then}
-use Rattle.inodes_on_blocks.proofs.RecordThen.{AllBut, LastsInHand, Ready, inode_home, seen_dinode, untaken, place_in, can_record, then_, is_put, shows_then, same_then, inode_then, others_then, none_then}
-use Rattle.inodes_on_blocks.proofs.OpenFiles.{open_alike}
+use Rattle.inodes_on_blocks.proofs.RecordThen.{shows_then}
 
 -- What a hart knows of inode n, whose lock it has, where it is to put this record for it, and has `had` of it then: the operation above makes this of it.
 pub record PutsRecord (h : ℕ) (op : above.Op) (n : ℕ) (answer : above.Answer op) (d : Dinode) (had : Had) (r : World) (g : above.World) : Type 0 where

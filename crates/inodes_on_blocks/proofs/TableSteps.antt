@@ -1,41 +1,13 @@
 -- Each operation of one step on the tables acts at it.
-use Rattle.std.proofs.Common.{◌≡◌, ◌≢◌, inl, inr, ℕ, ◌<◌, Bool, true, false, Option, Some, None, refl, sym, ◌∙◌, ap, subst}
-use Rattle.std.specs.Prelude.{IsSome}
-use Rattle.std.proofs.lemmas.Option.{none-some, same_Some}
-use Rattle.fs_layout.specs.declared.inode.Dinode.{Dinode}
-use Rattle.plain_tree.specs.declared.node.Node.{Node}
-use Rattle.plain_tree.specs.Tree.{put}
-use Rattle.plain_tree.specs.Widths.{hart_count}
-use Rattle.tree_laws.proofs.Maps.{same_or, put_same, put_other}
-use Rattle.inodes_on_blocks.specs.Holds.{HoldsAt}
-use Rattle.atomic_programs.specs.Prog.{Ran}
-use Rattle.atomic_programs.specs.Logic.{Laws}
-use Rattle.atomic_programs.specs.Joined.{Both}
-use Rattle.fs_machine.specs.Tables.{TablesState}
-use Rattle.fs_machine.specs.Inodes.{unlock_inode, settle_inode}
+use Rattle.inodes_on_blocks.proofs.Vocabulary.{◌≡◌, ◌≢◌, inl, inr, ℕ, ◌<◌, Bool, true, false, Option, Some, None, refl, sym, ◌∙◌, ap, subst, IsSome, none-some, same_Some, Dinode, Node, put, hart_count, same_or, put_same, put_other, HoldsAt, Ran, Laws, Both, TablesState, unlock_inode, settle_inode, Give, UpStart, Up, WalkDown, Down, Install, CheckFile, Double, Shut, Settle, Say, unlocked, ours_none, ours_some, loaded, World, log_of, tables_of, disk_of, inode_in, Shows, OffsetsShow, on_blocks, Same, Had, Apart, Has, Emptied, Carry, record_had, IsLoaded, InHand, Base, Labels, labelled, Keeps, give, ActsOnce}
 use Rattle.fs_machine.specs.Steps as steps
 use Rattle.fs_machine.specs.Premises as premises
 use Rattle.inode_machine.specs.World as above
-use Rattle.inode_machine.specs.World.Op.{Give, UpStart, Up, WalkDown, Down, Slot, Install, CheckFile, Double, Shut, Settle, Say}
+use Rattle.inode_machine.specs.World.Op.{Slot}
 use Rattle.inode_machine.specs.Exec as above_exec
-use Rattle.inode_machine.specs.Exec.{unlocked}
-use Rattle.inode_machine.proofs.Frame.{ours_none, ours_some}
 use Rattle.inodes_on_blocks.specs.ShownTables as tables
-use Rattle.inodes_on_blocks.specs.ShownTables.{loaded}
-use Rattle.inodes_on_blocks.proofs.Desks.{part_same}
-use Rattle.inodes_on_blocks.proofs.Locks.{locks_are_given}
-use Rattle.inodes_on_blocks.proofs.Named.{directories_are_settled}
-use Rattle.inodes_on_blocks.specs.Below.{World, log_of, tables_of, disk_of, inode_in}
-use Rattle.inodes_on_blocks.specs.Shown.{Shows, OffsetsShow, on_blocks}
-use Rattle.inodes_on_blocks.specs.Lowering.{Same, Had, Apart, Has, Emptied, Carry, record_had, IsLoaded, InHand, Base, Labels, labelled, Keeps}
-use Rattle.inodes_on_blocks.specs.Handlers.{give, settle}
-use Rattle.inodes_on_blocks.specs.Acting.{ActsOnce}
-use Rattle.inodes_on_blocks.proofs.News.{old_node, locked_old}
-use Rattle.inodes_on_blocks.proofs.Layer.{tables_left}
-use Rattle.inodes_on_blocks.proofs.Owed.{fewer_owed}
-use Rattle.inodes_on_blocks.proofs.Stepping.{Came, one_step}
-use Rattle.inodes_on_blocks.proofs.Tables.{with_tables, shows_then, base_then}
-use Rattle.inodes_on_blocks.proofs.OpenFiles.{OpenStays, open_alike}
+use Rattle.inodes_on_blocks.proofs.Basics.{part_same, locks_are_given, directories_are_settled, old_node, locked_old, tables_left, fewer_owed, Came, one_step, with_tables, shows_then, base_then, OpenStays, open_alike}
+use Rattle.inodes_on_blocks.specs.Handlers.{settle}
 
 -- what is loaded of an inode in hand is as it is seen
 loaded_seen : (o : Had) (n : Option Node) (d e : Dinode) → IsLoaded o n d → record_had o ≡ Some e → e ≡ d

@@ -1,25 +1,8 @@
 -- The steps on the tables, each as an operation above.
-use Rattle.std.proofs.Common.{◌≡◌, ◌⊎◌, inl, inr, ℕ, ◌<◌, ◌≤◌, Bool, true, false, Option, Some, None, refl, sym, ◌∙◌, ap, subst, if◌then◌else◌}
-use Rattle.std.specs.Prelude.{IsSome}
-use Rattle.std.proofs.lemmas.Option.{none-some, same_Some}
-use Rattle.fs_layout.specs.declared.inode.Dinode.{Dinode}
-use Rattle.fs_layout.specs.declared.superblock.Super.{Super}
-use Rattle.fs_layout.specs.Recovered.{sizes_of}
-use Rattle.buffer_cache.specs.Seats.{seen_in}
-use Rattle.plain_tree.specs.declared.node.Node.{Node}
-use Rattle.plain_tree.specs.Widths.{hart_count}
-use Rattle.inodes_on_blocks.specs.Holds.{HoldsAt}
-use Rattle.inodes_on_blocks.specs.Running.{IsRunning}
+use Rattle.inodes_on_blocks.proofs.Vocabulary.{◌≡◌, ◌⊎◌, inl, inr, ℕ, ◌<◌, ◌≤◌, Bool, true, false, Option, Some, None, refl, sym, ◌∙◌, ap, subst, if◌then◌else◌, IsSome, none-some, same_Some, Dinode, Super, sizes_of, seen_in, Node, hart_count, HoldsAt, IsRunning, TablesState, Desk, loaded, is_joined, World, log_of, disk_of, inode_in, tables_of, Shows, LoadsShow, OffsetsShow, if_joined, on_blocks, unless_new, Had, Carry, IsLoaded, InHand, Base, IsOpened}
 use Rattle.inodes_on_blocks.proofs.SeenDisks.{good_seen}
-use Rattle.fs_machine.specs.Tables.{TablesState}
 use Rattle.inode_machine.specs.World as above
-use Rattle.inode_machine.specs.World.{Desk}
 use Rattle.inodes_on_blocks.specs.ShownTables as tables
-use Rattle.inodes_on_blocks.specs.ShownTables.{loaded}
-use Rattle.inodes_on_blocks.specs.OnBlocks.{is_joined}
-use Rattle.inodes_on_blocks.specs.Below.{World, log_of, disk_of, inode_in, tables_of}
-use Rattle.inodes_on_blocks.specs.Shown.{Shows, LoadsShow, OffsetsShow, if_joined, on_blocks, unless_new}
-use Rattle.inodes_on_blocks.specs.Lowering.{Had, Carry, IsLoaded, InHand, Base, IsOpened}
 use Rattle.inodes_on_blocks.proofs.News.{old_node, new_kept}
 use Rattle.inodes_on_blocks.proofs.OpenFiles.{OpenStays, open_then}
 

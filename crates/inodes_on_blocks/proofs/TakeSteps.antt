@@ -1,52 +1,17 @@
 -- The operation that locks an inode, loads it and looks at it acts where the lock is had.
-use Rattle.std.proofs.Common.{◌≡◌, ◌≢◌, inl, inr, ℕ, suc, ◌<◌, Bool, true, false, not, List, Option, Some, None, is_some, refl, sym, ◌∙◌, ap, subst, arith, if◌then◌else◌}
-use Rattle.std.proofs.lemmas.Option.{none-some}
-use Rattle.directory.specs.declared.found.Found.{Found}
-use Rattle.directory.specs.Programs.{Aim, Named, Entry, block_count, search}
-use Rattle.fs_layout.specs.declared.inode.Dinode.{Dinode}
-use Rattle.fs_layout.specs.declared.superblock.Super.{Super}
-use Rattle.plain_tree.specs.declared.node.Node.{Node}
+use Rattle.inodes_on_blocks.proofs.Vocabulary.{◌≡◌, ◌≢◌, inl, inr, ℕ, suc, ◌<◌, Bool, true, false, not, List, Option, Some, None, is_some, refl, sym, ◌∙◌, ap, subst, arith, if◌then◌else◌, none-some, Found, Aim, Named, block_count, search, Dinode, Super, Node, Name, put, live_directory, hart_count, same_or, put_same, put_other, is_free, HoldsAt, Ret, bind, Did, Waits, Ran, did_in, Machine, Laws, P, Wp, Both, Handover, joined, Below, Lasts, Acting, acted, s-act, Wp-more, TablesState, lock_holder, lock_inode, Outside, Lock, Sight, Query, AtNothing, AtName, AtEntries, Take, lock_if, locked, Inv, looking_cost, one_refs, two_refs, loaded, World, log_of, tables_of, disk_of, inode_in, exec, Shows, Same, Kept, Knowledge, NothingMore, Had, Has, Carry, IsKnown, IsLoaded, InHand, Base, Stands, below, Labels, labelled, Keeps, IsOpened, ActsOnceAt, face_in, number_found, learned, seen_record, looked, take_inode as take, load_unless}
+use Rattle.directory.specs.Programs.{Entry}
 use Rattle.plain_tree.specs.Tree as tree
-use Rattle.plain_tree.specs.Tree.{Name, put, live_directory}
-use Rattle.plain_tree.specs.Widths.{hart_count}
-use Rattle.tree_laws.proofs.Maps.{same_or, put_same, put_other}
-use Rattle.image_tree.specs.Inodes.{is_free}
-use Rattle.inodes_on_blocks.specs.Holds.{HoldsAt}
-use Rattle.atomic_programs.specs.Prog.{Ret, bind, Did, Waits, Ran, did_in}
-use Rattle.atomic_programs.specs.Logic.{Machine, Laws, P, Wp}
-use Rattle.atomic_programs.specs.Joined.{Both, Handover, joined, Below, Lasts}
-use Rattle.atomic_programs.proofs.Joined.{Acting, acted, s-act}
-use Rattle.atomic_programs.proofs.Sound.{Wp-more}
-use Rattle.fs_machine.specs.Tables.{TablesState, holder_of as lock_holder}
-use Rattle.fs_machine.specs.Inodes.{lock_inode}
-use Rattle.fs_machine.specs.LogPart.{Outside}
 use Rattle.fs_machine.specs.Steps as steps
-use Rattle.fs_machine.specs.Steps.{Lock}
 use Rattle.fs_machine.specs.Premises as premises
-use Rattle.inode_machine.specs.Inodes.{Sight, Query, AtNothing, AtName, AtEntries, seen_in}
+use Rattle.inode_machine.specs.Inodes.{seen_in}
 use Rattle.inode_machine.specs.World as above
-use Rattle.inode_machine.specs.World.Op.{Take}
-use Rattle.inode_machine.specs.Exec.{lock_if, locked}
-use Rattle.inode_machine.specs.Rules.{Inv, looking_cost}
-use Rattle.inode_machine.proofs.Frame.{one_refs, two_refs}
 use Rattle.inodes_on_blocks.specs.ShownTables as tables
-use Rattle.inodes_on_blocks.specs.ShownTables.{loaded}
-use Rattle.inodes_on_blocks.proofs.Locks.{by_lock, place_there}
-use Rattle.inodes_on_blocks.specs.Below.{World, log_of, tables_of, disk_of, inode_in, exec}
-use Rattle.inodes_on_blocks.specs.Shown.{Shows}
-use Rattle.inodes_on_blocks.specs.Lowering.{Same, Kept, Knowledge, NothingMore, Had, Has, Carry, IsKnown, IsLoaded, InHand, Base, Stands, below, Labels, labelled, Keeps, IsOpened}
-use Rattle.inodes_on_blocks.specs.Acting.{ActsOnceAt}
-use Rattle.inodes_on_blocks.specs.Reading.{face_in, number_found, learned, seen_record, looked, take}
-use Rattle.inode_table.specs.Programs.{load_unless}
-use Rattle.inodes_on_blocks.proofs.News.{none_new}
+use Rattle.inodes_on_blocks.proofs.Basics.{by_lock, place_there, none_new, below_laws, kept_disk, s-load, directory_is, live_is, search_finds, name_found, slot_found, name_lost, entries_found, no_entries, block_within, few_blocks, with_tables, unlocked_holds}
 use Rattle.inodes_on_blocks.proofs.ContentReads.{touches, touches_are}
 use Rattle.inodes_on_blocks.proofs.DirectorySearches.{s-search}
-use Rattle.inodes_on_blocks.proofs.Layer.{below_laws, kept_disk}
-use Rattle.inodes_on_blocks.proofs.Loading.{s-load}
-use Rattle.inodes_on_blocks.proofs.Looks.{directory_is, live_is, search_finds, name_found, slot_found, name_lost, entries_found, no_entries, block_within, few_blocks}
 use Rattle.inodes_on_blocks.proofs.SlotSteps.{in_tables_is}
 use Rattle.inodes_on_blocks.proofs.StatSteps.{in_use, face_seen, lock_came, came_acting}
-use Rattle.inodes_on_blocks.proofs.Tables.{with_tables, unlocked_holds}
 
 -- the steps after the load: six a block
 abbrev steps_of : Query → ℕ

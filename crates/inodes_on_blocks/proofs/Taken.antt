@@ -1,36 +1,10 @@
 -- The law of a block taken.
-use Rattle.std.specs.Prelude.{slice_index}
-use Rattle.std.proofs.Common.{◌≡◌, inl, inr, ℕ, List, [], length, Option, Some, None, refl, sym, ◌∙◌, subst, arith}
-use Rattle.fs_layout.specs.declared.inode.Dinode.{Dinode}
-use Rattle.fs_layout.specs.declared.superblock.Super.{Super}
-use Rattle.fs_layout.specs.Recovered.{sizes_of}
-use Rattle.image_tree.specs.Checks.{IsData}
-use Rattle.inodes_on_blocks.proofs.SeenDisks.{good_seen}
-use Rattle.plain_tree.specs.declared.node.Node.{Node}
-use Rattle.atomic_programs.specs.Prog.{Ret, bind}
-use Rattle.atomic_programs.specs.Logic.{Machine, P, Wp}
-use Rattle.atomic_programs.specs.Joined.{Both, joined}
-use Rattle.atomic_programs.proofs.Joined.{Stable}
-use Rattle.fs_machine.specs.Shown.{seen_of}
-use Rattle.bitmap_alloc.specs.Programs.{take_block}
-use Rattle.inode_machine.specs.Budget.{Spent, with_contents}
+use Rattle.inodes_on_blocks.proofs.Vocabulary.{slice_index, ◌≡◌, inl, inr, ℕ, List, [], length, Option, Some, None, refl, sym, ◌∙◌, subst, arith, Dinode, Super, sizes_of, IsData, Node, Ret, bind, Machine, P, Wp, Both, joined, Stable, seen_of, take_block, Spent, with_contents, World, log_of, disk_of, inode_in, whole, alone, Done, in_hand, Carry, Kept, below, HasSpent, ChangesStill, TookOne, BlocksAreTaken}
+use Rattle.inodes_on_blocks.proofs.Basics.{good_seen, alone_laws, alone_keeps, kept_then, below_laws, kept_disk, empty_hand, lock_range, seen_dinode, other_spends, spent_gives, spent_stays, s-here}
 use Rattle.inode_machine.specs.World as above
-use Rattle.inodes_on_blocks.specs.Below.{World, log_of, disk_of, inode_in}
-use Rattle.inodes_on_blocks.specs.Acting.{whole, alone, Done}
-use Rattle.inodes_on_blocks.specs.Holding.{in_hand}
-use Rattle.inodes_on_blocks.specs.Lowering.{Carry, Kept, below}
-use Rattle.inodes_on_blocks.specs.Room.{HasSpent}
-use Rattle.inodes_on_blocks.specs.Taking.{ChangesStill, TookOne, BlocksAreTaken}
-use Rattle.inodes_on_blocks.proofs.Alone.{alone_laws, alone_keeps, kept_then}
 use Rattle.inodes_on_blocks.proofs.BlockTaking.{Took, TookNone, s-take}
 use Rattle.inodes_on_blocks.proofs.Changing.{changing_start}
 use Rattle.inodes_on_blocks.proofs.Given.{Changing as IsStage, bind-end, stays}
-use Rattle.inodes_on_blocks.proofs.Layer.{below_laws, kept_disk}
-use Rattle.inodes_on_blocks.proofs.Loading.{empty_hand}
-use Rattle.inodes_on_blocks.proofs.Putting.{lock_range}
-use Rattle.inodes_on_blocks.proofs.RecordThen.{seen_dinode}
-use Rattle.inodes_on_blocks.proofs.SpentRoom.{other_spends, spent_gives, spent_stays}
-use Rattle.inodes_on_blocks.proofs.Starting.{s-here}
 
 abbrev M : Super → Machine
 M sizes = joined whole (below sizes)

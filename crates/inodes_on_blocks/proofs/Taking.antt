@@ -1,33 +1,10 @@
 -- A block that a hart takes for an inode that it is changing: the bit is set, and until the record names it the block is spare.
-use Rattle.std.proofs.Common.{◌≡◌, ◌≢◌, inl, inr, ℕ, ◌<◌, Bool, true, false, List, ◌∷◌, Option, Some, None, sym, ◌∙◌, ap, subst, arith, if◌then◌else◌, refl}
-use Rattle.fs_layout.specs.declared.inode.Dinode.{Dinode}
-use Rattle.fs_layout.specs.declared.superblock.Super.{Super}
-use Rattle.fs_layout.specs.Recovered.{sizes_of}
-use Rattle.image_tree.specs.Checks.{IsData, is_marked}
-use Rattle.image_tree.specs.Inodes.{numbers_of}
-use Rattle.inodes_on_blocks.specs.Holds.{IsOwned, NamesOwned, MarksBlocks}
-use Rattle.inodes_on_blocks.specs.Puts.{IsBitPut, IsTaken, IsLaidOut, IsSpare}
-use Rattle.inodes_on_blocks.proofs.HeldFrames.{untouched_change}
-use Rattle.inodes_on_blocks.proofs.HeldPuts.{taken}
-use Rattle.plain_tree.specs.declared.node.Node.{Node}
-use Rattle.plain_tree.specs.Tree.{put}
-use Rattle.tree_laws.proofs.Maps.{either, same_or, put_same, put_other, eq_self}
-use Rattle.fs_machine.specs.Tables.{holder_of as lock_holder}
-use Rattle.fs_machine.specs.Shown.{seen_of}
-use Rattle.bitmap_alloc.specs.Bytes.{with_bit}
+use Rattle.inodes_on_blocks.proofs.Vocabulary.{◌≡◌, ◌≢◌, inl, inr, ℕ, ◌<◌, Bool, true, false, List, ◌∷◌, Option, Some, None, sym, ◌∙◌, ap, subst, arith, if◌then◌else◌, refl, Dinode, Super, sizes_of, IsData, is_marked, numbers_of, IsOwned, NamesOwned, MarksBlocks, IsBitPut, IsTaken, IsLaidOut, IsSpare, Node, put, either, same_or, put_same, put_other, eq_self, lock_holder, seen_of, with_bit, is_hart, Idle, World, log_of, tables_of, disk_of, world_with, Kept, Carry, InHand, IsThrough, CanPut, IsChanging, PutLeaves, log_with, owners_with, Shows}
+use Rattle.inodes_on_blocks.proofs.Basics.{untouched_change, taken, bitmaps_put_bits, held_back, kept_disk, hand_then, lent_then, hart_is, is_here, through_then, through_put, lock_range}
 use Rattle.inode_machine.specs.World as above
-use Rattle.inode_machine.specs.Rules.{is_hart, Idle}
-use Rattle.inodes_on_blocks.specs.Below.{World, log_of, tables_of, disk_of}
-use Rattle.inodes_on_blocks.specs.Giving.{world_with}
-use Rattle.inodes_on_blocks.specs.Lowering.{Kept, Carry, InHand, IsThrough}
-use Rattle.inodes_on_blocks.specs.Recording.{CanPut, IsChanging, PutLeaves, log_with, owners_with}
-use Rattle.inodes_on_blocks.specs.Shown.{Shows}
-use Rattle.inodes_on_blocks.proofs.BitmapPuts.{bitmaps_put_bits}
 use Rattle.inodes_on_blocks.proofs.Changing.{owner_with, LeftTo, Changing, stays_with, others_put}
-use Rattle.inodes_on_blocks.proofs.Layer.{held_back, kept_disk, hand_then, lent_then, hart_is, is_here, through_then, through_put}
 use Rattle.inodes_on_blocks.proofs.OwnerPuts.{owner_taken, taken_other}
 use Rattle.inodes_on_blocks.proofs.PutLaws.{set_bits_leave}
-use Rattle.inodes_on_blocks.proofs.Putting.{lock_range}
 
 -- ---- owners that are the same of the data blocks
 

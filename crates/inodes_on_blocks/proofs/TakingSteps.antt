@@ -1,39 +1,9 @@
 -- The bit of a block set for an inode that a hart is changing: nothing of it is seen above, and the block is spare then.
-use Rattle.std.proofs.Common.{◌≡◌, ◌≢◌, ℕ, zero, suc, ◌^◌, ◌/◌, ◌%◌, ◌<◌, true, false, List, length, length-set, Option, Some, is_some, bit_or, refl, sym, ◌∙◌, ap, subst, arith, slice_index}
-use Rattle.std.proofs.lemmas.Nat.{or_of_8}
-use Rattle.fs_layout.specs.declared.inode.Dinode.{Dinode}
-use Rattle.fs_layout.specs.declared.superblock.Super.{Super}
-use Rattle.fs_layout.specs.Bits.{bit_of}
-use Rattle.fs_layout.specs.Bytes.{IsBytes}
-use Rattle.fs_layout.specs.Recovered.{sizes_of}
-use Rattle.buffer_cache.specs.Seats.{holder_of, kept}
-use Rattle.group_log.specs.Group.{has, HasRoom}
-use Rattle.image_tree.specs.Checks.{IsData, is_marked}
-use Rattle.inodes_on_blocks.proofs.SeenDisks.{good_seen}
-use Rattle.plain_tree.specs.declared.node.Node.{Node}
-use Rattle.plain_tree.specs.Widths.{hart_count}
-use Rattle.atomic_programs.specs.Prog.{Do, unmarked}
-use Rattle.atomic_programs.specs.Logic.{Machine, Laws, P, Wp}
-use Rattle.atomic_programs.specs.Joined.{Both, joined}
-use Rattle.atomic_programs.proofs.Joined.{Stable, Here}
-use Rattle.fs_machine.specs.Shown.{seen_of}
-use Rattle.fs_machine.specs.Steps.{Put}
-use Rattle.bitmap_alloc.specs.Bytes.{with_bit}
+use Rattle.inodes_on_blocks.proofs.Vocabulary.{◌≡◌, ◌≢◌, ℕ, zero, suc, ◌^◌, ◌/◌, ◌%◌, ◌<◌, true, false, List, length, length-set, Option, Some, is_some, bit_or, refl, sym, ◌∙◌, ap, subst, arith, slice_index, or_of_8, Dinode, Super, bit_of, IsBytes, sizes_of, holder_of, kept, has, HasRoom, IsData, is_marked, Node, hart_count, Do, unmarked, Machine, Laws, P, Wp, Both, joined, Stable, Here, seen_of, Put, with_bit, if_kept, Inv, World, log_of, disk_of, world_with, KeepsRoom, in_hand, HasBuffer, Kept, Carry, buffer_in, below, Labels, labelled, Keeps, CanPut, IsChanging, log_with, Shows}
+use Rattle.inodes_on_blocks.proofs.Basics.{good_seen, marks_are_bits, buffer_then, buffer_seen, same_view, below_laws, put_hand}
 use Rattle.inode_machine.specs.World as above
-use Rattle.inode_machine.specs.Rules.{if_kept, Inv}
-use Rattle.inodes_on_blocks.specs.Below.{World, log_of, disk_of}
-use Rattle.inodes_on_blocks.specs.Giving.{world_with, KeepsRoom}
-use Rattle.inodes_on_blocks.specs.Holding.{in_hand, HasBuffer}
-use Rattle.inodes_on_blocks.specs.Lowering.{Kept, Carry, buffer_in, below, Labels, labelled, Keeps}
-use Rattle.inodes_on_blocks.specs.Recording.{CanPut, IsChanging, log_with}
-use Rattle.inodes_on_blocks.specs.Shown.{Shows}
-use Rattle.inodes_on_blocks.proofs.BitmapPuts.{marks_are_bits}
 use Rattle.inodes_on_blocks.proofs.Changing.{Changing, left_same, changing_then}
-use Rattle.inodes_on_blocks.proofs.Fetching.{buffer_then, buffer_seen}
-use Rattle.inodes_on_blocks.proofs.Hands.{same_view}
-use Rattle.inodes_on_blocks.proofs.Layer.{below_laws}
 use Rattle.inodes_on_blocks.proofs.PutSteps.{Putting, set_bytes, bitmap_home, s-put}
-use Rattle.inodes_on_blocks.proofs.Recorded.{put_hand}
 use Rattle.inodes_on_blocks.proofs.Taking.{HasSpare, take_leaves, spare_then}
 
 -- ---- bytes

@@ -1,22 +1,6 @@
 -- A well-formed image holds a well-formed tree.
-use Rattle.std.proofs.Common.{◌≡◌, ℕ, ◌<◌, true, inl, inr, refl, sym, ◌∙◌, ap, subst, arith, List, replicate, get_or, Option, Some, None}
-use Rattle.std.proofs.lemmas.List.{get_or-replicate}
-use Rattle.fs_layout.specs.Recovered.{sizes_of}
-use Rattle.plain_tree.specs.declared.node.Node.{Node}
-use Rattle.plain_tree.specs.declared.tree.Hart.{Hart}
-use Rattle.plain_tree.specs.declared.tree.Hold.{Hold}
-use Rattle.plain_tree.specs.Widths.{hart_count, descriptor_count, root}
-use Rattle.plain_tree.specs.Tree.{Tree, tree_of, resting}
-use Rattle.plain_tree.specs.Fresh.{fresh_hart}
-use Rattle.image_tree.specs.Inodes.{is_node, is_live_directory}
-use Rattle.image_tree.specs.Damage.{IsWellFormed}
-use Rattle.image_tree.specs.Trees.{node_of, tree_in}
-use Rattle.image_tree.proofs.Nodes.{node_is}
+use Rattle.inodes_on_blocks.proofs.Vocabulary.{◌≡◌, ℕ, ◌<◌, true, inl, inr, refl, sym, ◌∙◌, ap, subst, arith, List, replicate, get_or, Option, Some, None, get_or-replicate, sizes_of, Node, Hart, Hold, hart_count, descriptor_count, root, Tree, tree_of, resting, fresh_hart, is_node, is_live_directory, IsWellFormed, node_of, tree_in, node_is, folders_of, links_in, raised_at, raises, IsForest, IsThere, either, everywhere, sum_none}
 use Rattle.tree_laws.specs.WellFormed as trees
-use Rattle.tree_laws.specs.WellFormed.{folders_of, links_in, raised_at, raises, IsForest, IsThere}
-use Rattle.tree_laws.proofs.Maps.{either}
-use Rattle.tree_laws.proofs.Nodes.{everywhere}
-use Rattle.tree_laws.proofs.Sums.{sum_none}
 use Rattle.inodes_on_blocks.proofs.Nodes.{no_node, nodes_at, ninodes_are, directory_there}
 use Rattle.inodes_on_blocks.proofs.Depths.{depth_in}
 use Rattle.inodes_on_blocks.proofs.Forests.{root_live, forest}

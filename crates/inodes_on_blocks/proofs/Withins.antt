@@ -1,35 +1,16 @@
 -- The operations below within what their call's transactions may record, and whole calls.
-use Rattle.std.proofs.Common.{[], ◌<◌, arith, ◌≡◌, ℕ, suc, true, false, is_some, Option, Some, None, sym, ◌∙◌, ap}
-use Rattle.std.proofs.lemmas.Option.{get_or_from_slice_get}
-use Rattle.fs_layout.specs.declared.superblock.Super.{Super}
-use Rattle.plain_tree.specs.Tree.{Name}
-use Rattle.plain_tree.specs.Widths.{hart_count}
-use Rattle.atomic_programs.specs.Prog.{Ret, Do}
-use Rattle.atomic_programs.specs.Logic.{Laws, P}
-use Rattle.atomic_programs.specs.Spending.{Affords}
-use Rattle.inode_table.specs.Programs.{inode_block}
+use Rattle.inodes_on_blocks.proofs.Vocabulary.{[], ◌<◌, arith, ◌≡◌, ℕ, suc, true, false, is_some, Option, Some, None, sym, ◌∙◌, ap, get_or_from_slice_get, Super, Name, hart_count, Ret, Do, Laws, P, Affords, inode_block, Clear, Empty, Store, Spent, most_recorded, size, unspent, spent_after, with_bitmap, with_contents, with_inode as with_record, more, World, log_of, Shows, Labels, labelled, Keeps, Handler, empty, store, clear, ActsOnceAt, Answers, IsDone, alone, HasSpent, recorded_blocks, Spends, ActsWithin, RecordingsStayWithin}
 use Rattle.inode_machine.specs.World as above
-use Rattle.inode_machine.specs.World.Op.{Clear, Empty, Free, Store}
-use Rattle.inode_machine.specs.Budget.{HasRoom, Spent, most_recorded, size, unspent, spent_after, with_bitmap, with_contents, with_record}
-use Rattle.inode_machine.specs.Rules.{more}
-use Rattle.inodes_on_blocks.specs.Below.{World, log_of}
-use Rattle.inodes_on_blocks.specs.Shown.{Shows}
-use Rattle.inodes_on_blocks.specs.Lowering.{Labels, labelled, Keeps}
-use Rattle.inodes_on_blocks.specs.Handlers.{Handler}
-use Rattle.inodes_on_blocks.specs.Emptying.{empty, free}
-use Rattle.inodes_on_blocks.specs.Storing.{store}
-use Rattle.inodes_on_blocks.specs.Naming.{clear}
-use Rattle.inodes_on_blocks.specs.Acting.{ActsOnceAt, Answers, IsDone, alone}
-use Rattle.inodes_on_blocks.specs.Room.{HasSpent}
-use Rattle.inodes_on_blocks.specs.Spending.{recorded_blocks, Spends, ActsWithin, RecordingsStayWithin}
-use Rattle.inodes_on_blocks.proofs.Alone.{alone_keeps, alone_laws, lasts_done}
+use Rattle.inode_machine.specs.World.Op.{Free}
+use Rattle.inode_machine.specs.Budget.{HasRoom}
+use Rattle.inodes_on_blocks.specs.Emptying.{free}
+use Rattle.inodes_on_blocks.proofs.Basics.{alone_keeps, alone_laws, lasts_done, bitmap_spent, both_more, other_spends, record_more, record_spent, spent_gives}
 use Rattle.inodes_on_blocks.proofs.ClearSteps.{clear_acts}
 use Rattle.inodes_on_blocks.proofs.EmptySteps.{empty_acts}
 use Rattle.inodes_on_blocks.proofs.FreeSteps.{free_acts}
 use Rattle.inodes_on_blocks.proofs.StoreSteps.{store_acts}
 use Rattle.inodes_on_blocks.proofs.Spending.{stays_within}
 use Rattle.inodes_on_blocks.proofs.Spends.{programs_spend}
-use Rattle.inodes_on_blocks.proofs.SpentRoom.{bitmap_spent, both_more, other_spends, record_more, record_spent, spent_gives}
 
 module _ (sizes : Super) (l : Labels) (laws : Laws (labelled l)) (keeps : Keeps l) (h : ℕ) (lt : h < hart_count) where
   -- one whose law asks for no room

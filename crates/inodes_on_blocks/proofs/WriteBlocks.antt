@@ -1,45 +1,14 @@
 -- Bytes are written into the blocks of a file that a hart is changing, one block after the other. Nothing of it is seen above.
-use Rattle.std.proofs.Common.{◌≡◌, ⊎_elim, ℕ, zero, suc, ◌+◌, ◌-◌, ◌*◌, ◌/◌, ◌%◌, ◌<◌, ◌≤◌, true, false, List, [], ◌++◌, length, take, drop, Option, sym, ◌∙◌, ap, subst, arith, length-append, length-take, length-drop}
-use Rattle.std.specs.Prelude.{max, min}
-use Rattle.std.proofs.lemmas.Bool.{cases_lt}
-use Rattle.std.proofs.lemmas.List.{take_all, take-append-drop}
-use Rattle.fs_layout.specs.declared.inode.Dinode.{Dinode}
-use Rattle.fs_layout.specs.declared.superblock.Super.{Super}
-use Rattle.fs_layout.specs.Bytes.{IsBytes, overwrite}
-use Rattle.fs_layout.specs.Recovered.{recovered}
-use Rattle.fs_layout.proofs.Overwrites.{overwrite-overwrite}
-use Rattle.image_tree.specs.Checks.{largest_size}
-use Rattle.inodes_on_blocks.specs.Puts.{Becomes, IsBytesPut, IsPut}
+use Rattle.inodes_on_blocks.proofs.Vocabulary.{◌≡◌, ⊎_elim, ℕ, zero, suc, ◌+◌, ◌-◌, ◌*◌, ◌/◌, ◌%◌, ◌<◌, ◌≤◌, true, false, List, [], ◌++◌, length, take, drop, Option, sym, ◌∙◌, ap, subst, arith, length-append, length-take, max, min, cases_lt, take_all, take-append-drop, Dinode, Super, IsBytes, overwrite, recovered, overwrite-overwrite, largest_size, Becomes, IsBytesPut, IsPut, Node, File, hart_count, bind, Machine, Laws, P, Wp, Both, joined, Stable, Wp-more, seen_of, table_of, blocks_between, next_block, WriteResult, front_of, with_part, write_blocks, side_by_side, some_between, next_between, Spent, size, most_recorded, Inv, World, log_of, disk_of, Carry, below, Labels, labelled, Keeps, IsChanging, log_with}
+use Rattle.std.proofs.Common.{length-drop}
 use Rattle.inodes_on_blocks.proofs.LaidBytes.{bytes_laid}
-use Rattle.inodes_on_blocks.proofs.SeenDisks.{good_seen}
-use Rattle.plain_tree.specs.declared.node.Node.{Node}
-use Rattle.plain_tree.specs.declared.node.Kind.TheVariants.{File}
-use Rattle.plain_tree.specs.Widths.{hart_count}
-use Rattle.atomic_programs.specs.Prog.{bind}
-use Rattle.atomic_programs.specs.Logic.{Machine, Laws, P, Wp}
-use Rattle.atomic_programs.specs.Joined.{Both, joined}
-use Rattle.atomic_programs.proofs.Joined.{Stable}
-use Rattle.atomic_programs.proofs.Sound.{Wp-more}
-use Rattle.fs_machine.specs.Shown.{seen_of}
-use Rattle.inode_data.specs.Addresses.{table_of}
-use Rattle.inode_data.specs.Programs.{blocks_between, next_block}
-use Rattle.inode_data.specs.Writing.{WriteResult, front_of, with_part, write_blocks}
-use Rattle.inode_data.proofs.ContentFronts.{side_by_side}
-use Rattle.inode_data.proofs.ReadLaw.{some_between, next_between}
-use Rattle.inode_machine.specs.Budget.{Spent, size, most_recorded}
+use Rattle.inodes_on_blocks.proofs.Basics.{good_seen, HasBlocks, extra, below_laws, drop_bytes}
 use Rattle.inode_machine.specs.World as above
-use Rattle.inode_machine.specs.Rules.{Inv}
-use Rattle.inodes_on_blocks.specs.Below.{World, log_of, disk_of}
-use Rattle.inodes_on_blocks.specs.Lowering.{Carry, below, Labels, labelled, Keeps}
-use Rattle.inodes_on_blocks.specs.Recording.{IsChanging, log_with}
-use Rattle.inodes_on_blocks.proofs.BlocksRoom.{HasBlocks, extra}
 use Rattle.inodes_on_blocks.proofs.Changing.{owner_with}
-use Rattle.inodes_on_blocks.proofs.Layer.{below_laws}
 use Rattle.inodes_on_blocks.proofs.LocateSteps.{Between, Fits, locate_steps}
 use Rattle.inodes_on_blocks.proofs.NumberPuts.{sized}
 use Rattle.inodes_on_blocks.proofs.PartSteps.{MakesPart, s-part}
 use Rattle.inodes_on_blocks.proofs.ReadParts.{many_between, none_there}
-use Rattle.inodes_on_blocks.proofs.Records.{drop_bytes}
 
 -- a file's node
 abbrev pub file : ℕ → List ℕ → Node

@@ -1,63 +1,14 @@
 -- A piece is written into a locked file, and the operation acts where the lock is given up; or it is refused.
-use Rattle.std.proofs.Common.{◌≡◌, ⊎_elim, ℕ, zero, suc, ◌+◌, ◌-◌, ◌/◌, ◌<◌, ◌≤◌, ◌==◌, ◌&&◌, not, nat_lt, Bool, true, false, List, [], ◌∷◌, length, take, drop, Option, Some, None, refl, sym, ◌∙◌, ap, subst, arith, append_assoc, if◌then◌else◌, slice_index}
-use Rattle.std.specs.Prelude.{max}
-use Rattle.std.specs.Option.{unwrap_or}
-use Rattle.std.proofs.lemmas.Bool.{cases_lt}
-use Rattle.std.proofs.lemmas.Bool.Decides.{nat_tests}
-use Rattle.std.proofs.lemmas.Option.{none-some}
-use Rattle.fs_layout.specs.declared.inode.Dinode.{Dinode}
-use Rattle.fs_layout.specs.declared.superblock.Super.{Super}
-use Rattle.fs_layout.specs.Bytes.{IsBytes, overwrite}
-use Rattle.fs_layout.specs.Inode.{IsDinode}
-use Rattle.image_tree.specs.Checks.{largest_size}
-use Rattle.inodes_on_blocks.specs.Holds.{HoldsAt}
-use Rattle.plain_tree.specs.declared.answer.Cause.{Cause}
-use Rattle.plain_tree.specs.declared.answer.Cause.TheVariants.{BadOffset, TooBig}
-use Rattle.plain_tree.specs.declared.node.Node.{Node}
-use Rattle.plain_tree.specs.declared.node.Kind.{Kind}
-use Rattle.plain_tree.specs.declared.node.Kind.TheVariants.{Directory, File, Device}
-use Rattle.plain_tree.specs.Steps.{content, is_file, node_or, write_kind}
-use Rattle.plain_tree.specs.Widths.{hart_count}
-use Rattle.atomic_programs.specs.Prog.{Ret, bind}
-use Rattle.atomic_programs.specs.Logic.{Machine, Laws, P, Wp}
-use Rattle.atomic_programs.specs.Joined.{Both, Handover, joined, Below, Lasts}
-use Rattle.atomic_programs.proofs.Joined.{ToAct, to_act, may_act}
-use Rattle.atomic_programs.proofs.Prog.{bind-assoc}
-use Rattle.atomic_programs.proofs.Sound.{Wp-more}
-use Rattle.fs_machine.specs.Tables.{holder_of as lock_holder}
-use Rattle.inode_table.specs.Programs.{inode_block, no_record, store as store_inode}
-use Rattle.inode_data.specs.declared.addresses.Address.TheVariants.{Direct, InTable}
-use Rattle.inode_data.specs.Addresses.{table_of}
-use Rattle.inode_data.specs.Programs.{blocks_between}
-use Rattle.inode_data.specs.Writing.{WriteResult, front_of, grown, locate_at, locate_in_table, located, name_direct, store_written, take_one, with_table, write_blocks, write_located}
-use Rattle.inode_machine.specs.Budget.{Spent, size, with_bitmap, with_contents, with_record as with_inode, most_recorded}
+use Rattle.inodes_on_blocks.proofs.Vocabulary.{◌≡◌, ⊎_elim, ℕ, zero, suc, ◌+◌, ◌-◌, ◌/◌, ◌<◌, ◌≤◌, ◌==◌, ◌&&◌, not, nat_lt, Bool, true, false, List, [], ◌∷◌, length, take, drop, Option, Some, None, refl, sym, ◌∙◌, ap, subst, arith, append_assoc, if◌then◌else◌, slice_index, max, unwrap_or, cases_lt, nat_tests, none-some, Dinode, Super, IsBytes, overwrite, IsDinode, largest_size, HoldsAt, Cause, BadOffset, TooBig, Node, Kind, Directory, File, Device, content, node_or, write_kind, hart_count, Ret, bind, Machine, Laws, P, Wp, Both, Handover, joined, Below, Lasts, ToAct, to_act, may_act, bind-assoc, Wp-more, lock_holder, inode_block, no_record, store_inode, Direct, InTable, table_of, blocks_between, WriteResult, front_of, grown, locate_at, locate_in_table, located, name_direct, store_written, take_one, with_table, write_blocks, write_located, Spent, size, with_bitmap, with_contents, with_inode, most_recorded, Wrote, WriteFile, with_bytes, Inv, World, log_of, tables_of, disk_of, inode_in, Apart, Emptied, Has, Had, Carry, IsLoaded, Stands, below, Labels, labelled, Keeps, record_had, IsChanging, HasSpent, Shows, ActsWithin, DoesItWithin, NoMore, record_in, deny_write, give_written, refused_in, write_file, write_unless, Answers, IsDone, alone}
+use Rattle.plain_tree.specs.Steps.{is_file}
 use Rattle.inode_machine.specs.World as above
-use Rattle.inode_machine.specs.World.{Wrote}
-use Rattle.inode_machine.specs.World.Op.{WriteFile}
-use Rattle.inode_machine.specs.Exec.{with_bytes}
 use Rattle.inode_machine.specs.Rules as rules
-use Rattle.inode_machine.specs.Rules.{Inv}
-use Rattle.inodes_on_blocks.specs.Below.{World, log_of, tables_of, disk_of, inode_in}
-use Rattle.inodes_on_blocks.specs.Lowering.{Apart, Emptied, Has, Had, Carry, IsLoaded, Stands, below, Labels, labelled, Keeps, record_had}
-use Rattle.inodes_on_blocks.specs.Recording.{IsChanging}
-use Rattle.inodes_on_blocks.specs.Room.{HasSpent}
-use Rattle.inodes_on_blocks.specs.Shown.{Shows}
-use Rattle.inodes_on_blocks.specs.Spending.{ActsWithin, DoesItWithin, NoMore}
-use Rattle.inodes_on_blocks.specs.Storing.{record_in}
-use Rattle.inodes_on_blocks.specs.Writing.{deny_write, give_written, refused_in, write_file, write_unless}
-use Rattle.inodes_on_blocks.specs.Acting.{Answers, IsDone, alone}
-use Rattle.inodes_on_blocks.proofs.Alone.{alone_keeps, alone_laws, lasts_done}
-use Rattle.inodes_on_blocks.proofs.BlocksRoom.{HasBlocks, blocks_start, blocks_end, extra, named_room, one_of}
+use Rattle.inodes_on_blocks.proofs.Basics.{alone_keeps, alone_laws, lasts_done, HasBlocks, blocks_start, blocks_end, extra, named_room, one_of, below_laws, lock_range, seen_dinode, both_more, record_spent, spent_stays, TakesStep, s-here}
 use Rattle.inodes_on_blocks.proofs.Changing.{Changing, changing_start}
-use Rattle.inodes_on_blocks.proofs.Layer.{below_laws}
 use Rattle.inodes_on_blocks.proofs.LocateSteps.{Between, Fits}
 use Rattle.inodes_on_blocks.proofs.NumberPuts.{sized}
-use Rattle.inodes_on_blocks.proofs.Putting.{lock_range}
 use Rattle.inodes_on_blocks.proofs.ReadParts.{many_between, none_there}
-use Rattle.inodes_on_blocks.proofs.RecordThen.{seen_dinode}
 use Rattle.inodes_on_blocks.proofs.Spending.{ends_within}
-use Rattle.inodes_on_blocks.proofs.SpentRoom.{both_more, record_spent, spent_stays}
-use Rattle.inodes_on_blocks.proofs.Starting.{TakesStep, s-here}
 use Rattle.inodes_on_blocks.proofs.StatSteps.{in_use}
 use Rattle.inodes_on_blocks.proofs.WriteBlocks.{file, s-blocks, write_steps, write_steps_are}
 use Rattle.inodes_on_blocks.proofs.WrittenSteps.{IsWritten, denies, gives_written, s-stored}

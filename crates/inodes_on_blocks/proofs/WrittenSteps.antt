@@ -1,79 +1,21 @@
 -- The end of a write: the inode's record is put unseen, and the operation acts where the lock is given up and the offset moves.
-use Rattle.std.proofs.Common.{◌≡◌, ◌≢◌, inl, inr, ℕ, suc, ◌+◌, ◌-◌, ◌<◌, ◌≤◌, ◌==◌, if◌then◌else◌, Bool, true, false, List, length, take, Option, Some, None, is_some, refl, sym, ◌∙◌, ap, subst, arith}
-use Rattle.std.specs.Option.{option_map}
-use Rattle.std.specs.Prelude.{IfSome}
-use Rattle.std.proofs.lemmas.List.{length-take, take_all}
-use Rattle.std.proofs.lemmas.Option.{none-some}
-use Rattle.fs_layout.specs.declared.inode.Dinode.{Dinode}
-use Rattle.fs_layout.specs.declared.superblock.Super.{Super}
-use Rattle.fs_layout.specs.Inode.{IsDinode}
-use Rattle.fs_layout.specs.Recovered.{IsOutsideLog}
-use Rattle.buffer_cache.specs.Seats.{holder_of, kept}
-use Rattle.group_log.specs.Group.{has, HasRoom}
-use Rattle.image_tree.specs.Checks.{largest_size}
-use Rattle.inodes_on_blocks.specs.Holds.{HoldsAt}
-use Rattle.inodes_on_blocks.proofs.HeldFrames.{untouched}
-use Rattle.plain_tree.specs.declared.answer.Cause.{Cause}
-use Rattle.plain_tree.specs.declared.node.Node.{Node}
-use Rattle.plain_tree.specs.Steps.{node_or, write_kind}
-use Rattle.plain_tree.specs.Tree.{put}
-use Rattle.plain_tree.specs.Widths.{hart_count}
-use Rattle.plain_tree.proofs.TreeLemmas.{put_again}
-use Rattle.tree_laws.proofs.Maps.{eq_is, eq_isnt, same_or, put_same, put_other}
-use Rattle.atomic_programs.specs.Prog.{Ret, Do, bind, Ran}
-use Rattle.atomic_programs.specs.Logic.{Machine, Laws, P, Wp}
-use Rattle.atomic_programs.specs.Joined.{Both, Handover, joined, Below, Lasts}
-use Rattle.atomic_programs.proofs.Joined.{Acting, Here, Stable, ToAct, s-act}
-use Rattle.atomic_programs.proofs.Prog.{bind-assoc}
+use Rattle.inodes_on_blocks.proofs.Vocabulary.{◌≡◌, ◌≢◌, inl, inr, ℕ, suc, ◌+◌, ◌-◌, ◌<◌, ◌≤◌, ◌==◌, if◌then◌else◌, Bool, true, false, List, length, take, Option, Some, None, is_some, refl, sym, ◌∙◌, ap, subst, arith, option_map, IfSome, take_all, none-some, Dinode, Super, IsDinode, IsOutsideLog, holder_of, kept, has, HasRoom, largest_size, HoldsAt, Cause, Node, node_or, write_kind, put, hart_count, put_again, eq_is, eq_isnt, same_or, put_same, put_other, Ret, Do, bind, Ran, Machine, Laws, P, Wp, Both, Handover, joined, Below, Lasts, Acting, Here, Stable, ToAct, s-act, bind-assoc, Inode, unlock_inode, TablesState, file_named, lock_holder, Outside, fetch, seen_of, WriteResult, inode_block, put_inode, with_dinode, store_inode, Entry, Wrote, Whole, Stopped as Refused, Short, WriteFile, entry_at, offset_of, slot_at, unlocked, with_bytes, with_offset, with_record, write_at, write_if, wrote_in, marked, with_mark, HonestPiece, Idle, Inv, loaded, file_of, World, log_of, tables_of, disk_of, inode_in, exec, KeepsRoom, world_with, acts, in_hand, IsFetched, Apart, Base, Carry, Had, Has, InHand, IsLoaded, IsOpened, Keeps, Kept, Labels, NothingMore, Same, Stands, below, labelled, record_had, IsThrough, CanPut, IsChanging, log_with, owners_with, Shows, give_written, deny_write}
+use Rattle.std.proofs.lemmas.List.{length-take}
+use Rattle.inodes_on_blocks.proofs.Basics.{untouched, locks_are_given, file_is, offsets_are_moved, kept_then, buffer_seen, buffer_then, s-fetch, base_marked, below_laws, hand_then, kept_disk, lent_then, through_then, through_put, empty_hand, inode_place, marked_same, shows_marked, open_same, open_then, lock_range, node_then, inode_home, untaken, stored_long, stored_bytes, one_step_from, with_tables}
 use Rattle.fs_machine.specs.declared.files.OpenFile as files
-use Rattle.fs_machine.specs.declared.entries.Inode.{Inode}
-use Rattle.fs_machine.specs.Inodes.{unlock_inode}
-use Rattle.fs_machine.specs.Tables.{TablesState, file_named, holder_of as lock_holder}
-use Rattle.fs_machine.specs.LogPart.{Outside}
 use Rattle.fs_machine.specs.Premises as premises
-use Rattle.fs_machine.specs.Programs.{fetch}
-use Rattle.fs_machine.specs.Shown.{seen_of}
 use Rattle.fs_machine.specs.Steps as steps
-use Rattle.inode_data.specs.Writing.{WriteResult}
-use Rattle.inode_table.specs.Programs.{inode_block, put_inode, with_dinode, store as store_inode}
 use Rattle.inode_machine.specs.World as above
-use Rattle.inode_machine.specs.World.{Entry, Wrote, Whole, Refused, Short}
-use Rattle.inode_machine.specs.World.Op.{WriteFile}
 use Rattle.inode_machine.specs.Exec as above_exec
-use Rattle.inode_machine.specs.Exec.{entry_at, entry_of, offset_of, slot_at, unlocked, with_bytes, with_offset, with_record, write_at, write_if, write_in, wrote_in}
-use Rattle.inode_machine.specs.Marks.{marked, with_mark}
+use Rattle.inode_machine.specs.Exec.{entry_of, write_in}
 use Rattle.inode_machine.specs.Rules as rules
-use Rattle.inode_machine.specs.Rules.{HonestPiece, Idle, Inv}
 use Rattle.inodes_on_blocks.specs.ShownTables as tables
-use Rattle.inodes_on_blocks.specs.ShownTables.{loaded, file_of}
-use Rattle.inodes_on_blocks.proofs.Locks.{locks_are_given}
-use Rattle.inodes_on_blocks.proofs.Named.{file_is, offsets_are_moved}
-use Rattle.inodes_on_blocks.specs.Below.{World, log_of, tables_of, disk_of, inode_in, exec}
-use Rattle.inodes_on_blocks.specs.Giving.{KeepsRoom, world_with}
-use Rattle.inodes_on_blocks.specs.Handlers.{acts}
-use Rattle.inodes_on_blocks.specs.Holding.{in_hand, IsFetched}
-use Rattle.inodes_on_blocks.specs.Lowering.{Apart, Base, Carry, Had, Has, InHand, IsLoaded, IsOpened, Keeps, Kept, Labels, NothingMore, Same, Stands, below, labelled, record_had, IsThrough}
-use Rattle.inodes_on_blocks.specs.Recording.{CanPut, IsChanging, log_with, owners_with}
 use Rattle.inodes_on_blocks.specs.Recording as recording
-use Rattle.inodes_on_blocks.specs.Shown.{Shows}
-use Rattle.inodes_on_blocks.specs.Writing.{give_written, deny_write}
-use Rattle.inodes_on_blocks.proofs.Alone.{kept_then}
 use Rattle.inodes_on_blocks.proofs.Changing.{Changing, changing_then, left_but, left_same, others_put}
-use Rattle.inodes_on_blocks.proofs.Fetching.{buffer_seen, buffer_then, s-fetch}
-use Rattle.inodes_on_blocks.proofs.Layer.{base_marked, below_laws, hand_then, kept_disk, lent_then, through_then, through_put}
-use Rattle.inodes_on_blocks.proofs.Loading.{empty_hand, inode_place}
-use Rattle.inodes_on_blocks.proofs.Marked.{marked_same, shows_marked}
 use Rattle.inodes_on_blocks.proofs.NamingPuts.{holds_then, inode_then, naming_leaves, none_taken}
-use Rattle.inodes_on_blocks.proofs.OpenFiles.{open_same, open_then}
-use Rattle.inodes_on_blocks.proofs.Putting.{lock_range}
 use Rattle.inodes_on_blocks.proofs.PutSteps.{Putting, s-put}
 use Rattle.inodes_on_blocks.proofs.ReadSteps.{moved_back}
-use Rattle.inodes_on_blocks.proofs.RecordPuts.{node_then}
-use Rattle.inodes_on_blocks.proofs.RecordThen.{inode_home, untaken}
-use Rattle.inodes_on_blocks.proofs.Records.{stored_long, stored_bytes}
-use Rattle.inodes_on_blocks.proofs.Stepping.{one_step_from}
 use Rattle.inodes_on_blocks.proofs.TableSteps.{GivesBack, given_base, given_came, given_same, given_shows, unlocked_back, unlocked_shows}
-use Rattle.inodes_on_blocks.proofs.Tables.{with_tables}
 
 -- ---- an inode that was changed, and whose lock the hart has still
 

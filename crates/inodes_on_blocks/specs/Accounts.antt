@@ -1,12 +1,7 @@
 -- What a hart's transaction has added to the group, beside what its call's program may spend.
 use Rattle.std.specs.Prelude.{◌≡◌, ◌⊎◌, ℕ, ◌+◌, ◌<◌, ◌≤◌, ◌&&◌, List, [], ◌∷◌, true, false, Some, slice_get, slice_set}
-use Rattle.fs_layout.specs.declared.superblock.Super.{Super}
-use Rattle.tree_laws.specs.WellFormed.{one_if}
-use Rattle.group_log.specs.Group.{has, HasRoom, IsMember}
-use Rattle.inode_table.specs.Programs.{inode_block}
-use Rattle.inode_machine.specs.Budget.{Spent, unspent, size, with_record, with_bitmap, with_contents, most_recorded}
+use Rattle.inodes_on_blocks.specs.Vocabulary.{Super, one_if, has, HasRoom, IsMember, inode_block, Spent, unspent, size, with_record, with_bitmap, with_contents, most_recorded, LogPart, put_block}
 use Rattle.inode_machine.specs.Budget as budget
-use Rattle.fs_machine.specs.LogPart.{LogPart, put_block}
 
 -- how many of these inodes' records, each by its block, are in the group
 abbrev pub recorded_in : Super → List ℕ → List ℕ → ℕ

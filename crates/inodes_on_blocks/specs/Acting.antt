@@ -1,12 +1,7 @@
 -- An operation's program below acts at one moment, alone of all operations' programs.
 use Rattle.std.specs.Prelude.{◌≡◌, ℕ, suc, ◌<◌, List, [], ◌∷◌, Option}
-use Rattle.fs_layout.specs.declared.superblock.Super.{Super}
-use Rattle.plain_tree.specs.Widths.{hart_count}
-use Rattle.atomic_programs.specs.Logic.{Machine, Wp}
-use Rattle.atomic_programs.specs.Prog.{once}
-use Rattle.atomic_programs.specs.Joined.{Both, joined, Below, Lasts}
+use Rattle.inodes_on_blocks.specs.Vocabulary.{Super, hart_count, Machine, Wp, once, Both, joined, Below, Lasts, more}
 use Rattle.inode_machine.specs.World as above
-use Rattle.inode_machine.specs.Rules.{more}
 use Rattle.inodes_on_blocks.specs.Below.{World}
 use Rattle.inodes_on_blocks.specs.Lowering.{Carry, Kept, Stands, below, Labels, labelled}
 use Rattle.inodes_on_blocks.specs.Handlers.{Handler}

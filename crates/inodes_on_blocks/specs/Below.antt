@@ -1,14 +1,9 @@
 -- The machine below: what all harts share, and beside it, for the proof alone, whose each block is and which hart commits.
 use Rattle.std.specs.Prelude.{ℕ, List, Bool, true, false, if◌then◌else◌, Option, Some, None}
-use Rattle.fs_layout.specs.declared.inode.Dinode.{Dinode}
-use Rattle.plain_tree.specs.Tree.{put}
-use Rattle.image_tree.specs.Inodes.{inode_of, is_free}
-use Rattle.group_log.specs.declared.log.Left.TheVariants.{Free, Commits}
-use Rattle.atomic_programs.specs.Prog.{Did, Waits, Ran, Stops}
-use Rattle.fs_machine.specs.Tables.{TablesState, holder_of as lock_holder}
-use Rattle.fs_machine.specs.LogPart.{LogPart, Outside}
+use Rattle.inodes_on_blocks.specs.Vocabulary.{Dinode, put, inode_of, is_free, Commits, Did, Waits, Ran, Stops, TablesState, lock_holder, LogPart, Outside, State, Op, Answer, Put, Commit, Claims}
+use Rattle.group_log.specs.declared.log.Left.TheVariants.{Free}
 use Rattle.fs_machine.specs.Steps as steps
-use Rattle.fs_machine.specs.Steps.{State, Op, Answer, Leave, Put, Commit, Claim, Claims}
+use Rattle.fs_machine.specs.Steps.{Leave, Claim}
 use Rattle.inodes_on_blocks.specs.OnBlocks.{shown}
 use Rattle.inodes_on_blocks.specs.Owners.{Owners, owners_put}
 

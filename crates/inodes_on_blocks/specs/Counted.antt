@@ -1,15 +1,9 @@
 -- What the machine below asks of the tables wherever an operation waits, from what it shows of the world above.
 use Rattle.std.specs.Prelude.{◌≡◌, ℕ}
-use Rattle.atomic_programs.specs.Prog.{Waits}
-use Rattle.fs_machine.specs.LogPart.{Outside}
+use Rattle.inodes_on_blocks.specs.Vocabulary.{Waits, Outside, Op, May, MayWait, IsCounted, Inv}
 use Rattle.fs_machine.specs.Steps as steps
-use Rattle.fs_machine.specs.Steps.{Op}
-use Rattle.fs_machine.specs.Premises.{May, MayWait}
-use Rattle.fs_machine.specs.Waiting.{IsCounted}
 use Rattle.inode_machine.specs.World as above
-use Rattle.inode_machine.specs.Rules.{Inv}
-use Rattle.inodes_on_blocks.specs.Below.{World, tables_of}
-use Rattle.inodes_on_blocks.specs.Shown.{Shows}
+use Rattle.inodes_on_blocks.specs.Basics.{World, tables_of, Shows}
 
 -- Each reference that an open file or a current directory has is counted.
 abbrev pub ReferencesAreCounted : Type 0

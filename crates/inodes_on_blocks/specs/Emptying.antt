@@ -1,18 +1,9 @@
 -- The programs below of operations that give an inode's content back. On a disk of these sizes; c: what the hart has of the inodes whose
 -- locks it has.
 use Rattle.std.specs.Prelude.{ℕ, take}
-use Rattle.fs_layout.specs.declared.superblock.Super.{Super}
-use Rattle.fs_layout.specs.declared.inode.Dinode.{Dinode}
-use Rattle.atomic_programs.specs.Prog.{bind}
-use Rattle.fs_machine.specs.Programs.{fetch}
-use Rattle.inode_table.specs.Programs.{inode_block, store as store_inode}
-use Rattle.inode_data.specs.Addresses.{table_of}
-use Rattle.inode_data.specs.Freeing.{free_numbers, free_indirect, without_content, freed}
+use Rattle.inodes_on_blocks.specs.Vocabulary.{Super, Dinode, bind, fetch, inode_block, store_inode, table_of, free_numbers, free_indirect, without_content, freed, Empty, Free}
 use Rattle.inode_data.specs.Widths.{direct}
-use Rattle.inode_machine.specs.World.Op.{Empty, Free}
-use Rattle.inodes_on_blocks.specs.Lowering.{NothingMore, Has, Emptied}
-use Rattle.inodes_on_blocks.specs.Handlers.{P, Handler}
-use Rattle.inodes_on_blocks.specs.Storing.{record_in, put_record}
+use Rattle.inodes_on_blocks.specs.Basics.{NothingMore, Has, Emptied, P, Handler, record_in, put_record}
 
 -- all blocks of the inode with this record are given back, and then it goes on
 abbrev pub give_content : {A : Type 0} → Super → Dinode → P A → P A

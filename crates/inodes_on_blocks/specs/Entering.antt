@@ -1,29 +1,11 @@
 -- The programs below of operations that enter names in a directory. On a disk of these sizes; c: what the hart has of the inodes whose
 -- locks it has.
 use Rattle.std.specs.Prelude.{ℕ, zero, suc, ◌+◌, ◌*◌, ◌-◌, ◌==◌, nat_lt, if◌then◌else◌, List, ◌++◌, length, Bool, true, false, Option, Some, None}
-use Rattle.directory.specs.declared.found.Found.{Found}
-use Rattle.directory.specs.Entering.{slot_for}
-use Rattle.directory.specs.Programs.{Unused, found_in, look_at, most_slots, search, slot_count}
-use Rattle.fs_layout.specs.declared.entry.Dirent.TheVariants.{Used}
-use Rattle.fs_layout.specs.declared.inode.Dinode.{Dinode}
-use Rattle.fs_layout.specs.declared.superblock.Super.{Super}
-use Rattle.fs_layout.specs.Entry.{spell_dirent}
-use Rattle.fs_layout.specs.Widths.{dirent_len}
-use Rattle.plain_tree.specs.Tree.{Name, dot, dotdot}
-use Rattle.atomic_programs.specs.Prog.{Ret, Do, bind}
-use Rattle.atomic_programs.specs.Joined.{Handover}
+use Rattle.inodes_on_blocks.specs.Vocabulary.{Found, slot_for, Unused, found_in, look_at, most_slots, search, slot_count, Used, Dinode, Super, spell_dirent, dirent_len, Name, dot, dotdot, Ret, Do, bind, Handover, fetch, FetchedBlock, blocks_between, fetch_block, most_blocks, WriteResult, grown, write_blocks, inode_block, Enter, Fill}
 use Rattle.fs_machine.specs.Steps as steps
-use Rattle.fs_machine.specs.Programs.{fetch}
-use Rattle.inode_data.specs.Programs.{FetchedBlock, blocks_between, fetch_block}
-use Rattle.inode_data.specs.Widths.{most_blocks}
-use Rattle.inode_data.specs.Writing.{WriteResult, grown, write_blocks}
-use Rattle.inode_table.specs.Programs.{inode_block}
 use Rattle.inode_machine.specs.World as above
-use Rattle.inode_machine.specs.World.Op.{Enter, Fill}
-use Rattle.inodes_on_blocks.specs.Handlers.{Acts, P, Handler, acts}
-use Rattle.inodes_on_blocks.specs.Lowering.{Carry}
+use Rattle.inodes_on_blocks.specs.Basics.{Acts, P, Handler, acts, Carry, record_in}
 use Rattle.inodes_on_blocks.specs.Naming.{put_named}
-use Rattle.inodes_on_blocks.specs.Storing.{record_in}
 
 -- The inode's record goes back after its blocks were written, also where it is as it was; there the operation acts, as what lies outside
 -- made it.

@@ -1,22 +1,11 @@
 -- The programs below of reading an open file. On a disk of these sizes; c: what the hart has of the inodes whose locks it has.
 use Rattle.std.specs.Prelude.{ℕ, ◌+◌, List, [], Option, Some}
-use Rattle.atomic_programs.specs.Prog.{Ret, Do, bind}
-use Rattle.atomic_programs.specs.Joined.{Handover}
-use Rattle.fs_layout.specs.declared.inode.Dinode.{Dinode}
-use Rattle.fs_layout.specs.declared.superblock.Super.{Super}
+use Rattle.inodes_on_blocks.specs.Vocabulary.{Ret, Do, bind, Handover, Dinode, Super, LockedState, Refuses, Locks, load_unless, FilledMemory, read_from, put, LockResult, NotLocked, LocksIt, LockFile, LockOpen, ReadFile}
 use Rattle.fs_machine.specs.declared.files.OpenFile.{OpenFile}
 use Rattle.fs_machine.specs.declared.files.Want.TheVariants as want
-use Rattle.fs_machine.specs.Inodes.{LockedState, Refuses, Locks}
 use Rattle.fs_machine.specs.Steps as steps
-use Rattle.inode_table.specs.Programs.{load_unless}
-use Rattle.inode_data.specs.Programs.{FilledMemory, read_from}
-use Rattle.plain_tree.specs.Tree.{put}
 use Rattle.inode_machine.specs.World as above
-use Rattle.inode_machine.specs.World.{LockResult, NotLocked, LocksIt}
-use Rattle.inode_machine.specs.World.Op.{LockFile, LockOpen, ReadFile}
-use Rattle.inodes_on_blocks.specs.Lowering.{Carry, Opened, Apart, Has, record_had}
-use Rattle.inodes_on_blocks.specs.Storing.{record_in}
-use Rattle.inodes_on_blocks.specs.Handlers.{P, Handler, acts, cause_of}
+use Rattle.inodes_on_blocks.specs.Basics.{Carry, Opened, Apart, Has, record_had, record_in, P, Handler, acts, cause_of}
 
 -- ---- locked, by a descriptor
 

@@ -1,25 +1,8 @@
 -- Blocks recorded between two operations above, and blocks given back: where the hart that is changing their inode goes on.
 use Rattle.std.specs.Prelude.{◌≡◌, ◌≢◌, ℕ, true, false, ◌<◌, ◌≤◌, ◌*◌, List, [], ◌∷◌, length, Some, None}
-use Rattle.fs_layout.specs.declared.superblock.Super.{Super}
-use Rattle.fs_layout.specs.Recovered.{recovered}
-use Rattle.buffer_cache.specs.Seats.{holder_of}
-use Rattle.plain_tree.specs.Widths.{hart_count}
-use Rattle.image_tree.specs.Checks.{IsData, is_marked}
-use Rattle.inodes_on_blocks.specs.Holds.{NamesOwned}
-use Rattle.atomic_programs.specs.Prog.{Ret}
-use Rattle.atomic_programs.specs.Logic.{Wp}
-use Rattle.atomic_programs.specs.Joined.{Both, joined}
-use Rattle.fs_machine.specs.Tables.{holder_of as lock_holder}
-use Rattle.fs_machine.specs.Shown.{seen_of}
-use Rattle.bitmap_alloc.specs.Programs.{free_block}
-use Rattle.inode_data.specs.Freeing.{free_numbers}
-use Rattle.inode_machine.specs.Budget.{Spent, size, most_recorded}
+use Rattle.inodes_on_blocks.specs.Vocabulary.{Super, recovered, holder_of, hart_count, IsData, is_marked, Ret, Wp, Both, joined, lock_holder, seen_of, free_block, free_numbers, Spent, size, most_recorded, if_kept, Inv}
+use Rattle.inodes_on_blocks.specs.Basics.{NamesOwned, World, log_of, tables_of, disk_of, inode_in, untyped, Shows, KeepsInode, Kept, buffer_in, undertaken, below, whole}
 use Rattle.inode_machine.specs.World as above
-use Rattle.inode_machine.specs.Rules.{if_kept, Inv}
-use Rattle.inodes_on_blocks.specs.Below.{World, log_of, tables_of, disk_of, inode_in, untyped}
-use Rattle.inodes_on_blocks.specs.Shown.{Shows}
-use Rattle.inodes_on_blocks.specs.Lowering.{KeepsInode, Kept, buffer_in, undertaken, below}
-use Rattle.inodes_on_blocks.specs.Acting.{whole}
 use Rattle.inodes_on_blocks.specs.Holding.{in_hand}
 use Rattle.inodes_on_blocks.specs.Recording.{log_with, owners_with, IsChanging}
 use Rattle.inodes_on_blocks.specs.Room.{GivesRoom, HasSpent}

@@ -1,30 +1,16 @@
 -- The programs below of operations on whole inodes. c: what the hart has of the inodes whose locks it has.
 use Rattle.std.specs.Prelude.{ℕ, Bool, true, false, Option, Some, None, is_some}
-use Rattle.atomic_programs.specs.Prog.{Prog, Ret, Do}
-use Rattle.atomic_programs.specs.Joined.{Act, Handover, holding}
-use Rattle.plain_tree.specs.declared.answer.Cause.{Cause}
+use Rattle.inodes_on_blocks.specs.Vocabulary.{Prog, Ret, Do, Act, Handover, holding, Cause, OpenFile, put, root, descriptor_count, Dinode, Refused, Doubled, Given, DroppedState, Counts, Keeps, Dies, after_leave, Whom, Number, Held, Walked, Freed, Sort, LoanResult, Lent, Moved, Give, UpStart, Up, WalkDown, Down, Forget, Slot, Install, CheckFile, JoinFile, Double, Shut, Settle, Lend, LendDirectory, Release, Join, Leave, Say}
 use Rattle.plain_tree.specs.declared.answer.Cause.TheVariants as causes
-use Rattle.plain_tree.specs.declared.tree.OpenFile.{OpenFile}
-use Rattle.plain_tree.specs.Tree.{put}
-use Rattle.plain_tree.specs.Widths.{root, descriptor_count}
-use Rattle.fs_layout.specs.declared.inode.Dinode.{Dinode}
-use Rattle.fs_machine.specs.declared.files.Refused.{Refused}
 use Rattle.fs_machine.specs.declared.files.Refused.TheVariants as refused
 use Rattle.fs_machine.specs.declared.files.Want.TheVariants as want
-use Rattle.fs_machine.specs.declared.slots.Doubled.{Doubled}
 use Rattle.fs_machine.specs.declared.slots.Doubled.TheVariants as doubled
-use Rattle.fs_machine.specs.declared.slots.Given.{Given}
 use Rattle.fs_machine.specs.declared.slots.Given.TheVariants as given
 use Rattle.fs_machine.specs.declared.slots.Shut as shuts
 use Rattle.fs_machine.specs.declared.slots.Shut.TheVariants as shut
-use Rattle.fs_machine.specs.Inodes.{DroppedState, Counts, Keeps, Dies}
-use Rattle.fs_machine.specs.Programs.{after_leave}
 use Rattle.fs_machine.specs.Steps as steps
-use Rattle.fs_machine.specs.Steps.{Whom, Number, Directory, Held, Walked, Freed}
-use Rattle.inode_machine.specs.Inodes.{Sort}
+use Rattle.fs_machine.specs.Steps.{Directory}
 use Rattle.inode_machine.specs.World as above
-use Rattle.inode_machine.specs.World.{LoanResult, Lent, Moved}
-use Rattle.inode_machine.specs.World.Op.{Give, UpStart, Up, WalkDown, Down, Forget, Slot, Install, CheckFile, JoinFile, Double, Shut, Settle, Lend, LendDirectory, Release, Join, Leave, Say}
 use Rattle.inodes_on_blocks.specs.ShownTables.{new_file}
 use Rattle.inodes_on_blocks.specs.Lowering.{NothingMore, Had, Apart, Has, Carry, record_had}
 

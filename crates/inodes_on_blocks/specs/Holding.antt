@@ -1,15 +1,8 @@
 -- What a hart has while buffers are in its hand.
 use Rattle.std.specs.Prelude.{◌≡◌, ◌≢◌, ℕ, suc, List, Some, slice_get}
-use Rattle.buffer_cache.specs.Lists.{count_of}
-use Rattle.buffer_cache.specs.Seats.{is_held_by, holder_of, kept}
-use Rattle.fs_machine.specs.Tables.{holder_of as lock_holder}
-use Rattle.atomic_programs.specs.Joined.{Both}
-use Rattle.fs_machine.specs.Shown.{seen_of}
+use Rattle.inodes_on_blocks.specs.Vocabulary.{count_of, is_held_by, holder_of, kept, lock_holder, Both, seen_of, if_kept, Inv}
 use Rattle.inode_machine.specs.World as above
-use Rattle.inode_machine.specs.Rules.{if_kept, Inv}
-use Rattle.inodes_on_blocks.specs.Below.{World, log_of, tables_of}
-use Rattle.inodes_on_blocks.specs.Shown.{Shows}
-use Rattle.inodes_on_blocks.specs.Lowering.{undertaken, KeepsGroup, KeepsInode, Kept, buffer_in}
+use Rattle.inodes_on_blocks.specs.Basics.{World, log_of, tables_of, Shows, undertaken, KeepsGroup, KeepsInode, Kept, buffer_in}
 
 -- how many it has
 abbrev pub in_hand : ℕ → World → ℕ

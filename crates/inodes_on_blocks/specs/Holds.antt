@@ -4,21 +4,8 @@
 --   nodes   by number: the live ones, and the dead ones (count 0) that something still refers to
 --   owner   by block: the inode that names it, 0 for none
 use Rattle.std.specs.Prelude.{◌≡◌, ◌≢◌, ℕ, zero, suc, ◌*◌, ◌<◌, ◌≤◌, ◌≤ℤ◌, pos, Bool, true, false, List, [], ◌∷◌, ◌++◌, length, map, All, Contains, Option, Some, None, if◌then◌else◌, nat_lt}
-use Rattle.fs_layout.specs.declared.inode.Dinode.{Dinode}
-use Rattle.fs_layout.specs.declared.entry.Dirent.{Dirent}
-use Rattle.fs_layout.specs.declared.entry.Dirent.TheVariants.{Free, Used}
-use Rattle.fs_layout.specs.Widths.{block_len, dirent_len}
-use Rattle.fs_layout.specs.Recovered.{sizes_of}
-use Rattle.plain_tree.specs.declared.node.Slot.{Slot}
-use Rattle.plain_tree.specs.declared.node.Node.{Node}
-use Rattle.plain_tree.specs.declared.node.Kind.{Kind}
-use Rattle.plain_tree.specs.declared.node.Kind.TheVariants.{Directory, File, Device}
-use Rattle.plain_tree.specs.Tree.{Tree, is_live}
-use Rattle.tree_laws.specs.WellFormed.{raises}
-use Rattle.image_tree.specs.Lists.{IsOnce, times}
-use Rattle.image_tree.specs.Inodes.{inode_of, is_free, numbers_of, numbers_by, named_by, last, block_number, content_of, slots_of}
-use Rattle.image_tree.specs.Checks.{IsData, is_marked, largest_size}
-use Rattle.image_tree.specs.Damage.{UpToLog}
+use Rattle.inodes_on_blocks.specs.Vocabulary.{Dinode, Dirent, Used, block_len, dirent_len, sizes_of, DirectorySlot as Slot, Node, Kind, Directory, File, Device, Tree, is_live, raises, IsOnce, times, inode_of, is_free, numbers_of, numbers_by, named_by, last, block_number, content_of, slots_of, IsData, is_marked, largest_size, UpToLog}
+use Rattle.fs_layout.specs.declared.entry.Dirent.TheVariants.{Free}
 
 abbrev pub Nodes : Type 0
 Nodes = ℕ → Option Node

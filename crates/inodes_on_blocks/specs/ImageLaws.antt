@@ -9,13 +9,8 @@
 --                          is dead has none
 -- Nothing is open or held in an image's tree, whatever was checked.
 use Rattle.std.specs.Prelude.{◌≡◌, ℕ, List}
-use Rattle.block_device.specs.Blocks.{HasWholeBlocks}
-use Rattle.fs_layout.specs.Recovered.{sizes_of}
-use Rattle.plain_tree.specs.Tree.{Tree, tree_of}
-use Rattle.plain_tree.specs.Explains.{IsNamedPart}
+use Rattle.inodes_on_blocks.specs.Vocabulary.{HasWholeBlocks, sizes_of, Tree, tree_of, IsNamedPart, IsWellFormed, node_of, tree_in}
 use Rattle.plain_tree.specs.Fresh.{at_rest}
-use Rattle.image_tree.specs.Damage.{IsWellFormed}
-use Rattle.image_tree.specs.Trees.{node_of, tree_in}
 use Rattle.tree_laws.specs.WellFormed as trees
 use Rattle.inodes_on_blocks.specs.Holds.{Nodes, Holds, AreNodesOf, live_nodes, owner_in}
 

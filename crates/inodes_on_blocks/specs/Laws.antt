@@ -1,21 +1,8 @@
 -- The laws of the nodes on the seen blocks.
 use Rattle.std.specs.Prelude.{◌≢◌, ◌<◌, ◌≤◌, slice_set, ◌≡◌, ℕ, true, List, [], length, Option, Some, None}
-use Rattle.block_device.specs.Blocks.{HasWholeBlocks, block_at}
-use Rattle.fs_layout.specs.declared.superblock.Super.{Super}
-use Rattle.fs_layout.specs.Recovered.{logged, sizes_of}
-use Rattle.buffer_cache.specs.Seats.{SeatState, seen_in}
-use Rattle.group_log.specs.Group.{joined}
-use Rattle.plain_tree.specs.declared.node.Node.{Node}
-use Rattle.plain_tree.specs.Tree.{Tree, put, tree_of}
+use Rattle.inodes_on_blocks.specs.Vocabulary.{HasWholeBlocks, block_at, Super, logged, sizes_of, SeatState, seen_in, joined_count as joined, Node, Tree, put, tree_of, IsWellFormed, tree_in}
 use Rattle.tree_laws.specs.WellFormed as trees
-use Rattle.image_tree.specs.Damage.{IsWellFormed}
-use Rattle.image_tree.specs.Trees.{tree_in}
-use Rattle.inodes_on_blocks.specs.Holds.{HoldsAt}
-use Rattle.inodes_on_blocks.specs.ImageLaws.{IsImageOf}
-use Rattle.inodes_on_blocks.specs.Puts.{LeavesOthers}
-use Rattle.inodes_on_blocks.specs.Running.{HasOwners, IsTreeOf}
-use Rattle.inodes_on_blocks.specs.Seen.{AreSeenAlike, IsSeenPut, IsRecoveredSo}
-use Rattle.inodes_on_blocks.specs.OnBlocks.{is_joined, Ghost, shown, AreOnBlocks}
+use Rattle.inodes_on_blocks.specs.Basics.{HoldsAt, IsImageOf, LeavesOthers, HasOwners, IsTreeOf, AreSeenAlike, IsSeenPut, IsRecoveredSo, is_joined, Ghost, shown, AreOnBlocks}
 
 -- With no transaction outstanding the seen blocks are a well-formed image of the tree, and so is each disk that recovery would leave so. A
 -- commit that is under way changes nothing that is seen.

@@ -1,3 +1,5 @@
+pub mod Basics
+pub mod Vocabulary
 pub mod OnBlocks
 pub mod Laws
 pub mod Owners

@@ -1,31 +1,12 @@
 -- The machine below as a layer under the machine of whole inodes: what a hart has in it, and what the others leave of that.
 use Rattle.std.specs.Prelude.{◌≡◌, ◌≢◌, ℕ, ◌<◌, List, length, Bool, true, false, Option, Some, None, is_some, slice_get, slice_index_or}
-use Rattle.fs_layout.specs.declared.inode.Dinode.{Dinode}
-use Rattle.fs_layout.specs.declared.superblock.Super.{Super}
-use Rattle.buffer_cache.specs.Lists.{count_of}
-use Rattle.buffer_cache.specs.Seats.{is_held_by, holder_of, kept}
-use Rattle.group_log.specs.Group.{has}
-use Rattle.group_log.specs.declared.phase.Phase.{Phase}
-use Rattle.plain_tree.specs.declared.node.Node.{Node}
-use Rattle.plain_tree.specs.declared.node.Slot.{Slot as DirectorySlot}
-use Rattle.plain_tree.specs.Tree.{Name, same_name, all_slots}
-use Rattle.plain_tree.specs.Widths.{hart_count, descriptor_count}
-use Rattle.image_tree.specs.Inodes.{is_free}
+use Rattle.inodes_on_blocks.specs.Vocabulary.{Dinode, Super, count_of, is_held_by, holder_of, kept, has, Phase, Node, DirectorySlot, Name, same_name, all_slots, hart_count, descriptor_count, is_free, Machine, Lower, lock_holder, LogPart, Outside, seen_of, Entry, Take, Give, UpStart, Up, WalkDown, Down, Free, Claim, Store, Fill, Enter, Clear, Empty, Slot, Install, StatFile, ReadFile, CheckFile, JoinFile, WriteFile, Double, Shut, Settle, Lend, LendDirectory, Release, Join, Leave, Say, go, if_kept, is_hart, own_of, Idle, KeepsFiles, Inv}
 use Rattle.inodes_on_blocks.specs.Holds.{HoldsAt}
 use Rattle.inodes_on_blocks.specs.Puts.{IsUntouched}
-use Rattle.atomic_programs.specs.Logic.{Machine}
-use Rattle.atomic_programs.specs.Joined.{Lower}
-use Rattle.fs_machine.specs.Tables.{holder_of as lock_holder}
-use Rattle.fs_machine.specs.LogPart.{LogPart, Outside}
 use Rattle.fs_machine.specs.Steps as steps
 use Rattle.fs_machine.specs.Premises as premises
-use Rattle.fs_machine.specs.Shown.{seen_of}
 use Rattle.inode_machine.specs.World as above
-use Rattle.inode_machine.specs.World.{Entry}
-use Rattle.inode_machine.specs.World.Op.{Take, Give, UpStart, Up, WalkDown, Down, Free, Claim, Store, Fill, Enter, Clear, Empty, Slot, Install, StatFile, ReadFile, CheckFile, JoinFile, WriteFile, Double, Shut, Settle, Lend, LendDirectory, Release, Join, Leave, Say}
-use Rattle.inode_machine.specs.Marks.{go}
 use Rattle.inode_machine.specs.Rules as rules
-use Rattle.inode_machine.specs.Rules.{if_kept, is_hart, own_of, Idle, KeepsFiles, Inv}
 use Rattle.inodes_on_blocks.specs.ShownTables as tables
 use Rattle.inodes_on_blocks.specs.ShownTables.{loaded}
 use Rattle.inodes_on_blocks.specs.Below.{World, log_of, tables_of, disk_of, inode_in, exec}

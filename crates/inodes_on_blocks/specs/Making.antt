@@ -1,19 +1,10 @@
 -- The program below of the operation that takes a new inode. On a disk of these sizes; c: what the hart has of the inodes whose locks it
 -- has.
 use Rattle.std.specs.Prelude.{ℕ, zero, suc, ◌+◌, ◌<◌, ◌^◌, ℤ, List, Option, Some, None}
-use Rattle.fs_layout.specs.declared.superblock.Super.{Super}
-use Rattle.atomic_programs.specs.Prog.{Ret, Do, bind, unmarked}
-use Rattle.atomic_programs.specs.Joined.{Handover}
+use Rattle.inodes_on_blocks.specs.Vocabulary.{Super, Ret, Do, bind, unmarked, Handover, fetch, free_in, inode_blocks, new_record, with_dinode, Sort, OfDirectory, OfFile, OfDevice, Claim}
 use Rattle.fs_machine.specs.Steps as steps
-use Rattle.fs_machine.specs.Programs.{fetch}
-use Rattle.inode_table.specs.NewInodes.{free_in, inode_blocks, new_record}
-use Rattle.inode_table.specs.Programs.{with_dinode}
-use Rattle.inode_machine.specs.Inodes.{Sort, OfDirectory, OfFile, OfDevice}
 use Rattle.inode_machine.specs.World as above
-use Rattle.inode_machine.specs.World.Op.{Claim}
-use Rattle.inodes_on_blocks.specs.ShownTables.{kind_of}
-use Rattle.inodes_on_blocks.specs.Handlers.{Acts, P, Handler, acts}
-use Rattle.inodes_on_blocks.specs.Lowering.{Carry}
+use Rattle.inodes_on_blocks.specs.Basics.{kind_of, Acts, P, Handler, acts, Carry}
 
 -- The types that are made. A device isn't: a new record keeps the device numbers that the block had.
 abbrev pub IsMade : Sort → Type 0

@@ -1,25 +1,9 @@
 -- What a mount gives: a world below that shows the image's tree, with every hart at rest.
 use Rattle.std.specs.Prelude.{◌≡◌, ℕ, List, [], None, replicate}
-use Rattle.block_device.specs.Blocks.{HasBytes, HasWholeBlocks}
-use Rattle.fs_layout.specs.Recovered.{logged, sizes_of}
-use Rattle.buffer_cache.specs.Limits.{buffer_count, hart_count}
-use Rattle.buffer_cache.specs.Seats.{unused_from}
-use Rattle.group_log.specs.declared.phase.Phase.TheVariants.{Open}
-use Rattle.group_log.specs.Soundness.{IsPlaced}
-use Rattle.plain_tree.specs.Tree.{tree_of, settle}
-use Rattle.image_tree.specs.Damage.{IsWellFormed}
-use Rattle.image_tree.specs.Trees.{tree_in}
-use Rattle.inodes_on_blocks.specs.Holds.{owner_in}
-use Rattle.inodes_on_blocks.specs.Running.{left_in}
-use Rattle.fs_machine.specs.Fresh.{fresh}
-use Rattle.fs_machine.specs.LogPart.{LogPart}
-use Rattle.fs_machine.specs.Steps.{State}
+use Rattle.inodes_on_blocks.specs.Vocabulary.{HasBytes, HasWholeBlocks, logged, sizes_of, buffer_count, unused_from, Open, IsPlaced, tree_of, settle, IsWellFormed, tree_in, fresh, LogPart, State, Idle, Inv, at_rest}
+use Rattle.buffer_cache.specs.Limits.{hart_count}
+use Rattle.inodes_on_blocks.specs.Basics.{owner_in, left_in, World, disk_of, Shows, Stands, nothing}
 use Rattle.inode_machine.specs.World as above
-use Rattle.inode_machine.specs.Rules.{Idle, Inv}
-use Rattle.inode_machine.specs.Theory.{at_rest}
-use Rattle.inodes_on_blocks.specs.Below.{World, disk_of}
-use Rattle.inodes_on_blocks.specs.Shown.{Shows}
-use Rattle.inodes_on_blocks.specs.Lowering.{Stands, nothing}
 
 -- a disk on which a mount may stand: whole blocks of bytes, a well-formed image, and nothing in its log
 pub record IsMountable (disk : List (List ℕ)) : Type 0 where

@@ -1,25 +1,11 @@
 -- The programs below of operations that change a directory's entries. On a disk of these sizes; c: what the hart has of the inodes whose
 -- locks it has.
 use Rattle.std.specs.Prelude.{ℕ, ◌/◌, ◌%◌, if◌then◌else◌, List, Option, Some}
-use Rattle.std.specs.Option.{option_map, unwrap_or}
-use Rattle.directory.specs.declared.found.Found.{Found}
-use Rattle.directory.specs.Programs.{Named, search, with_dirent, with_slot}
+use Rattle.inodes_on_blocks.specs.Vocabulary.{option_map, unwrap_or, Found, Named, search, with_dirent, with_slot, Dinode, Super, dirents_per_block, Name, put, same_name, Ret, Do, bind, unmarked, Handover, fetch, FetchedBlock, fetch_block, inode_block, with_dinode, Clear}
 use Rattle.fs_layout.specs.declared.entry.Dirent.TheVariants.{Free}
-use Rattle.fs_layout.specs.declared.inode.Dinode.{Dinode}
-use Rattle.fs_layout.specs.declared.superblock.Super.{Super}
-use Rattle.fs_layout.specs.Widths.{dirents_per_block}
-use Rattle.plain_tree.specs.Tree.{Name, put, same_name}
-use Rattle.atomic_programs.specs.Prog.{Ret, Do, bind, unmarked}
-use Rattle.atomic_programs.specs.Joined.{Handover}
 use Rattle.fs_machine.specs.Steps as steps
-use Rattle.fs_machine.specs.Programs.{fetch}
-use Rattle.inode_data.specs.Programs.{FetchedBlock, fetch_block}
-use Rattle.inode_table.specs.Programs.{inode_block, with_dinode}
 use Rattle.inode_machine.specs.World as above
-use Rattle.inode_machine.specs.World.Op.{Clear}
-use Rattle.inodes_on_blocks.specs.Handlers.{P, Handler, acts}
-use Rattle.inodes_on_blocks.specs.Lowering.{NothingMore, Finds, Opened, Had, Apart, Has, Emptied, Carry}
-use Rattle.inodes_on_blocks.specs.Storing.{record_in}
+use Rattle.inodes_on_blocks.specs.Basics.{P, Handler, acts, NothingMore, Finds, Opened, Had, Apart, Has, Emptied, Carry, record_in}
 
 -- The inode goes into its block as this record, and the hart has that of it from then on; there the operation acts, as what lies outside
 -- made it.

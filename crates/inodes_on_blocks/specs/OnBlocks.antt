@@ -1,7 +1,6 @@
 -- The nodes of a running file system on the blocks that its log shows.
 use Rattle.std.specs.Prelude.{ℕ, Bool, List, length, slice_index_or, Option, None, is_some}
-use Rattle.fs_layout.specs.declared.superblock.Super.{Super}
-use Rattle.buffer_cache.specs.Seats.{SeatState, seen_in}
+use Rattle.inodes_on_blocks.specs.Vocabulary.{Super, SeatState, seen_in}
 use Rattle.inodes_on_blocks.specs.Holds.{Nodes}
 use Rattle.inodes_on_blocks.specs.Running.{IsRunning}
 use Rattle.inodes_on_blocks.specs.Seen.{AreSeen, seen_blocks}

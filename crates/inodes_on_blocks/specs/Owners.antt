@@ -1,9 +1,7 @@
 -- Whose each block becomes where one is put: for the proof alone.
 use Rattle.std.specs.Prelude.{ℕ, List, [], Bool, false, ◌&&◌, ◌||◌, not, ◌==◌, nat_lt, if◌then◌else◌, Option, Some, None}
-use Rattle.image_tree.specs.Checks.{is_marked}
-use Rattle.image_tree.specs.Inodes.{named_by, last}
+use Rattle.inodes_on_blocks.specs.Vocabulary.{is_marked, named_by, last, is_hart}
 use Rattle.inodes_on_blocks.specs.Holds.{owner_upto}
-use Rattle.inode_machine.specs.Rules.{is_hart}
 
 -- by block: the inode whose it is; whether its bit is set though it is no inode's; and the hart that has set that, until an inode names
 -- the block

@@ -1,19 +1,15 @@
 -- Each operation on whole inodes as its program below, on a disk of these sizes.
 use Rattle.std.specs.Prelude.{Option}
-use Rattle.fs_layout.specs.declared.superblock.Super.{Super}
-use Rattle.atomic_programs.specs.Joined.{Handover}
+use Rattle.inodes_on_blocks.specs.Vocabulary.{Super, Handover, Take, Give, UpStart, Up, WalkDown, Down, Free, Forget, Claim, Store, Fill, Enter, Clear, Empty, Slot, Install, StatFile, LockFile, ReadFile, CheckFile, JoinFile, LockOpen, WriteFile, Double, Shut, Settle, Lend, LendDirectory, Release, Join, Leave, Say}
 use Rattle.inode_machine.specs.World as above
-use Rattle.inode_machine.specs.World.Op.{Take, Give, UpStart, Up, WalkDown, Down, Free, Forget, Claim, Store, Fill, Enter, Clear, Empty, Slot, Install, StatFile, LockFile, ReadFile, CheckFile, JoinFile, LockOpen, WriteFile, Double, Shut, Settle, Lend, LendDirectory, Release, Join, Leave, Say}
 use Rattle.inodes_on_blocks.specs.Emptying.{empty, free}
 use Rattle.inodes_on_blocks.specs.Entering.{enter, fill}
 use Rattle.inodes_on_blocks.specs.Files.{lock_file, lock_open, read_file}
 use Rattle.inodes_on_blocks.specs.Handlers as one
-use Rattle.inodes_on_blocks.specs.Handlers.{P}
-use Rattle.inodes_on_blocks.specs.Lowering.{Carry}
+use Rattle.inodes_on_blocks.specs.Basics.{P, Carry, store}
 use Rattle.inodes_on_blocks.specs.Making.{claim}
 use Rattle.inodes_on_blocks.specs.Naming.{clear}
 use Rattle.inodes_on_blocks.specs.Reading.{stat_file, take}
-use Rattle.inodes_on_blocks.specs.Storing.{store}
 use Rattle.inodes_on_blocks.specs.Writing.{write_file}
 
 abbrev pub handlers : Super → Carry → (op : above.Op) → (above.Answer op → Option above.Mark) → P (Handover (above.Answer op) Carry)

@@ -1,19 +1,7 @@
 -- The laws of puts: what a disk holds after one block is put, and how a node is changed on it put by put.
 use Rattle.std.specs.Prelude.{◌≡◌, ◌≢◌, ℕ, suc, pos, ◌+◌, ◌*◌, ◌<◌, ◌≤◌, max, true, false, List, [], ◌∷◌, length, slice_index, slice_set, replicate, All, Option, Some, None}
-use Rattle.block_device.specs.Blocks.{HasWholeBlocks}
-use Rattle.fs_layout.specs.Bytes.{overwrite}
-use Rattle.fs_layout.specs.Recovered.{recovered, sizes_of}
-use Rattle.fs_layout.specs.Widths.{block_len, dirent_len, numbers_per_block}
-use Rattle.fs_layout.specs.declared.entry.Dirent.{Dirent}
-use Rattle.fs_layout.specs.declared.inode.Dinode.{Dinode}
-use Rattle.plain_tree.specs.declared.node.Node.{Node}
-use Rattle.plain_tree.specs.declared.node.Slot.{Slot}
-use Rattle.plain_tree.specs.declared.node.Kind.TheVariants.{Directory, File}
-use Rattle.image_tree.specs.Checks.{IsData, is_marked, largest_size}
-use Rattle.image_tree.specs.Inodes.{direct, inode_of, numbers_of}
-use Rattle.image_tree.specs.Damage.{UpToLog}
-use Rattle.inodes_on_blocks.specs.Holds.{IsInode, HoldsAt, NamesOwned, MarksBlocks, entry_of, size_in}
-use Rattle.inodes_on_blocks.specs.Puts.{IsPut, IsInodePut, IsBitPut, IsBytesPut, IsSlotPut, IsNumberPut, IsUntouched, LeavesOthers, IsLaidOut, IsSpare, slots_with, Becomes, Names, IsTaken, IsGivenBack}
+use Rattle.inodes_on_blocks.specs.Vocabulary.{HasWholeBlocks, overwrite, recovered, sizes_of, block_len, dirent_len, numbers_per_block, Dirent, Dinode, Node, DirectorySlot as Slot, Directory, File, IsData, is_marked, largest_size, direct, inode_of, numbers_of, UpToLog}
+use Rattle.inodes_on_blocks.specs.Basics.{IsInode, HoldsAt, NamesOwned, MarksBlocks, entry_of, size_in, IsPut, IsInodePut, IsBitPut, IsBytesPut, IsSlotPut, IsNumberPut, IsUntouched, LeavesOthers, IsLaidOut, IsSpare, slots_with, Becomes, Names, IsTaken, IsGivenBack}
 
 -- ---- what is left
 

@@ -1,19 +1,6 @@
 -- A put of one block of a disk that holds nodes, by what is put; what it leaves; and an inode that is being changed, before it is put.
 use Rattle.std.specs.Prelude.{◌≡◌, ◌≢◌, ℕ, suc, ◌+◌, ◌*◌, ◌/◌, ◌%◌, ◌<◌, ◌≤◌, ◌==◌, Bool, List, ◌∷◌, ◌++◌, take, drop, filter, length, slice_index, slice_set, All, Option, if◌then◌else◌}
-use Rattle.fs_layout.specs.declared.inode.Dinode.{Dinode}
-use Rattle.fs_layout.specs.declared.entry.Dirent.{Dirent}
-use Rattle.fs_layout.specs.Widths.{block_len, dirent_len, dirents_per_block, inodes_per_block}
-use Rattle.fs_layout.specs.Bytes.{overwrite}
-use Rattle.fs_layout.specs.Inode.{dinode_at}
-use Rattle.fs_layout.specs.Indirect.{numbers_in}
-use Rattle.fs_layout.specs.Entry.{IsDirent, spell_dirent}
-use Rattle.fs_layout.specs.Recovered.{recovered, sizes_of}
-use Rattle.plain_tree.specs.declared.node.Slot.{Slot}
-use Rattle.plain_tree.specs.declared.node.Node.{Node}
-use Rattle.plain_tree.specs.Tree.{put}
-use Rattle.image_tree.specs.Lists.{IsOnce}
-use Rattle.image_tree.specs.Inodes.{direct, inode_of, is_block, numbers_of, block_number}
-use Rattle.image_tree.specs.Checks.{IsData, is_marked}
+use Rattle.inodes_on_blocks.specs.Vocabulary.{Dinode, Dirent, block_len, dirent_len, dirents_per_block, inodes_per_block, overwrite, dinode_at, numbers_in, IsDirent, spell_dirent, recovered, sizes_of, DirectorySlot as Slot, Node, put, IsOnce, direct, inode_of, is_block, numbers_of, block_number, IsData, is_marked}
 use Rattle.inodes_on_blocks.specs.Holds.{HasContent, HasRoom, IsInode, IsOwned, NamesOwned, MarksBlocks, MarksNoOthers}
 
 -- ---- what is put

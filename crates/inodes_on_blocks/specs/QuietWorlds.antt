@@ -1,17 +1,8 @@
 -- A world in which nobody is in a transaction.
 use Rattle.std.specs.Prelude.{◌≡◌, ℕ, ◌<◌, List, length, false}
-use Rattle.plain_tree.specs.Explains.{IsNamedPart}
-use Rattle.plain_tree.specs.Tree.{tree_of, settle}
-use Rattle.plain_tree.specs.Widths.{hart_count}
-use Rattle.image_tree.specs.Damage.{IsWellFormed}
-use Rattle.image_tree.specs.Trees.{tree_in}
-use Rattle.inodes_on_blocks.specs.ImageLaws.{IsImageOf}
-use Rattle.inodes_on_blocks.specs.Seen.{IsRecoveredSo}
-use Rattle.fs_machine.specs.Shown.{seen_of}
+use Rattle.inodes_on_blocks.specs.Vocabulary.{IsNamedPart, tree_of, settle, hart_count, IsWellFormed, tree_in, seen_of, Idle, Inv}
+use Rattle.inodes_on_blocks.specs.Basics.{IsImageOf, IsRecoveredSo, World, log_of, disk_of, Shows}
 use Rattle.inode_machine.specs.World as above
-use Rattle.inode_machine.specs.Rules.{Idle, Inv}
-use Rattle.inodes_on_blocks.specs.Below.{World, log_of, disk_of}
-use Rattle.inodes_on_blocks.specs.Shown.{Shows}
 
 -- no hart is in a transaction
 abbrev pub IsQuiet : above.World → Type 0

@@ -1,23 +1,11 @@
 -- The programs below of the operations that lock an inode and read it. sizes: of the mounted image.
 use Rattle.std.specs.Prelude.{ℕ, ℤ, pos, negsuc, Bool, true, not, Option, Some, None, is_some, if◌then◌else◌}
-use Rattle.std.specs.Option.{option_map}
-use Rattle.atomic_programs.specs.Prog.{Ret, Do, bind}
-use Rattle.atomic_programs.specs.Joined.{Handover}
-use Rattle.fs_layout.specs.declared.inode.Dinode.{Dinode}
-use Rattle.fs_layout.specs.declared.superblock.Super.{Super}
-use Rattle.directory.specs.declared.found.Found.{Found}
-use Rattle.directory.specs.Programs.{Entry, is_directory, lookup, search}
-use Rattle.fs_machine.specs.Steps.{Lock, LockFile}
-use Rattle.fs_machine.specs.Inodes.{LockedState, Refuses, Locks}
+use Rattle.inodes_on_blocks.specs.Vocabulary.{option_map, Ret, Do, bind, Handover, Dinode, Super, Found, is_directory, lookup, search, Lock, LockedState, Refuses, Locks, is_number, is_free, Sort, OfDirectory, OfFile, OfDevice, Face, Sight, Query, AtNothing, AtName, AtEntries, Take, StatFile, load_unless, Name, put}
+use Rattle.directory.specs.Programs.{Entry}
+use Rattle.fs_machine.specs.Steps.{LockFile}
 use Rattle.fs_machine.specs.declared.files.Want.TheVariants as want
-use Rattle.image_tree.specs.Inodes.{is_number, is_free}
-use Rattle.inode_machine.specs.Inodes.{Sort, OfDirectory, OfFile, OfDevice, Face, Sight, Query, AtNothing, AtName, AtEntries}
 use Rattle.inode_machine.specs.World as above
-use Rattle.inode_machine.specs.World.Op.{Take, StatFile}
-use Rattle.inode_table.specs.Programs.{load_unless}
-use Rattle.inodes_on_blocks.specs.Handlers.{P, Handler, acts}
-use Rattle.inodes_on_blocks.specs.Lowering.{Knowledge, NothingMore, Finds, Has, Carry}
-use Rattle.plain_tree.specs.Tree.{Name, put}
+use Rattle.inodes_on_blocks.specs.Basics.{P, Handler, acts, Knowledge, NothingMore, Finds, Has, Carry}
 
 -- ---- what a record tells
 

@@ -1,34 +1,9 @@
 -- Blocks recorded by the hart that has an inode's lock, in its transaction: what it may record, and what such a put leaves.
 use Rattle.std.specs.Prelude.{◌≡◌, ◌≢◌, ◌⊎◌, ℕ, ◌<◌, ◌≤◌, List, length, true, false, Some, IsSome, None, Contains}
-use Rattle.fs_layout.specs.declared.inode.Dinode.{Dinode}
-use Rattle.fs_layout.specs.Bits.{bit_of}
-use Rattle.fs_layout.specs.Bytes.{IsBytes}
-use Rattle.fs_layout.specs.Inode.{IsDinode}
-use Rattle.fs_layout.specs.Recovered.{sizes_of}
-use Rattle.fs_layout.specs.Widths.{block_len}
-use Rattle.buffer_cache.specs.Seats.{holder_of, kept}
-use Rattle.group_log.specs.Group.{has, HasRoom}
-use Rattle.group_log.specs.Soundness.{IsHome}
-use Rattle.group_log.specs.declared.phase.Phase.TheVariants.{Halted}
-use Rattle.image_tree.specs.Checks.{IsData, is_marked}
-use Rattle.image_tree.specs.Inodes.{numbers_by}
-use Rattle.inodes_on_blocks.specs.Holds.{HoldsAt, MarksBlocks, MarksNoOthers}
-use Rattle.inodes_on_blocks.specs.Puts.{IsBitPut, IsUntouched}
-use Rattle.inodes_on_blocks.specs.Running.{HasOwners}
-use Rattle.fs_machine.specs.LogPart.{LogPart, Outside, put_block}
+use Rattle.inodes_on_blocks.specs.Vocabulary.{Dinode, bit_of, IsBytes, IsDinode, sizes_of, block_len, holder_of, kept, has, HasRoom, IsHome, Halted, IsData, is_marked, numbers_by, LogPart, Outside, put_block, seen_of, Put, After, with_bit, without_bit, inode_block, with_dinode, if_kept}
+use Rattle.inodes_on_blocks.specs.Basics.{HoldsAt, MarksBlocks, MarksNoOthers, IsBitPut, IsUntouched, HasOwners, is_joined, Owners, World, log_of, disk_of, owners_after, exec, Shows, TakenShow, Same}
 use Rattle.fs_machine.specs.Premises as premises
-use Rattle.fs_machine.specs.Shown.{seen_of}
-use Rattle.fs_machine.specs.Steps.{Put}
-use Rattle.fs_machine.specs.Whole.{After}
-use Rattle.bitmap_alloc.specs.Bytes.{with_bit, without_bit}
-use Rattle.inode_table.specs.Programs.{inode_block, with_dinode}
 use Rattle.inode_machine.specs.World as above
-use Rattle.inode_machine.specs.Rules.{if_kept}
-use Rattle.inodes_on_blocks.specs.OnBlocks.{is_joined}
-use Rattle.inodes_on_blocks.specs.Owners.{Owners}
-use Rattle.inodes_on_blocks.specs.Below.{World, log_of, disk_of, owners_after, exec}
-use Rattle.inodes_on_blocks.specs.Shown.{Shows, TakenShow}
-use Rattle.inodes_on_blocks.specs.Lowering.{Same}
 
 -- a block's buffer, in the hart's hand and valid, may be recorded with these bytes
 pub record CanPut (h b : ℕ) (bytes : List ℕ) (l : LogPart) : Type 0 where

@@ -1,21 +1,9 @@
 -- That a hart may record a block, where its transaction has room for it.
 use Rattle.std.specs.Prelude.{◌≡◌, ℕ, suc, ◌<◌, ◌≤◌, true, false, [], Option}
-use Rattle.fs_layout.specs.declared.superblock.Super.{Super}
-use Rattle.group_log.specs.Group.{has, HasRoom}
-use Rattle.plain_tree.specs.Widths.{hart_count}
-use Rattle.atomic_programs.specs.Logic.{Wp}
-use Rattle.atomic_programs.specs.Prog.{once}
-use Rattle.atomic_programs.specs.Joined.{Both, joined, Below}
+use Rattle.inodes_on_blocks.specs.Vocabulary.{Super, has, HasRoom, hart_count, Wp, once, Both, joined, Below, Spent, size, spent_after, most_recorded, more}
 use Rattle.inode_machine.specs.World as above
-use Rattle.inode_machine.specs.Budget.{Spent, size, spent_after, most_recorded}
-use Rattle.inode_machine.specs.Rules.{more}
-use Rattle.inodes_on_blocks.specs.Accounts.{Accounts}
-use Rattle.inodes_on_blocks.specs.Below.{World, log_of}
-use Rattle.inodes_on_blocks.specs.OnBlocks.{is_joined}
-use Rattle.inodes_on_blocks.specs.Lowering.{Same, Carry, Stands, below}
+use Rattle.inodes_on_blocks.specs.Basics.{Accounts, World, log_of, is_joined, Same, Carry, Stands, below, Handler, whole, IsDone, Answers}
 use Rattle.inodes_on_blocks.specs.Holding.{SameBut}
-use Rattle.inodes_on_blocks.specs.Handlers.{Handler}
-use Rattle.inodes_on_blocks.specs.Acting.{whole, IsDone, Answers}
 
 -- What a hart knows of its transaction lasts while the others step and while it takes buffers, and says that block b may be recorded.
 pub record GivesRoom (h b : ℕ) (Knows : World → Type 0) : Type 0 where

@@ -3,14 +3,7 @@
 --   changing   by inode: the hart that is changing it, if one is
 --   joined     the harts that are in a transaction
 use Rattle.std.specs.Prelude.{◌≡◌, ℕ, ◌<◌, ◌≤◌, Bool, true, ◌&&◌, ◌==◌, List, Option, Some, None}
-use Rattle.block_device.specs.Blocks.{HasWholeBlocks}
-use Rattle.fs_layout.specs.Recovered.{sizes_of}
-use Rattle.plain_tree.specs.declared.node.Node.{Node}
-use Rattle.plain_tree.specs.declared.tree.Hold.{Hold}
-use Rattle.plain_tree.specs.Widths.{hart_count}
-use Rattle.plain_tree.specs.Tree.{Tree}
-use Rattle.image_tree.specs.Checks.{IsData, is_marked}
-use Rattle.image_tree.specs.Damage.{UpToLog}
+use Rattle.inodes_on_blocks.specs.Vocabulary.{HasWholeBlocks, sizes_of, Node, Hold, hart_count, Tree, IsData, is_marked, UpToLog}
 use Rattle.inodes_on_blocks.specs.Holds.{Nodes, HoldsAt, MarksBlocks, MarksNoOthers, live_part, owner_in}
 
 -- the owner of each data block is an inode, or there is none

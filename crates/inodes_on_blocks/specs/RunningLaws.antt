@@ -1,16 +1,8 @@
 -- The laws of the blocks of a running file system: what puts keep, and that a quiet one is a well-formed image.
 use Rattle.std.specs.Prelude.{◌≡◌, ℕ, ◌<◌, ◌≤◌, Bool, List, Option, Some, None, true, false}
-use Rattle.block_device.specs.Blocks.{HasWholeBlocks}
-use Rattle.fs_layout.specs.Recovered.{sizes_of}
-use Rattle.plain_tree.specs.declared.node.Node.{Node}
-use Rattle.plain_tree.specs.Tree.{Tree, put, tree_of}
-use Rattle.image_tree.specs.Damage.{UpToLog, IsWellFormed}
-use Rattle.image_tree.specs.Trees.{node_of, tree_in}
+use Rattle.inodes_on_blocks.specs.Vocabulary.{HasWholeBlocks, sizes_of, Node, Tree, put, tree_of, UpToLog, IsWellFormed, node_of, tree_in}
 use Rattle.tree_laws.specs.WellFormed as trees
-use Rattle.inodes_on_blocks.specs.Holds.{Nodes, HoldsAt, Holds, owner_in}
-use Rattle.inodes_on_blocks.specs.Puts.{LeavesOthers}
-use Rattle.inodes_on_blocks.specs.ImageLaws.{IsImageOf}
-use Rattle.inodes_on_blocks.specs.Running.{HasOwners, IsRunning, IsTreeOf, left_in}
+use Rattle.inodes_on_blocks.specs.Basics.{Nodes, HoldsAt, Holds, owner_in, LeavesOthers, IsImageOf, HasOwners, IsRunning, IsTreeOf, left_in}
 
 -- With nobody in a transaction the blocks hold the nodes, and are a well-formed image of the tree.
 abbrev pub QuietBlocksAreImages : Type 0

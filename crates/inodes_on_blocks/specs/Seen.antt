@@ -1,13 +1,6 @@
 -- The disk as it is seen while a log runs: of each block the bytes that are seen, and an empty log.
 use Rattle.std.specs.Prelude.{◌≡◌, ◌≢◌, ℕ, zero, suc, ◌+◌, ◌<◌, ◌≤◌, nat_le, nat_lt, ◌&&◌, Bool, List, [], ◌∷◌, ◌++◌, length, replicate, if◌then◌else◌}
-use Rattle.block_device.specs.Blocks.{HasWholeBlocks}
-use Rattle.fs_layout.specs.declared.superblock.Super.{Super}
-use Rattle.fs_layout.specs.Widths.{block_len, magic, super_block, super_magic_at}
-use Rattle.fs_layout.specs.Bytes.{u32_at}
-use Rattle.fs_layout.specs.Super.{super_fields}
-use Rattle.fs_layout.specs.Recovered.{recovered, sizes_of, IsOutsideLog}
-use Rattle.image_tree.specs.Checks.{IsGoodSuper}
-use Rattle.image_tree.specs.Damage.{UpToLog}
+use Rattle.inodes_on_blocks.specs.Vocabulary.{HasWholeBlocks, Super, block_len, magic, super_block, super_magic_at, u32_at, super_fields, recovered, sizes_of, IsOutsideLog, IsGoodSuper, UpToLog}
 
 -- block b belongs to the log
 abbrev pub is_in_log : Super → ℕ → Bool

@@ -1,10 +1,7 @@
 -- The laws of the disk as it is seen.
 use Rattle.std.specs.Prelude.{◌≡◌, ℕ, List, length}
-use Rattle.fs_layout.specs.declared.superblock.Super.{Super}
-use Rattle.image_tree.specs.Damage.{IsWellFormed}
-use Rattle.image_tree.specs.Trees.{tree_in}
-use Rattle.inodes_on_blocks.specs.Puts.{IsPut}
-use Rattle.inodes_on_blocks.specs.Seen.{seen_blocks, AreSeen, IsGoodSeen, AreSeenAlike, IsSeenPut, IsRecoveredSo}
+use Rattle.inodes_on_blocks.specs.Vocabulary.{Super, IsWellFormed, tree_in}
+use Rattle.inodes_on_blocks.specs.Basics.{IsPut, seen_blocks, AreSeen, IsGoodSeen, AreSeenAlike, IsSeenPut, IsRecoveredSo}
 
 abbrev pub SeenDisksAreGood : Type 0
 SeenDisksAreGood = (sizes : Super) (see : ℕ → List ℕ) (n : ℕ) → AreSeen sizes see n → IsGoodSeen sizes see n

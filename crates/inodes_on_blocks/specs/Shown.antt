@@ -1,21 +1,7 @@
 -- What the machine below shows of the world of whole inodes, each part over the fields that it speaks of.
 use Rattle.std.specs.Prelude.{◌≡◌, ◌≢◌, ℕ, ◌<◌, ◌≤◌, List, length, Bool, true, Option, Some, None, IsSome, if◌then◌else◌}
-use Rattle.fs_layout.specs.declared.inode.Dinode.{Dinode}
-use Rattle.fs_layout.specs.declared.superblock.Super.{Super}
-use Rattle.fs_layout.specs.Bytes.{IsBytes}
-use Rattle.fs_layout.specs.Recovered.{IsOutsideLog}
-use Rattle.group_log.specs.declared.phase.Phase.{Phase}
-use Rattle.group_log.specs.declared.phase.Phase.TheVariants.{Open, Halted}
-use Rattle.image_tree.specs.Checks.{IsData, largest_size}
-use Rattle.image_tree.specs.Inodes.{is_free}
-use Rattle.plain_tree.specs.declared.node.Node.{Node}
-use Rattle.plain_tree.specs.Widths.{hart_count}
-use Rattle.fs_machine.specs.LogPart.{LogPart}
-use Rattle.fs_machine.specs.Shown.{seen_of}
-use Rattle.fs_machine.specs.Whole.{IsWholeLog}
+use Rattle.inodes_on_blocks.specs.Vocabulary.{Dinode, Super, IsBytes, IsOutsideLog, Phase, Open, Halted, IsData, largest_size, is_free, Node, hart_count, LogPart, seen_of, IsWholeLog, Desk, Entry, is_dead}
 use Rattle.inode_machine.specs.World as above
-use Rattle.inode_machine.specs.World.{Desk, Entry}
-use Rattle.inode_machine.specs.Exec.{is_dead}
 use Rattle.inodes_on_blocks.specs.ShownTables as tables
 use Rattle.inodes_on_blocks.specs.ShownTables.{loaded}
 use Rattle.inodes_on_blocks.specs.OnBlocks.{is_joined, Ghost, AreOnBlocks}

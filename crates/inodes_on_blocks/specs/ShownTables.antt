@@ -1,33 +1,15 @@
 -- What the tables that all harts share show of the world of whole inodes, each part over the fields that it speaks of.
 use Rattle.std.specs.Prelude.{◌≡◌, ℕ, ℤ, pos, ◌<◌, ◌≤◌, List, length, Bool, true, false, Option, Some, None, slice_get}
-use Rattle.fs_layout.specs.declared.inode.Dinode.{Dinode}
-use Rattle.sleep_lock.specs.SleepLock.{SlotState}
-use Rattle.atomic_programs.specs.Prog.{Did, Waits, Ran}
-use Rattle.plain_tree.specs.Tree.{any_below}
-use Rattle.plain_tree.specs.declared.tree.OpenFile.{OpenFile}
-use Rattle.plain_tree.specs.declared.answer.Cause.{Cause}
+use Rattle.inodes_on_blocks.specs.Vocabulary.{Dinode, SlotState, Did, Waits, Ran, any_below, OpenFile, Cause, hart_count, descriptor_count, Inode, FilePlace, Taken, NewFile, Refused, Doubled, ShutState as Shut, Given, TablesState, place_of, references_in, holder_in, IsSoundTables, Sort, OfDirectory, OfFile, OfDevice, Entry, Desk, World, LoanResult, Lent, Moved, file_count, is_at}
 use Rattle.plain_tree.specs.declared.answer.Cause.TheVariants as causes
-use Rattle.plain_tree.specs.Widths.{hart_count, descriptor_count}
-use Rattle.fs_machine.specs.declared.entries.Inode.{Inode}
 use Rattle.fs_machine.specs.declared.entries.Entry as places
 use Rattle.fs_machine.specs.declared.files.OpenFile as tables
-use Rattle.fs_machine.specs.declared.files.FilePlace.{FilePlace}
-use Rattle.fs_machine.specs.declared.files.FilePlace.TheVariants.{Free, Taken, Open}
-use Rattle.fs_machine.specs.declared.files.NewFile.{NewFile}
-use Rattle.fs_machine.specs.declared.files.Refused.{Refused}
+use Rattle.fs_machine.specs.declared.files.FilePlace.TheVariants.{Free, Open}
 use Rattle.fs_machine.specs.declared.files.Refused.TheVariants as refused
-use Rattle.fs_machine.specs.declared.slots.Doubled.{Doubled}
 use Rattle.fs_machine.specs.declared.slots.Doubled.TheVariants as doubled
-use Rattle.fs_machine.specs.declared.slots.Shut.{Shut}
 use Rattle.fs_machine.specs.declared.slots.Shut.TheVariants as shut
-use Rattle.fs_machine.specs.declared.slots.Given.{Given}
 use Rattle.fs_machine.specs.declared.slots.Given.TheVariants as given
 use Rattle.fs_machine.specs.declared.desk.Desk as cards
-use Rattle.fs_machine.specs.Tables.{TablesState, place_of, references_in, holder_in}
-use Rattle.fs_machine.specs.Soundness.{IsSoundTables}
-use Rattle.inode_machine.specs.Inodes.{Sort, OfDirectory, OfFile, OfDevice}
-use Rattle.inode_machine.specs.World.{Entry, Desk, World, LoanResult, Lent, Moved}
-use Rattle.inode_machine.specs.Exec.{file_count, is_at}
 
 -- ---- inodes in memory
 

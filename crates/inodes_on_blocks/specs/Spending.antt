@@ -1,31 +1,14 @@
 -- What the programs below of operations record, and that it is no more than their call's transactions may.
 use Rattle.std.specs.Prelude.{◌≡◌, ◌⊎◌, ℕ, suc, Bool, ◌<◌, ◌≤◌, List, [], Option, Some}
-use Rattle.fs_layout.specs.declared.superblock.Super.{Super}
-use Rattle.plain_tree.specs.declared.tree.OpenFile.{OpenFile}
-use Rattle.plain_tree.specs.Tree.{Name}
-use Rattle.plain_tree.specs.Widths.{hart_count}
-use Rattle.atomic_programs.specs.Logic.{Wp}
-use Rattle.atomic_programs.specs.Prog.{Ret, Do, once}
-use Rattle.atomic_programs.specs.Joined.{Both, joined, Below, Lasts}
-use Rattle.atomic_programs.specs.Spending.{Budget}
-use Rattle.fs_machine.specs.LogPart.{LogPart}
+use Rattle.inodes_on_blocks.specs.Vocabulary.{Super, OpenFile, Name, hart_count, Wp, Ret, Do, once, Both, joined, Below, Lasts, Budget, LogPart, Query, Sort, Take, Give, UpStart, Up, WalkDown, Down, Forget, Free, Claim, Store, Clear, Empty, Slot, Install, StatFile, LockFile, ReadFile, LockOpen, CheckFile, JoinFile, Double, Shut, Settle, Lend, LendDirectory, Release, Join, Leave, Say, more, Spent, unspent, size, spent_after, most_recorded, with_contents}
 use Rattle.fs_machine.specs.Steps as steps
-use Rattle.inode_machine.specs.Inodes.{Query, Sort}
 use Rattle.inode_machine.specs.World as above
-use Rattle.inode_machine.specs.World.Op.{Take, Give, UpStart, Up, WalkDown, Down, Forget, Free, Claim, Store, Clear, Empty, Slot, Install, StatFile, LockFile, ReadFile, LockOpen, CheckFile, JoinFile, Double, Shut, Settle, Lend, LendDirectory, Release, Join, Leave, Say}
-use Rattle.inode_machine.specs.Rules.{more}
-use Rattle.inode_machine.specs.Budget.{Spent, unspent, size, spent_after, most_recorded, with_contents}
-use Rattle.inodes_on_blocks.specs.Below.{World, log_of}
-use Rattle.inodes_on_blocks.specs.Lowering.{Carry, Stands, below, Labels, labelled}
-use Rattle.inodes_on_blocks.specs.Handlers.{P, Handler, give, settle, up_start, up, walk_down, down, forget, slot, install, double, close, check_file, lend, lend_directory, release, join, join_file, leave, say}
+use Rattle.inodes_on_blocks.specs.Basics.{World, log_of, Carry, Stands, below, Labels, labelled, P, Handler, give, settle, up_start, up, walk_down, down, forget, slot, install, double, close, check_file, lend, lend_directory, release, join, join_file, leave, say, store, whole, IsDone, Answers, used, Accounts, IsSpent}
 use Rattle.inodes_on_blocks.specs.Reading.{stat_file, take}
 use Rattle.inodes_on_blocks.specs.Files.{lock_file, lock_open, read_file}
 use Rattle.inodes_on_blocks.specs.Making.{claim}
 use Rattle.inodes_on_blocks.specs.Naming.{clear}
-use Rattle.inodes_on_blocks.specs.Storing.{store}
 use Rattle.inodes_on_blocks.specs.Emptying.{empty, free}
-use Rattle.inodes_on_blocks.specs.Acting.{whole, IsDone, Answers}
-use Rattle.inodes_on_blocks.specs.Accounts.{used, Accounts, IsSpent}
 use Rattle.inodes_on_blocks.specs.Room.{HasSpent, DoesItSpending}
 
 -- what the operations on whole inodes spend, and that it is at most ten blocks

@@ -1,17 +1,9 @@
 -- The programs below of operations that change an inode's record. On a disk of these sizes; c: what the hart has of the inodes whose locks
 -- it has.
 use Rattle.std.specs.Prelude.{ℕ, pos, List, Option, Some}
-use Rattle.std.specs.Option.{unwrap_or}
-use Rattle.fs_layout.specs.declared.superblock.Super.{Super}
-use Rattle.fs_layout.specs.declared.inode.Dinode.{Dinode}
-use Rattle.plain_tree.specs.Tree.{put}
-use Rattle.atomic_programs.specs.Prog.{Ret, Do, bind}
-use Rattle.atomic_programs.specs.Joined.{Handover}
+use Rattle.inodes_on_blocks.specs.Vocabulary.{unwrap_or, Super, Dinode, put, Ret, Do, bind, Handover, fetch, no_record, inode_block, with_dinode, Store}
 use Rattle.fs_machine.specs.Steps as steps
-use Rattle.fs_machine.specs.Programs.{fetch}
-use Rattle.inode_table.specs.Programs.{no_record, inode_block, with_dinode}
 use Rattle.inode_machine.specs.World as above
-use Rattle.inode_machine.specs.World.Op.{Store}
 use Rattle.inodes_on_blocks.specs.Lowering.{NothingMore, Had, Has, Carry, record_had}
 use Rattle.inodes_on_blocks.specs.Handlers.{P, Handler, acts}
 

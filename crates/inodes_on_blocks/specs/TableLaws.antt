@@ -1,26 +1,12 @@
 -- Each step of the tables is an operation on whole inodes. load: of each inode whose lock isn't out, what is loaded.
 use Rattle.std.specs.Prelude.{◌≡◌, ◌≢◌, ℕ, ◌+◌, ◌<◌, ◌≤◌, Option, Some, None, Bool, false, is_some, if◌then◌else◌, ◌==◌}
-use Rattle.std.specs.Option.{option_map}
-use Rattle.fs_layout.specs.declared.inode.Dinode.{Dinode}
-use Rattle.plain_tree.specs.Tree.{Tree, put}
-use Rattle.fs_machine.specs.declared.entries.Inode.{Inode}
-use Rattle.fs_machine.specs.Fresh.{fresh}
-use Rattle.fs_machine.specs.Tables.{TablesState, file_named}
-use Rattle.plain_tree.specs.Widths.{hart_count, descriptor_count, root}
+use Rattle.inodes_on_blocks.specs.Vocabulary.{option_map, Dinode, Tree, put, Inode, fresh, TablesState, file_named, hart_count, descriptor_count, root, lock_inode, unlock_inode, up_inode, up_directory, dead_of, DroppedState, Counts, Keeps, Dies, drop_inode, drop_walked, settle_inode, refusal_of, LockedState, Refuses, Locks, lock_file, take_place, open_file, double_descriptor, shut_descriptor, give_next, Cause, OpenFile, Sort, Query, Entry, World, LockResult, NotLocked, LocksIt, Room, Take, Up, UpStart, WalkDown, Down, Slot, Install, Double, Shut, Settle, StatFile, LockFile, Lend, LendDirectory, Release, exec, start_number, is_dead, slot_at, entry_of, read_refused, write_refused, with_offset, released, Inv, Asks, at_rest}
 use Rattle.fs_machine.specs.declared.slots.Given.TheVariants as given
-use Rattle.fs_machine.specs.Inodes.{lock_inode, unlock_inode, up_inode, up_directory, dead_of, DroppedState, Counts, Keeps, Dies, drop_inode, drop_walked, settle_inode, refusal_of, LockedState, Refuses, Locks, lock_file}
 use Rattle.fs_machine.specs.declared.files.Refused.TheVariants as refused
-use Rattle.fs_machine.specs.Files.{take_place, open_file, double_descriptor, shut_descriptor, give_next}
 use Rattle.fs_machine.specs.declared.files.Want.TheVariants as want
-use Rattle.plain_tree.specs.declared.answer.Cause.{Cause}
-use Rattle.plain_tree.specs.declared.tree.OpenFile.{OpenFile}
-use Rattle.inode_machine.specs.Inodes.{Sort, Query, seen_in}
-use Rattle.inode_machine.specs.World.{Entry, World, LockResult, NotLocked, LocksIt, Room}
-use Rattle.inode_machine.specs.World.Op.{Take, Up, UpStart, WalkDown, Down, Slot, Install, Double, Shut, Settle, StatFile, LockFile, Lend, LendDirectory, Release}
-use Rattle.inode_machine.specs.Exec.{exec, start_number, is_dead, slot_at, entry_of, read_refused, write_refused, with_offset, released}
-use Rattle.inode_machine.specs.Rules.{Inv, Asks}
-use Rattle.inode_machine.specs.Theory.{at_rest}
-use Rattle.inodes_on_blocks.specs.ShownTables.{loaded, Shows, BothCame, Runs, file_of, new_file, doubled_as, shut_as, given_as, refused_as}
+use Rattle.inode_machine.specs.Inodes.{seen_in}
+use Rattle.inodes_on_blocks.specs.Basics.{loaded, BothCame, Runs, file_of, new_file, doubled_as, shut_as, given_as, refused_as}
+use Rattle.inodes_on_blocks.specs.ShownTables.{Shows}
 
 -- a lock is tried of an inode to which a reference stands; it answers what is loaded
 abbrev pub LocksAreTaken : Type 0

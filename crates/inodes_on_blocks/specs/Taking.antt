@@ -1,23 +1,8 @@
 -- A block taken between two operations above: where the hart that is changing an inode goes on.
 use Rattle.std.specs.Prelude.{◌≡◌, ◌≢◌, ℕ, true, ◌<◌, [], Option, Some, None}
-use Rattle.fs_layout.specs.declared.inode.Dinode.{Dinode}
-use Rattle.fs_layout.specs.declared.superblock.Super.{Super}
-use Rattle.fs_layout.specs.Recovered.{recovered}
-use Rattle.plain_tree.specs.declared.node.Node.{Node}
-use Rattle.plain_tree.specs.Widths.{hart_count}
-use Rattle.image_tree.specs.Checks.{IsData, is_marked}
-use Rattle.inodes_on_blocks.specs.Holds.{HasContent}
-use Rattle.atomic_programs.specs.Logic.{Wp}
-use Rattle.atomic_programs.specs.Joined.{Both, joined}
-use Rattle.fs_machine.specs.Tables.{holder_of as lock_holder}
-use Rattle.bitmap_alloc.specs.Bytes.{zeros}
-use Rattle.bitmap_alloc.specs.Programs.{take_block}
-use Rattle.inode_machine.specs.Budget.{Spent, size, with_contents, most_recorded}
+use Rattle.inodes_on_blocks.specs.Vocabulary.{Dinode, Super, recovered, Node, hart_count, IsData, is_marked, Wp, Both, joined, lock_holder, zeros, take_block, Spent, size, with_contents, most_recorded}
+use Rattle.inodes_on_blocks.specs.Basics.{HasContent, World, log_of, tables_of, disk_of, inode_in, Shows, Kept, Carry, InHand, Stands, below, whole}
 use Rattle.inode_machine.specs.World as above
-use Rattle.inodes_on_blocks.specs.Below.{World, log_of, tables_of, disk_of, inode_in}
-use Rattle.inodes_on_blocks.specs.Shown.{Shows}
-use Rattle.inodes_on_blocks.specs.Lowering.{Kept, Carry, InHand, Stands, below}
-use Rattle.inodes_on_blocks.specs.Acting.{whole}
 use Rattle.inodes_on_blocks.specs.Holding.{in_hand}
 use Rattle.inodes_on_blocks.specs.Recording.{IsChanging}
 use Rattle.inodes_on_blocks.specs.Room.{HasSpent}

@@ -1,23 +1,11 @@
 -- The programs below of writing an open file. On a disk of these sizes; c: what the hart has of the inodes whose locks it has.
 use Rattle.std.specs.Prelude.{ℕ, ◌+◌, ◌-◌, ◌<◌, ◌==◌, nat_lt, if◌then◌else◌, List, length, Option, Some, None}
-use Rattle.atomic_programs.specs.Prog.{Ret, Do, bind}
-use Rattle.atomic_programs.specs.Joined.{Handover}
-use Rattle.fs_layout.specs.declared.inode.Dinode.{Dinode}
-use Rattle.fs_layout.specs.declared.superblock.Super.{Super}
-use Rattle.fs_layout.specs.Bytes.{IsBytes}
+use Rattle.inodes_on_blocks.specs.Vocabulary.{Ret, Do, bind, Handover, Dinode, Super, IsBytes, most_bytes, WriteResult, write_part, Cause, put, Wrote, Whole, Stopped as Refused, Short, WriteFile}
 use Rattle.fs_machine.specs.Steps as steps
-use Rattle.inode_data.specs.Widths.{most_bytes}
-use Rattle.inode_data.specs.Writing.{WriteResult, write_part}
-use Rattle.plain_tree.specs.declared.answer.Cause.{Cause}
 use Rattle.plain_tree.specs.declared.answer.Cause.TheVariants as causes
-use Rattle.plain_tree.specs.Tree.{put}
 use Rattle.inode_machine.specs.World as above
-use Rattle.inode_machine.specs.World.{Wrote, Whole, Refused, Short}
-use Rattle.inode_machine.specs.World.Op.{WriteFile}
-use Rattle.inodes_on_blocks.specs.Lowering.{Carry, Apart, record_had}
+use Rattle.inodes_on_blocks.specs.Basics.{Carry, Apart, record_had, record_in, P, Handler, acts, one}
 use Rattle.inodes_on_blocks.specs.Spending.{DoesItWithin}
-use Rattle.inodes_on_blocks.specs.Storing.{record_in}
-use Rattle.inodes_on_blocks.specs.Handlers.{P, Handler, acts, one}
 
 -- why a piece isn't written: its offset is past the size, or its end past that of the greatest content
 abbrev pub refused_in : Dinode → (offset : ℕ) → List ℕ → Option Cause

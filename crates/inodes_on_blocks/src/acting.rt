@@ -1,9 +1,7 @@
 //! Operations on whole inodes as programs below: each acts at one moment, whatever the other harts do.
 
 ghost use Rattle.std.specs.Prelude.{ℕ, Bool};
-ghost use Rattle.plain_tree.specs.declared.tree.OpenFile.{OpenFile};
-ghost use Rattle.inode_machine.specs.Inodes.{Sort};
-ghost use Rattle.inode_machine.specs.World.Op.{Give, UpStart, Up, WalkDown, Down, Forget, Slot, Install, CheckFile, JoinFile, Double, Shut, Settle, Lend, LendDirectory, Release, Join, Leave, Say};
+ghost use Rattle.inodes_on_blocks.specs.Vocabulary.{OpenFile, Sort, Give, UpStart, Up, WalkDown, Down, Forget, Slot, Install, CheckFile, JoinFile, Double, Shut, Settle, Lend, LendDirectory, Release, Join, Leave, Say};
 ghost use Rattle.inodes_on_blocks.specs.Handlers.{give, settle, up_start, up, walk_down, down, forget, slot, install, double, close, check_file, lend, lend_directory, release, join, join_file, leave, say};
 ghost use Rattle.inodes_on_blocks.specs.Acting.{DoesIt};
 

@@ -1,8 +1,7 @@
 //! Operations on open files, as programs below: each acts at one moment, whatever the other harts do.
 
 ghost use Rattle.std.specs.Prelude.{ℕ};
-ghost use Rattle.fs_layout.specs.declared.superblock.Super.{Super};
-ghost use Rattle.inode_machine.specs.World.Op.{LockFile, LockOpen, ReadFile};
+ghost use Rattle.inodes_on_blocks.specs.Vocabulary.{Super, LockFile, LockOpen, ReadFile};
 ghost use Rattle.inodes_on_blocks.specs.Files.{lock_file, lock_open, read_file};
 ghost use Rattle.inodes_on_blocks.specs.Acting.{DoesItAt};
 ghost use Rattle.inodes_on_blocks.specs.Writing.{WritesActOnce};

@@ -3,10 +3,7 @@
 //! that.
 
 ghost use Rattle.std.specs.Prelude.{ℕ};
-ghost use Rattle.fs_layout.specs.declared.superblock.Super.{Super};
-ghost use Rattle.plain_tree.specs.Tree.{Name};
-ghost use Rattle.inode_machine.specs.Inodes.{Sort};
-ghost use Rattle.inode_machine.specs.World.Op.{Claim, Enter, Fill};
+ghost use Rattle.inodes_on_blocks.specs.Vocabulary.{Super, Name, Sort, Claim, Enter, Fill};
 ghost use Rattle.inodes_on_blocks.specs.Entering.{enter, fill};
 ghost use Rattle.inodes_on_blocks.specs.Making.{claim, HasInodes, IsMade};
 ghost use Rattle.inodes_on_blocks.specs.Spending.{DoesItWithin};

@@ -1,9 +1,7 @@
 //! Operations that lock an inode and read it, as programs below: each acts where the lock is had, whatever the other harts do.
 
 ghost use Rattle.std.specs.Prelude.{ℕ};
-ghost use Rattle.fs_layout.specs.declared.superblock.Super.{Super};
-ghost use Rattle.inode_machine.specs.Inodes.{Query};
-ghost use Rattle.inode_machine.specs.World.Op.{Take, StatFile};
+ghost use Rattle.inodes_on_blocks.specs.Vocabulary.{Super, Query, Take, StatFile};
 ghost use Rattle.inodes_on_blocks.specs.Reading.{stat_file, take};
 ghost use Rattle.inodes_on_blocks.specs.Acting.{DoesItAt};
 

@@ -1,6 +1,6 @@
 //! What the programs below of operations record: no more than their call's transactions may.
 
-ghost use Rattle.fs_layout.specs.declared.superblock.Super.{Super};
+ghost use Rattle.inodes_on_blocks.specs.Vocabulary.{Super};
 ghost use Rattle.inodes_on_blocks.specs.Spending.{ProgramsSpend, ProgramsStayWithin, RecordingsStayWithin};
 
 /// By their text the programs record what their operations spend.

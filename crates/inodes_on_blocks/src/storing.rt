@@ -2,9 +2,7 @@
 //! hart's transaction has room for what they record.
 
 ghost use Rattle.std.specs.Prelude.{ℕ};
-ghost use Rattle.fs_layout.specs.declared.superblock.Super.{Super};
-ghost use Rattle.plain_tree.specs.Tree.{Name};
-ghost use Rattle.inode_machine.specs.World.Op.{Clear, Store, Empty, Free};
+ghost use Rattle.inodes_on_blocks.specs.Vocabulary.{Super, Name, Clear, Store, Empty, Free};
 ghost use Rattle.inodes_on_blocks.specs.Emptying.{empty, free};
 ghost use Rattle.inodes_on_blocks.specs.Naming.{clear};
 ghost use Rattle.inodes_on_blocks.specs.Storing.{store};

@@ -1,7 +1,6 @@
 //! A log over disks in memory: who waits, what a commit writes, and what a recovery makes of a fault.
 ghost use Rattle.std.specs.Prelude.{◌≡◌, [], IfOk};
-ghost use Rattle.fs_layout.specs.Recovered.{logged};
-ghost use Rattle.group_log.specs.Soundness.{IsPlaced};
+ghost use Rattle.layer_tests.specs.Vocabulary.{logged, IsPlaced, blocks_of, blocks_of-whole, IsFusedCall};
 
 use crate::images::fresh;
 use crate::told::holds;
@@ -47,10 +46,6 @@ struct Watched {
 }
 
 impl Device for Watched {
-    ghost use Rattle.block_device.specs.Blocks.{blocks_of};
-    ghost use Rattle.block_device.specs.BlockLaws.{blocks_of-whole};
-    ghost use Rattle.block_device.specs.Fuse.{IsFusedCall};
-
     ghost contents = { λ d. blocks_of d.disk.bytes };
 
     ghost failures = { λ d. d.disk.faults };

@@ -1,14 +1,12 @@
 //! Nodes without a name that are freed, also by a call that is stopped at each call of the device in turn.
 ghost use Rattle.std.specs.Prelude.{◌≡◌, IfOk};
-ghost use Rattle.fs_layout.specs.Recovered.{sizes_of};
-ghost use Rattle.image_tree.specs.Damage.{IsWellFormed};
+ghost use Rattle.layer_tests.specs.Vocabulary.{sizes_of, IsWellFormed};
 
 use crate::by_hand::{Change, fresh, with};
 use crate::made_images::examine;
 use crate::told_images::holds;
 use block_device::{Device, Fused, MemoryDisk};
-use image_tree::{Layout, MountFault, Shape, examine_layout};
-use image_tree::settle;
+use image_tree::{Layout, MountFault, Shape, examine_layout, settle};
 use std::alloc::Global;
 use std::test::Fail;
 

@@ -1,7 +1,6 @@
 //! Buffers beside a plain list of them, in order of giving back.
 ghost use Rattle.std.specs.Prelude.{◌≡◌, ◌<◌, ℕ, length, IfSome};
-ghost use Rattle.buffer_cache.specs.Seats.{seen, KeepsOthers};
-ghost use Rattle.block_device.specs.Blocks.{blocks_of};
+ghost use Rattle.layer_tests.specs.Vocabulary.{seen, KeepsOthers, blocks_of};
 
 use crate::buffers::{BLOCKS, buffers, numbered};
 use block_device::{Device, MemoryDisk};

@@ -1,10 +1,10 @@
 //! A run told for a test: its calls, and a list of steps with their answers.
-use tree_histories::find_history;
 use plain_tree::{
     Action, Answer, Bytes, Call, Calls, Cause, NoMemory, Placed, Reply, StepAnswer, Trace,
     TracedCall, Tree, TreeStep, check,
 };
 use std::alloc::Global;
+use tree_histories::find_history;
 
 /// What is other than told.
 #[derive(Clone, Copy)]

@@ -1,40 +1,6 @@
 -- What the harts' programs are answered in a run, and what they end with.
-use Rattle.std.proofs.Common.{◌≡◌, ◌≢◌, ℕ, ◌<◌, Bool, false, List, [], ◌∷◌, Option, Some, None, refl, sym, ◌∙◌, ap, subst}
-use Rattle.fs_layout.specs.declared.superblock.Super.{Super}
-use Rattle.fs_layout.specs.Recovered.{sizes_of}
-use Rattle.block_device.specs.Fuse.{Fuse}
-use Rattle.group_log.specs.declared.phase.Phase.TheVariants.{Halted}
-use Rattle.plain_tree.specs.declared.answer.Reply.{Reply}
-use Rattle.plain_tree.specs.declared.call.Call.{Call}
+use Rattle.locked_world.proofs.Vocabulary.{◌≡◌, ◌≢◌, ℕ, ◌<◌, Bool, false, List, [], ◌∷◌, Option, Some, None, refl, sym, ◌∙◌, ap, subst, Super, sizes_of, Fuse, Halted, Reply, Call, put, Prog, Ret, Do, plain, Theory, fresh_state, EventOf as Event, Start, Started, Began, Refuses, Begins, changed, is_some, Plain, PlainMade, SoundPlain, MayOf, plain_makes, plain_start, plain_begun, plain_run, inv_of, sound_keeps, sound_fresh, sound_event, sound_may, LogPart, Outside, P, State, exec, IsWholeLog, program, Refusal, Shows, mounts_show_their_trees, first, SharedState, layer, handlers, served_calls, child_of, begin_in, block_calls, block_code, first_holds, first_idle, is_code, lawful, begun_here, below_count, HartsOf, shared_of, Rests, AllAnswer, WorldOf, calls_of, mountable, rests_erased, HandsBack, EndsWith, cleared, StoredRun, IsRunOf, contents, failures, disk_of}
 use Rattle.plain_tree.specs.declared.call.Call.TheVariants as calls
-use Rattle.plain_tree.specs.Tree.{put}
-use Rattle.atomic_programs.specs.Prog.{Prog, Ret, Do, plain}
-use Rattle.atomic_programs.specs.Calls.{Theory, fresh as fresh_state, Event, Start, Started, Began, Refuses, Begins, changed, is_some}
-use Rattle.atomic_programs.specs.Plain.{Plain, PlainMade, SoundPlain, MayOf, plain_makes, plain_start, plain_begun, plain_run}
-use Rattle.atomic_programs.proofs.Explains.{inv_of, sound_keeps}
-use Rattle.atomic_programs.proofs.Reached.{sound_fresh, sound_event, sound_may}
-use Rattle.fs_machine.specs.LogPart.{LogPart, Outside}
-use Rattle.fs_machine.specs.Machines.{P}
-use Rattle.fs_machine.specs.Steps.{State, exec}
-use Rattle.fs_machine.specs.Whole.{IsWholeLog}
-use Rattle.inode_machine.specs.Programs.{program}
-use Rattle.inode_machine.specs.Theory.{Refusal}
-use Rattle.inodes_on_blocks.specs.Shown.{Shows}
-use Rattle.inodes_on_blocks.proofs.Mounted.{mounts_show_their_trees}
-use Rattle.calls_on_blocks.specs.History.{first}
-use Rattle.calls_on_blocks.specs.Layer.{SharedState, layer}
-use Rattle.inodes_on_blocks.specs.Programs.{handlers}
-use Rattle.calls_on_blocks.specs.Theory.{served_calls, child_of, begin_in, block_calls, block_code}
-use Rattle.calls_on_blocks.proofs.History.{first_holds, first_idle}
-use Rattle.calls_on_blocks.proofs.Lawful.{is_code, lawful}
-use Rattle.calls_on_blocks.proofs.Starting.{begun_here, below_count}
-use Rattle.hart_core.specs.Harts.{HartsOf, shared_of}
-use Rattle.hart_core.specs.Mounting.{Rests}
-use Rattle.hart_core.specs.Runs.{AllAnswer}
-use Rattle.hart_core.specs.Worlds.{WorldOf, calls_of}
-use Rattle.hart_core.proofs.Resting.{mountable, rests_erased}
-use Rattle.locked_world.specs.HandedBack.{HandsBack, EndsWith, cleared}
-use Rattle.locked_world.specs.Kept.{StoredRun, IsRunOf, contents, failures, disk_of}
 use Rattle.locked_world.proofs.Endings.{Leaves, OfCall, is_read, leaves_plain, leaves_lowered, program_ends}
 use Rattle.locked_world.proofs.Fitting.{SeesWhole, op_fits, ran_in}
 use Rattle.locked_world.proofs.ReadCalls.{read_hands_back}

@@ -1,27 +1,13 @@
 -- Wherever a call's program ends, the reply hands the call back: of all calls but read.
-use Rattle.std.proofs.Common.{◌≡◌, ℕ, zero, suc, ◌+◌, ◌-◌, ◌==◌, ◌||◌, Bool, true, false, List, [], ◌∷◌, Option, Some, None, if◌then◌else◌, refl}
-use Rattle.plain_tree.specs.declared.answer.Reply.{Reply}
-use Rattle.plain_tree.specs.declared.answer.Cause.{Cause}
-use Rattle.plain_tree.specs.declared.call.Call.{Call}
+use Rattle.locked_world.proofs.Vocabulary.{◌≡◌, ℕ, zero, suc, ◌+◌, ◌-◌, ◌==◌, ◌||◌, Bool, true, false, List, [], ◌∷◌, Option, Some, None, if◌then◌else◌, refl, Reply, Cause, Call, Action, NoEntry, Name, elements, same_name, dot, dotdot, creates, descriptor_count, Prog, Ret, Do, bind, plain, unmarked, Machine, PartOf, Lower, Handlers, lowered, Face, Sort, is_directory_face, is_live_face, is_directory_sort, face_or, Mark, ClaimResult, New, NoInode, NoPlace, EntryResult, InPlace, NoBlock, NoSlot, JoinResult, NotJoined, Joined, Wrote, Whole, Short, LoanResult, Lent, Moved, Store, Above as P, done, failed, say, give_up, free_all, tail, NotThere, NoMemory, stopped, leave_directory, with_last, walk_step, walk, see_parent, walk_parent, start_on, start, program}
 use Rattle.plain_tree.specs.declared.call.Call.TheVariants as calls
-use Rattle.plain_tree.specs.declared.step.Action.{Action}
 use Rattle.plain_tree.specs.declared.step.Action.TheVariants as actions
-use Rattle.plain_tree.specs.declared.answer.Cause.TheVariants.{NoEntry}
-use Rattle.plain_tree.specs.Tree.{Name, elements, same_name, dot, dotdot}
-use Rattle.plain_tree.specs.Steps.{creates}
-use Rattle.plain_tree.specs.Widths.{descriptor_count}
-use Rattle.atomic_programs.specs.Prog.{Prog, Ret, Do, bind, plain, unmarked}
-use Rattle.atomic_programs.specs.Logic.{Machine, P as PartOf}
-use Rattle.atomic_programs.specs.Joined.{Lower, Handlers, lowered}
-use Rattle.inode_machine.specs.Inodes.{Face, Sort, is_directory_face, is_live_face, is_directory_sort, face_or}
-use Rattle.inode_machine.specs.World.{Mark, ClaimResult, New, NoInode, NoPlace, EntryResult, InPlace, NoBlock, NoSlot, JoinResult, NotJoined, Joined, Wrote, Whole, Refused, Short, LoanResult, Lent, Moved}
-use Rattle.inode_machine.specs.World.Op.{Store}
-use Rattle.inode_machine.specs.Parts.{P, done, failed, say, drop, give_up, free_all, tail, Stop, NotThere, NoMemory, stopped, leave_directory, with_last, walk_step, walk, see_parent, walk_parent, start_on, start}
+use Rattle.inode_machine.specs.World.{Refused}
+use Rattle.inode_machine.specs.Parts.{drop, Stop}
 use Rattle.inode_machine.specs.Descriptors as fds
 use Rattle.inode_machine.specs.Opening as opening
 use Rattle.inode_machine.specs.Naming as naming
 use Rattle.inode_machine.specs.Moving as moving
-use Rattle.inode_machine.specs.Programs.{program}
 
 -- wherever the program ends
 abbrev pub Leaves : {Op : Type 0} {Answer : Op → Type 0} {M A : Type 0} → (A → Type 0) → Prog Op Answer M A → Type 0

@@ -1,8 +1,5 @@
 -- The run of a locked world has one history.
-use Rattle.hart_core.specs.Worlds.{WorldOf}
-use Rattle.hart_core.proofs.Histories.{explained}
-use Rattle.block_device.specs.Fuse.{Fuse}
-use Rattle.locked_world.specs.Kept.{StoredRun, IsRunOf, OneListExplains, contents, failures, disk_of}
+use Rattle.locked_world.proofs.Vocabulary.{WorldOf, explained, Fuse, StoredRun, IsRunOf, OneListExplains, contents, failures, disk_of}
 
 pub explained_run : (s : StoredRun) (w : WorldOf Fuse) (run : IsRunOf s w) → OneListExplains s w run
 explained_run s w run = explained contents failures run.first s.events s.outcomes w.harts (disk_of s) run.history.0 run.mounted run.history.1

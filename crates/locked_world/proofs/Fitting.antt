@@ -1,28 +1,7 @@
 -- A hart is answered no block that is longer than a block.
-use Rattle.std.proofs.Common.{◌≡◌, ◌≢◌, ℕ, ◌<◌, ◌≤◌, Bool, true, false, List, [], length, Option, Some, None, refl, sym, ◌∙◌, ap, subst, arith}
-use Rattle.std.specs.Prelude.{IfSome, nat_lt}
-use Rattle.std.specs.Option.{unwrap_or}
-use Rattle.std.proofs.lemmas.Bool.Decides.{nat_tests}
-use Rattle.std.proofs.lemmas.List.{get_or_past}
-use Rattle.fs_layout.specs.Recovered.{IsOutsideLog}
-use Rattle.fs_layout.specs.Widths.{block_len}
-use Rattle.block_device.specs.Blocks.{block_at}
-use Rattle.buffer_cache.specs.Getting.{get_of}
-use Rattle.buffer_cache.specs.Seats.{SeatState, kept}
-use Rattle.buffer_cache.specs.declared.got.Got.{Got}
+use Rattle.locked_world.proofs.Vocabulary.{◌≡◌, ◌≢◌, ℕ, ◌<◌, ◌≤◌, Bool, true, false, List, [], length, Option, Some, None, refl, sym, ◌∙◌, ap, subst, arith, IfSome, nat_lt, unwrap_or, nat_tests, get_or_past, IsOutsideLog, block_len, block_at, get_of, SeatState, kept, Got, GetLaws, get_laws, Phase, Open, Staging, Installing, Halted, CleanFrom, DiskFits, Did, Waits, Ran, Stops, did_in, LogPart, Outside, Passes, Fails, got_by, read_block, May, seen_of, State, Op, Answer, exec, in_log, IsWholeLog, FitsBlock}
 use Rattle.buffer_cache.specs.declared.got.Got.TheVariants as got
-use Rattle.buffer_cache.proofs.Laws.{GetLaws, get_laws}
-use Rattle.group_log.specs.declared.phase.Phase.{Phase}
-use Rattle.group_log.specs.declared.phase.Phase.TheVariants.{Open, Staging, Installing, Halted}
-use Rattle.group_log.specs.Soundness.{CleanFrom, DiskFits}
-use Rattle.atomic_programs.specs.Prog.{Did, Waits, Ran, Stops, did_in}
-use Rattle.fs_machine.specs.LogPart.{LogPart, Outside, Passes, Fails, got_by, read_block}
-use Rattle.fs_machine.specs.Premises.{May}
-use Rattle.fs_machine.specs.Shown.{seen_of}
 use Rattle.fs_machine.specs.Steps as steps
-use Rattle.fs_machine.specs.Steps.{State, Op, Answer, exec, in_log}
-use Rattle.fs_machine.specs.Whole.{IsWholeLog}
-use Rattle.locked_world.specs.HandedBack.{FitsBlock}
 
 -- the blocks of the disk are seen whole
 abbrev pub SeesWhole : LogPart → Type 0

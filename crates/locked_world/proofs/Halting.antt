@@ -1,11 +1,6 @@
 -- A world's stop, as it is told.
-use Rattle.std.proofs.Common.{◌≡◌, ℕ, sym, subst}
-use Rattle.hart_core.specs.declared.outcome.Outcome.TheVariants.{Stopped}
-use Rattle.hart_core.specs.declared.outcome.Stop.{Stop}
-use Rattle.hart_core.specs.declared.outcome.Stop.TheVariants.{DeviceFault, Halted}
-use Rattle.locked_world.specs.Kept.{LockedRun}
-use Rattle.locked_world.specs.Told.{Steps, HaltAnswers, halt_for}
-use Rattle.locked_world.specs.declared.locked.Halt.{Halt}
+use Rattle.locked_world.proofs.Vocabulary.{◌≡◌, ℕ, sym, subst, Stopped, Stop, DeviceFault, LockedRun, Steps, HaltAnswers, halt_for, Halt}
+use Rattle.hart_core.specs.declared.outcome.Stop.TheVariants.{Halted}
 
 own_halt : (s : LockedRun) (h : ℕ) (stop : Stop) (t : LockedRun) → Steps s h (Stopped stop) t → HaltAnswers s h (halt_for stop) t
 own_halt s h DeviceFault t steps = steps

@@ -1,9 +1,5 @@
 -- What a call hands back, by the call's kind.
-use Rattle.std.proofs.Common.{◌≡◌, ℕ, List, length, replicate, sym, ap, ◌∙◌}
-use Rattle.std.proofs.Math.ListN.{length-replicate}
-use Rattle.plain_tree.specs.declared.call.Call.{Call}
-use Rattle.plain_tree.specs.declared.call.Call.TheVariants.{Open, Read, Write, Link, Unlink, Mkdir, Chdir, Dup, Fstat, Close, Inherit}
-use Rattle.locked_world.specs.HandedBack.{HandsBack}
+use Rattle.locked_world.proofs.Vocabulary.{◌≡◌, ℕ, List, length, replicate, sym, ap, ◌∙◌, length-replicate, Call, OpenCall as Open, Read, Write, Link, Unlink, Mkdir, Chdir, Dup, Fstat, Close, Inherit, HandsBack}
 
 -- a read's buffer has its length
 pub of_read : (fd : ℕ) (buffer : List ℕ) (g : ℕ) (bytes : List ℕ) → HandsBack (Read fd buffer) (Read g bytes) → (fd ≡ g) × (length buffer ≡ length bytes)

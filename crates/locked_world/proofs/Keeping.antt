@@ -1,37 +1,8 @@
 -- One event more, and what is kept.
-use Rattle.std.proofs.Common.{◌≡◌, ℕ, zero, suc, ◌+◌, ◌<◌, ◌≤◌, inl, inr, Bool, true, false, Option, Some, None, List, [], ◌∷◌, ◌++◌, length, refl, sym, ap, ◌∙◌, subst, arith, slice_set, slice_index_or, get_or, length-append, length-set, append_assoc, append-nil, nat_eq, ◌==◌, if◌then◌else◌}
-use Rattle.std.proofs.lemmas.List.{get_or-set_same, get_or-set_other}
-use Rattle.std.proofs.lemmas.Bool.Decides.{eqb_tells}
-use Rattle.block_device.specs.Calls.{one_more}
-use Rattle.block_device.specs.Fuse.{Fuse, IsFusedCall}
-use Rattle.fs_layout.specs.declared.superblock.Super.{Super}
-use Rattle.plain_tree.specs.declared.answer.Reply.{Reply}
-use Rattle.plain_tree.specs.declared.call.Call.{Call}
-use Rattle.plain_tree.specs.Explains.{Shown}
-use Rattle.plain_tree.specs.Explains.Shown.{Started as IsBegun, Replied, Other}
-use Rattle.atomic_programs.specs.Calls.{Start, Step, Outcome as OutcomeOf, Started, Refused, DidWait, DidEnd, with_answer, changed}
-use Rattle.atomic_programs.specs.Plain.{Plain, PlainMade}
-use Rattle.fs_machine.specs.declared.kind.Kind.{Kind}
-use Rattle.fs_machine.specs.LogPart.{Outside}
-use Rattle.fs_machine.specs.Machines.{CallsOnce}
-use Rattle.inode_machine.specs.Theory.{Refusal}
-use Rattle.calls_on_blocks.specs.Theory.{block_calls, block_code}
-use Rattle.hart_core.specs.declared.events.Event.{Event}
+use Rattle.locked_world.proofs.Vocabulary.{◌≡◌, ℕ, zero, suc, ◌+◌, ◌<◌, ◌≤◌, inl, inr, Bool, true, false, Option, Some, None, List, [], ◌∷◌, ◌++◌, length, refl, sym, ap, ◌∙◌, subst, arith, slice_set, slice_index_or, get_or, length-append, length-set, append_assoc, append-nil, nat_eq, ◌==◌, if◌then◌else◌, get_or-set_same, get_or-set_other, eqb_tells, one_more, Fuse, IsFusedCall, Super, Reply, Call, Shown, IsBegun, Replied, Other, Start, Step, OutcomeOf, Started, Refused, DidWait, DidEnd, with_answer, changed, Plain, PlainMade, Kind, Outside, CallsOnce, Refusal, block_calls, block_code, Event, Came, Outcome, StartRefused, event_of, came_of, outcome_of, all_shown, shown, shown_outcome, reason_of, WorldOf, calls_of, Makes, Answers, history_more, one_each, HandsBack, SpareFits, StoredRun, with_event, contents, failures, device_of, ComesFromImage, IsRunOf, IsKept, replied_by, replies_in, replies_of, counts, count_in, shown_in, IsUnmoved}
 use Rattle.hart_core.specs.declared.events.Event.TheVariants as event
-use Rattle.hart_core.specs.declared.events.Came.{Came}
 use Rattle.hart_core.specs.declared.events.Came.TheVariants as came
-use Rattle.hart_core.specs.declared.outcome.Outcome.{Outcome}
 use Rattle.hart_core.specs.declared.outcome.Outcome.TheVariants as outcome
-use Rattle.hart_core.specs.declared.starts.StartRefused.{StartRefused}
-use Rattle.hart_core.specs.Events.{event_of, came_of}
-use Rattle.hart_core.specs.Harts.{outcome_of}
-use Rattle.hart_core.specs.Runs.{all_shown, shown, shown_outcome}
-use Rattle.hart_core.specs.Starts.{reason_of}
-use Rattle.hart_core.specs.Worlds.{WorldOf, calls_of, Makes, Answers}
-use Rattle.hart_core.proofs.Histories.{history_more, one_each}
-use Rattle.locked_world.specs.HandedBack.{HandsBack, SpareFits}
-use Rattle.locked_world.specs.Kept.{StoredRun, with_event, contents, failures, device_of, ComesFromImage, IsRunOf, IsKept, replied_by, replies_in, replies_of, counts, count_in, shown_in}
-use Rattle.locked_world.specs.Told.{IsUnmoved}
 use Rattle.locked_world.proofs.Blocks.{answers_fit, may_here, started}
 use Rattle.locked_world.proofs.Spares.{Ends, step_keeps, step_ends, step_waits, start_refused}
 

@@ -1,11 +1,5 @@
 -- The replies to a hart, up to a place.
-use Rattle.std.proofs.Common.{◌≡◌, ℕ, ◌+◌, ◌<◌, ◌≤◌, List, [], ◌∷◌, ◌++◌, Some, None, length, take, drop, get_or, refl, sym, ap, ◌∙◌, arith, append_assoc, append-nil, length-take, inl, inr}
-use Rattle.std.specs.List.{slice_get}
-use Rattle.std.proofs.lemmas.Option.{slice_get_read, slice_get_cases, slice_get_past}
-use Rattle.std.proofs.lemmas.List.{take_more, take-append-drop}
-use Rattle.plain_tree.specs.declared.answer.Reply.{Reply}
-use Rattle.locked_world.specs.declared.note.Given.{Given}
-use Rattle.locked_world.specs.Stories.{given_to, reply_to}
+use Rattle.locked_world.proofs.Vocabulary.{◌≡◌, ℕ, ◌+◌, ◌<◌, ◌≤◌, List, [], ◌∷◌, ◌++◌, Some, None, length, take, drop, get_or, refl, sym, ap, ◌∙◌, arith, append_assoc, append-nil, length-take, inl, inr, slice_get, slice_get_read, slice_get_cases, slice_get_past, take_more, take-append-drop, Reply, Given, given_to, reply_to}
 
 given_append : (h : ℕ) (xs ys : List Given) → given_to h (xs ++ ys) ≡ given_to h xs ++ given_to h ys
 given_append h [] ys = refl

@@ -1,17 +1,7 @@
 -- One note more, and what notes tell.
-use Rattle.std.proofs.Common.{◌≡◌, ℕ, zero, suc, ◌+◌, ◌<◌, ◌≤◌, Bool, true, false, if◌then◌else◌, ◌==◌, Option, Some, None, List, [], ◌∷◌, ◌++◌, length, map, drop, get_or, refl, sym, ap, ◌∙◌, subst, arith, append-nil, append_assoc, length-append}
-use Rattle.std.specs.List.{slice_get}
-use Rattle.plain_tree.specs.declared.answer.Reply.{Reply}
-use Rattle.plain_tree.specs.declared.call.Call.{Call}
-use Rattle.hart_core.specs.declared.events.Event.{Event}
-use Rattle.hart_core.specs.declared.events.Came.{Came}
-use Rattle.locked_world.specs.declared.note.Given.{Given}
-use Rattle.locked_world.specs.declared.note.Note.{Note}
-use Rattle.locked_world.specs.declared.note.What.{What}
+use Rattle.locked_world.proofs.Vocabulary.{◌≡◌, ℕ, zero, suc, ◌+◌, ◌<◌, ◌≤◌, Bool, true, false, if◌then◌else◌, ◌==◌, Option, Some, None, List, [], ◌∷◌, ◌++◌, length, map, drop, get_or, refl, sym, ap, ◌∙◌, subst, arith, append-nil, append_assoc, length-append, slice_get, Reply, Call, Event, Came, Given, Note, What, all_shown, shown, replied_by, replies_in, past, each, takers, is_start, is_reply, starts, replies, event_at, came_at, event_noted, came_noted, noted_events, noted_outcomes, noted_pairs, answered, IsNoted, given_to}
 use Rattle.locked_world.specs.declared.note.What.TheVariants as what
-use Rattle.hart_core.specs.Runs.{all_shown, shown}
-use Rattle.locked_world.specs.Kept.{replied_by, replies_in}
-use Rattle.locked_world.specs.Stories.{first, past, each, takers, is_start, is_reply, starts, replies, event_at, came_at, event_noted, came_noted, noted_events, noted_outcomes, noted_pairs, answered, IsNoted, given_to}
+use Rattle.locked_world.specs.Stories.{first}
 
 -- ---- a row, some of which take the next one
 

@@ -1,19 +1,5 @@
 -- A locked world before its first event.
-use Rattle.std.proofs.Common.{◌≡◌, ℕ, zero, suc, List, [], Option, None, replicate, get_or, refl, sym, ◌∙◌, ap, subst}
-use Rattle.fs_layout.specs.Recovered.{sizes_of}
-use Rattle.block_device.specs.Calls.{ComesByCalls}
-use Rattle.block_device.specs.Fuse.{Fuse, IsFusedCall}
-use Rattle.atomic_programs.specs.Machines.{program_at}
-use Rattle.syscalls.specs.Machines.{Running, running_of}
-use Rattle.hart_core.specs.declared.events.Event.{Event}
-use Rattle.hart_core.specs.declared.events.Came.{Came}
-use Rattle.hart_core.specs.Mounting.{Rests}
-use Rattle.hart_core.specs.Runs.{IsMounted}
-use Rattle.hart_core.specs.Worlds.{WorldOf, calls_of}
-use Rattle.hart_core.proofs.Histories.{no_history}
-use Rattle.hart_core.proofs.Stepping.{nones}
-use Rattle.locked_world.specs.HandedBack.{SpareFits}
-use Rattle.locked_world.specs.Kept.{StoredRun, IsKept, ComesFromImage, contents, failures, device_of, disk_of, opened}
+use Rattle.locked_world.proofs.Vocabulary.{◌≡◌, ℕ, zero, suc, List, [], Option, None, replicate, get_or, refl, sym, ◌∙◌, ap, subst, sizes_of, ComesByCalls, Fuse, IsFusedCall, program_at, Running, running_of, Event, Came, Rests, IsMounted, WorldOf, calls_of, no_history, nones, SpareFits, StoredRun, IsKept, ComesFromImage, contents, failures, device_of, disk_of, opened}
 
 zeros : (n h : ℕ) → ◌≡◌ {A = ℕ} (get_or (replicate n 0) h 0) 0
 zeros zero zero = refl

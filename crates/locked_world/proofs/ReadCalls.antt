@@ -1,31 +1,7 @@
 -- A read hands back a buffer of the length that it was given.
-use Rattle.std.proofs.Common.{◌≡◌, ℕ, zero, suc, ◌+◌, ◌-◌, ◌/◌, ◌%◌, ◌≤◌, List, [], ◌++◌, length, take, drop, replicate, Option, Some, None, refl, ap, arith, length-append, length-drop, length-take}
-use Rattle.fs_layout.specs.Bytes.{overwrite}
-use Rattle.fs_layout.specs.declared.inode.Dinode.{Dinode}
-use Rattle.fs_layout.specs.declared.superblock.Super.{Super}
-use Rattle.plain_tree.specs.declared.call.Call.TheVariants.{Read}
-use Rattle.plain_tree.specs.declared.answer.Reply.{Reply}
+use Rattle.locked_world.proofs.Vocabulary.{◌≡◌, ℕ, zero, suc, ◌+◌, ◌-◌, ◌/◌, ◌%◌, ◌≤◌, List, [], ◌++◌, length, take, drop, replicate, Option, Some, None, refl, ap, arith, length-append, length-drop, length-take, overwrite, Dinode, Super, Read, Reply, ActOf, Handover, lowered, Prog, Ret, Do, bind, plain, LockedState, Locks, fetch, read_unless, Op, Answer, Get, Address, Direct, InTable, address, table_of, FetchedBlock, FilledMemory, filled_with, give_fetched, fetch_number, fetch_named, fetch_at, fetch_block, next_block, blocks_between, part_of, read_part, read_blocks, end_of, read_from, read_on, read_program, read_reply, own_step, say, machine, LockResult, NotLocked, LocksIt, load_unless, file_locked, give_read, read_file, with_file, Carry, handlers, record_in, layer, HandsBack, FitsBlock, EndsWith}
 use Rattle.plain_tree.specs.declared.step.Action.TheVariants as actions
-use Rattle.atomic_programs.specs.Joined.{ActOf, Handover, lowered}
-use Rattle.atomic_programs.specs.Prog.{Prog, Ret, Do, bind, plain}
-use Rattle.fs_machine.specs.Inodes.{LockedState, Refuses, Locks}
-use Rattle.fs_machine.specs.Programs.{fetch, read_unless}
-use Rattle.fs_machine.specs.Steps.{Op, Answer, Get}
-use Rattle.inode_data.specs.declared.addresses.Address.{Address}
-use Rattle.inode_data.specs.declared.addresses.Address.TheVariants.{Direct, InTable}
-use Rattle.inode_data.specs.Addresses.{address, table_of}
-use Rattle.inode_data.specs.Programs.{FetchedBlock, FilledMemory, filled_with, give_fetched, fetch_number, fetch_named, fetch_at, fetch_block, next_block, blocks_between, part_of, read_part, read_blocks, end_of, read_from}
-use Rattle.inode_machine.specs.Descriptors.{read_on, read_program, read_reply}
-use Rattle.inode_machine.specs.Parts.{own_step, say}
-use Rattle.inode_machine.specs.Rules.{machine}
-use Rattle.inode_machine.specs.World.{LockResult, NotLocked, LocksIt}
-use Rattle.inode_table.specs.Programs.{load_unless}
-use Rattle.inodes_on_blocks.specs.Files.{file_locked, give_read, read_file, with_file}
-use Rattle.inodes_on_blocks.specs.Lowering.{Carry}
-use Rattle.inodes_on_blocks.specs.Programs.{handlers}
-use Rattle.inodes_on_blocks.specs.Storing.{record_in}
-use Rattle.calls_on_blocks.specs.Layer.{layer}
-use Rattle.locked_world.specs.HandedBack.{HandsBack, FitsBlock, EndsWith}
+use Rattle.fs_machine.specs.Inodes.{Refuses}
 
 -- wherever a program with marks ends
 abbrev pub Ends : {M A : Type 0} → (A → Type 0) → Prog Op Answer M A → Type 0

@@ -1,21 +1,5 @@
 -- A copy of each call that is under way is laid by: events keep that.
-use Rattle.std.proofs.Common.{◌≡◌, ℕ, Bool, true, false, Option, Some, None, if◌then◌else◌, nat_eq, inl, inr, refl, sym, ◌∙◌, subst}
-use Rattle.std.proofs.lemmas.Bool.Decides.{eqb_tells}
-use Rattle.fs_layout.specs.declared.superblock.Super.{Super}
-use Rattle.plain_tree.specs.declared.answer.Reply.{Reply}
-use Rattle.plain_tree.specs.declared.call.Call.{Call}
-use Rattle.atomic_programs.specs.Prog.{Ret, Do, Did, Waits, Ran, Stops}
-use Rattle.atomic_programs.specs.Calls.{Event, Start, Step, Outcome, Started, Refused, WasIdle, DidWait, DidRun, DidEnd, DidStop, WasStopped, Began, Refuses, Begins, changed}
-use Rattle.atomic_programs.specs.Plain.{Plain, PlainMade, MayOf, plain_step, plain_unless, plain_prog, plain_tried, plain_moved, plain_start, plain_begun}
-use Rattle.fs_machine.specs.declared.kind.Kind.{Kind}
-use Rattle.fs_machine.specs.LogPart.{Outside}
-use Rattle.fs_machine.specs.Machines.{P}
-use Rattle.fs_machine.specs.Steps.{Op, Answer}
-use Rattle.fs_machine.specs.Premises.{May}
-use Rattle.inode_machine.specs.Theory.{Refusal}
-use Rattle.calls_on_blocks.specs.Layer.{SharedState, exec_shared}
-use Rattle.calls_on_blocks.specs.Theory.{block_calls, block_code}
-use Rattle.locked_world.specs.HandedBack.{HandsBack, FitsBlock, EndsWith, SpareFits}
+use Rattle.locked_world.proofs.Vocabulary.{◌≡◌, ℕ, Bool, true, false, Option, Some, None, if◌then◌else◌, nat_eq, inl, inr, refl, sym, ◌∙◌, subst, eqb_tells, Super, Reply, Call, Ret, Do, Did, Waits, Ran, Stops, EventOf as Event, Start, Step, OutcomeOf as Outcome, Started, Refused, WasIdle, DidWait, DidRun, DidEnd, DidStop, WasStopped, Began, Refuses, Begins, changed, Plain, PlainMade, MayOf, plain_step, plain_unless, plain_prog, plain_tried, plain_moved, plain_start, plain_begun, Kind, Outside, P, Op, Answer, May, Refusal, SharedState, exec_shared, block_calls, block_code, HandsBack, FitsBlock, EndsWith, SpareFits}
 
 -- In this state, where the device answers x, every block that hart h is answered fits, where it may ask.
 abbrev pub AnswersFit : ℕ → Outside → SharedState → Type 0

@@ -1,13 +1,7 @@
 -- What a call hands back when it ends: itself, but for the bytes that a read writes into its buffer.
 use Rattle.std.specs.Prelude.{◌≡◌, ◌≤◌, length, replicate, Option, Some, None, IfSome}
-use Rattle.fs_layout.specs.Widths.{block_len}
-use Rattle.plain_tree.specs.declared.answer.Reply.{Reply}
-use Rattle.plain_tree.specs.declared.call.Call.{Call}
-use Rattle.plain_tree.specs.declared.call.Call.TheVariants.{Open, Read, Write, Link, Unlink, Mkdir, Chdir, Dup, Fstat, Close, Inherit}
-use Rattle.atomic_programs.specs.Prog.{Ret, Do}
-use Rattle.fs_machine.specs.Machines.{P}
+use Rattle.locked_world.specs.Vocabulary.{block_len, Reply, Call, Open, Read, Write, Link, Unlink, Mkdir, Chdir, Dup, Fstat, Close, Inherit, Ret, Do, P, Op, Answer}
 use Rattle.fs_machine.specs.Steps as steps
-use Rattle.fs_machine.specs.Steps.{Op, Answer}
 
 -- the call, with zeros in a read's buffer
 abbrev pub cleared : Call → Call

@@ -1,18 +1,7 @@
 -- What is kept under a lock: an image, a fuse, and the events with what they came to, beside the world that they made; and what is left of
 -- it.
 use Rattle.std.specs.Prelude.{◌≡◌, ◌⊎◌, ℕ, ◌+◌, ◌<◌, ◌==◌, if◌then◌else◌, List, [], ◌∷◌, ◌++◌, length, Option, None, slice_index_or, get_or}
-use Rattle.block_device.specs.Blocks.{blocks_of}
-use Rattle.block_device.specs.Calls.{ComesByCalls}
-use Rattle.block_device.specs.Fuse.{Fuse, IsFusedCall}
-use Rattle.image_tree.specs.Trees.{tree_in}
-use Rattle.plain_tree.specs.declared.answer.Reply.{Reply}
-use Rattle.plain_tree.specs.declared.call.Call.{Call}
-use Rattle.plain_tree.specs.Explains.{Shown}
-use Rattle.plain_tree.specs.Explains.Shown.{Started, Replied, Other}
-use Rattle.hart_core.specs.declared.events.Event.{Event}
-use Rattle.hart_core.specs.declared.events.Came.{Came}
-use Rattle.hart_core.specs.Runs.{all_shown, trace_in, IsMounted, HasHistory, FoundRoom, NoneClimbs, OneHart, IsExplained}
-use Rattle.hart_core.specs.Worlds.{WorldOf, calls_of}
+use Rattle.locked_world.specs.Vocabulary.{blocks_of, ComesByCalls, Fuse, IsFusedCall, tree_in, Reply, Call, Shown, Started, Replied, Other, Event, Came, all_shown, trace_in, IsMounted, HasHistory, FoundRoom, NoneClimbs, OneHart, IsExplained, WorldOf, calls_of}
 use Rattle.locked_world.specs.HandedBack.{SpareFits}
 
 pub record StoredRun : Type 0 where

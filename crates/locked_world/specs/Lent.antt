@@ -1,7 +1,6 @@
 -- What a lent event is, and what it came to, as values of their own.
-use Rattle.hart_core.specs.declared.events.Event.{Event}
+use Rattle.locked_world.specs.Vocabulary.{Event, Came}
 use Rattle.hart_core.specs.declared.events.Event.TheVariants as event
-use Rattle.hart_core.specs.declared.events.Came.{Came}
 use Rattle.hart_core.specs.declared.events.Came.TheVariants as came
 use Rattle.hart_core.specs.declared.outcome.Outcome.TheVariants as outcome
 use Rattle.locked_world.specs.declared.lent.EventRef.{EventRef}

@@ -1,3 +1,4 @@
+pub mod Vocabulary
 pub mod HandedBack
 pub mod Kept
 pub mod Lent

@@ -1,11 +1,8 @@
 -- What is kept of a list of events and of what they came to: a note of each, with the calls of the starts and the replies in lists of
 -- their own.
 use Rattle.std.specs.Prelude.{ℕ, ◌+◌, ◌≡◌, ◌≤◌, Bool, true, false, if◌then◌else◌, ◌==◌, List, [], ◌∷◌, ◌++◌, Option, Some, None, length, map}
-use Rattle.plain_tree.specs.declared.answer.Reply.{Reply}
-use Rattle.plain_tree.specs.declared.call.Call.{Call}
-use Rattle.hart_core.specs.declared.events.Event.{Event}
+use Rattle.locked_world.specs.Vocabulary.{Reply, Call, Event, Came}
 use Rattle.hart_core.specs.declared.events.Event.TheVariants as event
-use Rattle.hart_core.specs.declared.events.Came.{Came}
 use Rattle.hart_core.specs.declared.events.Came.TheVariants as came
 use Rattle.hart_core.specs.declared.outcome.Outcome.TheVariants as outcome
 use Rattle.locked_world.specs.declared.note.Given.{Given}

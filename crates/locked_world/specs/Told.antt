@@ -1,19 +1,9 @@
 -- What a start and a step of the locked world answer, and what they make of the world.
 use Rattle.std.specs.Prelude.{◌≡◌, ℕ, ◌+◌, length, Result, Ok, Err}
-use Rattle.block_device.specs.Fuse.{Fuse, IsFusedCall}
-use Rattle.plain_tree.specs.declared.call.Call.{Call}
-use Rattle.atomic_programs.specs.Calls.{Start as StartOf, Step as StepOf}
-use Rattle.fs_machine.specs.Machines.{CallsOnce}
-use Rattle.hart_core.specs.declared.events.Event.TheVariants.{Start, Step}
-use Rattle.hart_core.specs.declared.events.Came.{Came}
+use Rattle.locked_world.specs.Vocabulary.{Fuse, IsFusedCall, Call, StartOf, StepOf, CallsOnce, Start, Step, Came, Outcome, Stop, came_of, outcome_of, said, shared_of, WorldOf, Makes, MayAnswer, calls_of}
 use Rattle.hart_core.specs.declared.events.Came.TheVariants as came
-use Rattle.hart_core.specs.declared.outcome.Outcome.{Outcome}
 use Rattle.hart_core.specs.declared.outcome.Outcome.TheVariants as outcome
-use Rattle.hart_core.specs.declared.outcome.Stop.{Stop}
 use Rattle.hart_core.specs.declared.outcome.Stop.TheVariants as stop
-use Rattle.hart_core.specs.Events.{came_of}
-use Rattle.hart_core.specs.Harts.{outcome_of, said, shared_of}
-use Rattle.hart_core.specs.Worlds.{WorldOf, Makes, Answers as MayAnswer, calls_of}
 use Rattle.locked_world.specs.Kept.{LockedRun, IsRun, contents, failures, device_of, with_event, replies_of}
 use Rattle.locked_world.specs.declared.locked.Begun.{Begun}
 use Rattle.locked_world.specs.declared.locked.Halt.{Halt}

@@ -1,17 +1,6 @@
 -- The bits of the bitmap: just those of the first blocks are set.
-use Rattle.std.proofs.Common.{◌≡◌, ℕ, ◌+◌, ◌-◌, ◌/◌, ◌%◌, ◌^◌, ◌<◌, ◌≤◌, Bool, true, false, eqb, nat_lt, List, [], ◌∷◌, ◌++◌, length, replicate, get_or, refl, ap, ◌∙◌, sym, ⊎_elim, arith, length-append}
-use Rattle.std.specs.Int.{bit_at}
-use Rattle.std.proofs.lemmas.Bool.{cases_lt, lt-ltb, le-ltb}
-use Rattle.std.proofs.lemmas.List.{length-replicate, get_or_append_left, get_or-append_right, get_or_at, get_or-replicate}
-use Rattle.std.proofs.lemmas.Nat.Bits.{bit_at-zero, bit_at_ones, bit_at_ones_above}
-use Rattle.fs_layout.specs.declared.superblock.Super.{Super}
-use Rattle.fs_layout.specs.Bits.{bit_of}
-use Rattle.fs_layout.specs.Recovered.{recovered}
-use Rattle.image_tree.specs.Checks.{is_marked}
-use Rattle.mkfs.specs.Layout.{data_start, bitmap_start}
-use Rattle.mkfs.specs.Image.{Node, bitmap, padded, used_by}
-use Rattle.mkfs.proofs.Lengths.{Fits}
-use Rattle.mkfs.proofs.Places.{disk_of, sizes-there, recovered-there}
+use Rattle.mkfs.proofs.Vocabulary.{◌≡◌, ℕ, ◌+◌, ◌-◌, ◌/◌, ◌%◌, ◌^◌, ◌<◌, ◌≤◌, Bool, true, false, eqb, nat_lt, List, [], ◌∷◌, ◌++◌, length, replicate, get_or, refl, ap, ◌∙◌, sym, ⊎_elim, arith, length-append, bit_at, cases_lt, lt-ltb, le-ltb, length-replicate, get_or_append_left, get_or-append_right, get_or_at, get_or-replicate, bit_at-zero, bit_at_ones, bit_at_ones_above, Super, bit_of, recovered, is_marked, data_start, bitmap_start, Node, bitmap, padded, used_by}
+use Rattle.mkfs.proofs.Basics.{Fits, disk_of, sizes-there, recovered-there}
 use Rattle.mkfs.proofs.DataBlocks.{bitmap-there}
 
 -- ---- its bytes

@@ -1,12 +1,6 @@
 -- The nodes' blocks and the bitmap of an image.
-use Rattle.std.proofs.Common.{◌≡◌, ℕ, zero, suc, ◌+◌, ◌-◌, ◌*◌, ◌<◌, ◌≤◌, List, [], ◌∷◌, ◌++◌, length, take, drop, replicate, get_or, ap, ◌∙◌, sym, arith, append_assoc, length-append}
-use Rattle.std.proofs.lemmas.List.{take_at, drop_at, drop-drop}
-use Rattle.std.proofs.lemmas.List.Sums.{sum_by-cons}
-use Rattle.block_device.specs.Blocks.{block_at}
-use Rattle.mkfs.specs.Layout.{data_start, bitmap_start, inode_blocks}
-use Rattle.mkfs.specs.Image.{Node, front, inode_table, bitmap, data_from, used_by, image_with, node_bytes, blocks_of_node, blocks_before}
-use Rattle.mkfs.proofs.Lengths.{AreNodes, Fits, length-front, length-table, length-bitmap, length-node}
-use Rattle.mkfs.proofs.Places.{disk_of, block-at}
+use Rattle.mkfs.proofs.Vocabulary.{◌≡◌, ℕ, zero, suc, ◌+◌, ◌-◌, ◌*◌, ◌<◌, ◌≤◌, List, [], ◌∷◌, ◌++◌, length, take, drop, replicate, get_or, ap, ◌∙◌, sym, arith, append_assoc, length-append, take_at, drop_at, drop-drop, sum_by-cons, block_at, data_start, bitmap_start, inode_blocks, Node, front, inode_table, bitmap, data_from, used_by, image_with, node_bytes, blocks_of_node, blocks_before}
+use Rattle.mkfs.proofs.Basics.{AreNodes, Fits, length-front, length-table, length-bitmap, length-node, disk_of, block-at}
 
 in-data : (first : ℕ) (nodes : List Node) (i : ℕ) (d : Node) (rest : List ℕ) → AreNodes nodes → i < length nodes
     → take (1024 * blocks_of_node (get_or nodes i d)) (drop (1024 * blocks_before i nodes) (data_from first nodes ++ rest)) ≡ node_bytes (first + blocks_before i nodes) (get_or nodes i d).content

@@ -1,12 +1,6 @@
 -- Which inodes of an image are nodes and directories.
-use Rattle.std.proofs.Common.{◌≡◌, ◌≢◌, ◌⊎◌, inl, inr, ⊎_elim, ℕ, ◌+◌, ◌-◌, ◌<◌, ◌≤◌, true, false, List, [], length, map, Some, sym, ap, ◌∙◌, refl, arith}
-use Rattle.std.proofs.lemmas.Bool.{cases_lt, false≢true, false_from_ne_true}
-use Rattle.fs_layout.specs.Recovered.{sizes_of}
-use Rattle.image_tree.specs.Inodes.{inode_of, is_number, is_positive, is_free, is_directory, is_live, is_node, is_live_directory}
-use Rattle.image_tree.specs.Links.{slots_in}
-use Rattle.image_tree.proofs.Nodes.{node_is, node_from, directory_is, directory_from}
-use Rattle.mkfs.proofs.Shown.{free_inode}
-use Rattle.mkfs.proofs.RootBytes.{all_entries}
+use Rattle.mkfs.proofs.Vocabulary.{◌≡◌, ◌≢◌, ◌⊎◌, inl, inr, ⊎_elim, ℕ, ◌+◌, ◌-◌, ◌<◌, ◌≤◌, true, false, List, [], length, map, Some, sym, ap, ◌∙◌, refl, arith, cases_lt, false≢true, false_from_ne_true, sizes_of, inode_of, is_number, is_positive, is_free, is_directory, is_live, is_node, is_live_directory, slots_in, node_is, node_from, directory_is, directory_from}
+use Rattle.mkfs.proofs.Basics.{free_inode, all_entries}
 use Rattle.mkfs.proofs.FilesShown.{ShowsFiles}
 
 module _ (disk : List (List ℕ)) (ninodes : ℕ) (names contents : List (List ℕ)) (h : ShowsFiles disk ninodes names contents) where

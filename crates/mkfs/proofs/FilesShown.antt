@@ -1,22 +1,7 @@
 -- What the disk of an image shows of the root and the files.
-use Rattle.std.proofs.Common.{◌≡◌, ℕ, zero, suc, ◌+◌, ◌-◌, ◌*◌, ◌/◌, ◌%◌, ◌^◌, ◌<◌, ◌≤◌, pos, List, [], ◌∷◌, ◌++◌, length, take, drop, map, replicate, get_or, Some, refl, sym, ap, subst, ◌∙◌, arith}
-use Rattle.std.specs.List.{All}
-use Rattle.std.proofs.Math.Seq.{take-add}
-use Rattle.std.proofs.lemmas.List.{take_all, take_at, take-take, map_more, length-map}
-use Rattle.fs_layout.specs.declared.inode.Dinode.{Dinode}
-use Rattle.fs_layout.specs.declared.entry.Dirent.{Dirent}
-use Rattle.fs_layout.specs.declared.entry.Dirent.TheVariants.{Free}
-use Rattle.fs_layout.specs.declared.superblock.Super.{Super}
-use Rattle.fs_layout.specs.Name.{IsName}
-use Rattle.fs_layout.specs.Entry.{dirent_at}
-use Rattle.fs_layout.specs.Recovered.{sizes_of}
-use Rattle.image_tree.specs.Inodes.{inode_of, content_block, front_blocks, content_of, slot_at, first_slots, slots_of, blocks_for}
-use Rattle.mkfs.specs.Layout.{root_size, data_start}
-use Rattle.mkfs.specs.Image.{Node, padded, whole, inode_for, root_content, root_node, file_node, nodes_with, blocks_before}
-use Rattle.mkfs.specs.Refusals.{CanBeMade, HasGoodNames}
+use Rattle.mkfs.proofs.Vocabulary.{◌≡◌, ℕ, zero, suc, ◌+◌, ◌-◌, ◌*◌, ◌/◌, ◌%◌, ◌^◌, ◌<◌, ◌≤◌, pos, List, [], ◌∷◌, ◌++◌, length, take, drop, map, replicate, get_or, Some, refl, sym, ap, subst, ◌∙◌, arith, All, take-add, take_all, take_at, take-take, map_more, length-map, Dinode, Dirent, Free, Super, IsName, dirent_at, sizes_of, inode_of, content_block, front_blocks, content_of, slot_at, first_slots, slots_of, blocks_for, root_size, data_start, Node, padded, whole, inode_for, root_content, root_node, file_node, nodes_with, blocks_before, CanBeMade, HasGoodNames}
 use Rattle.mkfs.proofs.Wanted.{root_long}
-use Rattle.mkfs.proofs.RootBytes.{all_entries, good-entries, length-all, root-bytes, entry-there}
-use Rattle.mkfs.proofs.Shown.{Shows, free_inode}
+use Rattle.mkfs.proofs.Basics.{all_entries, good-entries, length-all, root-bytes, entry-there, Shows, free_inode}
 use Rattle.mkfs.proofs.ShownInodes.{inode-shown, file-at}
 
 -- ---- inodes

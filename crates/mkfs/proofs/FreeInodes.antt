@@ -1,17 +1,7 @@
 -- The inodes of an image that no node has.
-use Rattle.std.proofs.Common.{◌≡◌, ℕ, ◌+◌, ◌-◌, ◌*◌, ◌/◌, ◌%◌, ◌<◌, ◌≤◌, List, ◌++◌, length, take, drop, replicate, ap, ◌∙◌, sym, refl, arith, append_assoc, length-append}
-use Rattle.std.specs.List.{flat_map}
-use Rattle.std.proofs.lemmas.List.{drop_at, drop-drop, drop-append-le, drop-replicate, take-append-le, take-replicate}
-use Rattle.fs_layout.specs.Bytes.{u16_at, u32_at, u32s_at, record_at}
-use Rattle.fs_layout.specs.Inode.{dinode_of, spell_dinode}
-use Rattle.image_tree.specs.Inodes.{inode_of}
-use Rattle.mkfs.specs.Layout.{data_start, inode_blocks}
-use Rattle.mkfs.specs.Image.{Node, front, inodes_from, inode_table, bitmap, data_from, used_by, image_with}
-use Rattle.mkfs.proofs.Lengths.{Fits, length-front, length-zeros, length-inodes}
-use Rattle.mkfs.proofs.Places.{disk_of, block-at}
-use Rattle.mkfs.proofs.Pieces.{part-of-part}
+use Rattle.mkfs.proofs.Vocabulary.{◌≡◌, ℕ, ◌+◌, ◌-◌, ◌*◌, ◌/◌, ◌%◌, ◌<◌, ◌≤◌, List, ◌++◌, length, take, drop, replicate, ap, ◌∙◌, sym, refl, arith, append_assoc, length-append, flat_map, drop_at, drop-drop, drop-append-le, drop-replicate, take-append-le, take-replicate, u16_at, u32_at, u32s_at, record_at, dinode_of, spell_dinode, inode_of, data_start, inode_blocks, Node, front, inodes_from, inode_table, bitmap, data_from, used_by, image_with}
+use Rattle.mkfs.proofs.Basics.{Fits, length-front, length-zeros, length-inodes, disk_of, block-at, part-of-part, free_inode}
 use Rattle.mkfs.proofs.NodeInodes.{inode-at}
-use Rattle.mkfs.proofs.Shown.{free_inode}
 
 zero-inode : dinode_of (replicate 64 0) ≡ free_inode
 unfolding u16_at u32_at u32s_at

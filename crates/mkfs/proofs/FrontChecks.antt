@@ -1,19 +1,7 @@
 -- The first checks pass: of the superblock and the log, of types, of the root.
-use Rattle.std.proofs.Common.{◌≡◌, ℕ, ◌+◌, ◌<◌, ◌≤◌, pos, List, [], length, get_or, ap, sym, refl, subst, ⊎_elim, arith, rules}
-use Rattle.std.specs.List.{All}
-use Rattle.std.specs.Prelude.{◌<ℤ◌}
-use Rattle.std.proofs.lemmas.List.Elements.{All-nil}
-use Rattle.fs_layout.specs.declared.superblock.Super.{Super}
-use Rattle.fs_layout.specs.declared.inode.Dinode.{Dinode}
-use Rattle.fs_layout.specs.Recovered.{sizes_of}
-use Rattle.image_tree.specs.Lists.{IsOnce}
-use Rattle.image_tree.specs.Checks.{IsGoodSuper, IsGoodType, HasSuper, HasGoodLog, HasGoodTypes, HasRoot}
-use Rattle.image_tree.proofs.MarkLemmas.{once_nil}
-use Rattle.mkfs.specs.Layout.{data_start, super_for}
-use Rattle.mkfs.specs.Image.{Node, root_node, nodes_with, inode_for, blocks_before}
-use Rattle.mkfs.proofs.Shown.{Shows, free_inode}
+use Rattle.mkfs.proofs.Vocabulary.{◌≡◌, ℕ, ◌+◌, ◌<◌, ◌≤◌, pos, List, [], length, get_or, ap, sym, refl, subst, ⊎_elim, arith, rules, All, ◌<ℤ◌, All-nil, Super, Dinode, sizes_of, IsOnce, IsGoodSuper, IsGoodType, HasSuper, HasGoodLog, HasGoodTypes, HasRoot, once_nil, data_start, super_for, Node, root_node, nodes_with, inode_for, blocks_before}
+use Rattle.mkfs.proofs.Basics.{Shows, free_inode, Fits}
 use Rattle.mkfs.proofs.ShownInodes.{IsKind, at-inodes, inode-shown}
-use Rattle.mkfs.proofs.Lengths.{Fits}
 
 -- ---- the superblock
 

@@ -1,10 +1,6 @@
 -- What an image shows of its nodes.
-use Rattle.std.proofs.Common.{◌≡◌, ℕ, ◌≤◌, List, length}
-use Rattle.std.specs.List.{All}
-use Rattle.mkfs.specs.Image.{Node, nodes_with, root_content}
-use Rattle.mkfs.specs.Refusals.{CanBeMade}
-use Rattle.mkfs.proofs.Lengths.{Fits}
-use Rattle.mkfs.proofs.Places.{disk_of, length-disk, magic-there, sizes-there, count-there, log-empty, recovered-there}
+use Rattle.mkfs.proofs.Vocabulary.{◌≡◌, ℕ, ◌≤◌, List, length, All, Node, nodes_with, root_content, CanBeMade}
+use Rattle.mkfs.proofs.Basics.{Fits, disk_of, length-disk, magic-there, sizes-there, count-there, log-empty, recovered-there, Shows}
 use Rattle.mkfs.proofs.Records.{IsNode, are-nodes}
 use Rattle.mkfs.proofs.Wanted.{fits}
 use Rattle.mkfs.proofs.NodeInodes.{inode-is}
@@ -12,7 +8,6 @@ use Rattle.mkfs.proofs.NodeNumbers.{numbers-there}
 use Rattle.mkfs.proofs.NodeContents.{content-there}
 use Rattle.mkfs.proofs.FreeInodes.{free-there}
 use Rattle.mkfs.proofs.BitmapBits.{marked-there}
-use Rattle.mkfs.proofs.Shown.{Shows}
 
 pub shows : (size ninodes : ℕ) (nodes : List Node) → ninodes ≤ 65535 → Fits size ninodes nodes → All IsNode nodes
     → Shows (disk_of size ninodes nodes) size ninodes nodes

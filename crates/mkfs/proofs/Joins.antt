@@ -1,11 +1,5 @@
 -- The parts of an image, as they are appended.
-use Rattle.std.proofs.Common.{◌≡◌, ℕ, ◌+◌, ◌-◌, ◌*◌, suc, List, [], ◌∷◌, ◌++◌, length, map, replicate, sum_by, ap, ◌∙◌, sym, refl, arith, append_assoc}
-use Rattle.std.specs.List.{flat_map}
-use Rattle.std.proofs.lemmas.List.Sums.{sum_by-cons}
-use Rattle.fs_layout.specs.Inode.{spell_dinode}
-use Rattle.fs_layout.specs.Super.{spell_super}
-use Rattle.mkfs.specs.Layout.{node_blocks, file_blocks, inode_blocks, data_start, super_for}
-use Rattle.mkfs.specs.Image.{Node, padded, front, inode_for, inodes_from, inode_table, bitmap, data_from, used_by, image_with, nodes_with, root_node, file_node, blocks_of_node}
+use Rattle.mkfs.proofs.Vocabulary.{◌≡◌, ℕ, ◌+◌, ◌-◌, ◌*◌, suc, List, [], ◌∷◌, ◌++◌, length, map, replicate, sum_by, ap, ◌∙◌, sym, refl, arith, append_assoc, flat_map, sum_by-cons, spell_dinode, spell_super, node_blocks, file_blocks, inode_blocks, data_start, super_for, Node, padded, front, inode_for, inodes_from, inode_table, bitmap, data_from, used_by, image_with, nodes_with, root_node, file_node, blocks_of_node}
 
 pub sum-files : (contents : List (List ℕ)) → sum_by blocks_of_node (map file_node contents) ≡ file_blocks contents
 sum-files [] = refl

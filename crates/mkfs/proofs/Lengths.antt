@@ -1,20 +1,5 @@
 -- How long the parts of an image are.
-use Rattle.std.proofs.Common.{◌≡◌, ℕ, suc, ◌+◌, ◌-◌, ◌*◌, ◌/◌, ◌<◌, ◌≤◌, ◌^◌, ◌%◌, Bool, false, cond, nat_lt, List, [], ◌∷◌, ◌++◌, length, take, drop, replicate, sum_by, get_or, ap, ◌∙◌, sym, refl, ⊎_elim, arith, length-append, length-drop}
-use Rattle.std.specs.List.{All, flat_map, range_with_len}
-use Rattle.std.proofs.lemmas.List.{length-replicate, length-take-le}
-use Rattle.std.proofs.lemmas.List.Elements.{All-cons, All-nil}
-use Rattle.std.proofs.lemmas.List.FromFn.{length-range_with_len}
-use Rattle.std.proofs.lemmas.List.Sums.{sum_by-cons}
-use Rattle.std.proofs.lemmas.Bool.{cases_lt, le-ltb, lt-ltb}
-use Rattle.fs_layout.specs.declared.inode.Dinode.{Dinode}
-use Rattle.fs_layout.specs.Inode.{spell_dinode}
-use Rattle.fs_layout.specs.Super.{spell_super, super_numbers}
-use Rattle.fs_layout.specs.Widths.{magic}
-use Rattle.fs_layout.proofs.Numbers.{length-u32s_bytes}
-use Rattle.fs_layout.proofs.Inodes.{length-spell_dinode}
-use Rattle.image_tree.specs.Inodes.{blocks_for}
-use Rattle.mkfs.specs.Layout.{node_blocks, inode_blocks, data_start, super_for}
-use Rattle.mkfs.specs.Image.{Node, padded, whole, front, inode_for, inodes_from, inode_table, bitmap, data_from, used_by, image_with, node_bytes, indirect_block, blocks_of_node}
+use Rattle.mkfs.proofs.Vocabulary.{◌≡◌, ℕ, suc, ◌+◌, ◌-◌, ◌*◌, ◌/◌, ◌<◌, ◌≤◌, ◌^◌, ◌%◌, Bool, false, cond, nat_lt, List, [], ◌∷◌, ◌++◌, length, take, drop, replicate, sum_by, get_or, ap, ◌∙◌, sym, refl, ⊎_elim, arith, length-append, length-drop, All, flat_map, range_with_len, length-replicate, length-take-le, All-cons, All-nil, length-range_with_len, sum_by-cons, cases_lt, le-ltb, lt-ltb, Dinode, spell_dinode, spell_super, super_numbers, magic, length-u32s_bytes, length-spell_dinode, blocks_for, node_blocks, inode_blocks, data_start, super_for, Node, padded, whole, front, inode_for, inodes_from, inode_table, bitmap, data_from, used_by, image_with, node_bytes, indirect_block, blocks_of_node}
 use Rattle.mkfs.proofs.Pieces.{AreLong, length-records, record-there}
 use Rattle.mkfs.proofs.Padding.{length-padded, length-whole, length-addrs, node_bytes-small, node_bytes-large}
 

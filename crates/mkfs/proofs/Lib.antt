@@ -1,3 +1,6 @@
+pub mod Basics
+pub mod Lemmas
+pub mod Vocabulary
 pub mod BitmapBits
 pub mod DataBlocks
 pub mod Directories
@@ -33,4 +36,3 @@ pub mod TreeChecks
 pub mod TreeShown
 pub mod UpToSizes
 pub mod Wanted
-

@@ -1,14 +1,6 @@
 -- An image is one tree, and its counts are good.
-use Rattle.std.proofs.Common.{◌≡◌, ◌≢◌, ⊎_elim, ℕ, zero, suc, ◌+◌, ◌<◌, ◌≤◌, Bool, true, false, not, eqb, cond, pos, List, [], ◌∷◌, ◌++◌, length, drop, filter, get_or, None, Option, refl, sym, ap, subst, ◌∙◌, arith}
-use Rattle.std.specs.List.{range_with_len}
-use Rattle.std.proofs.lemmas.Bool.{cases_eq, eq-eqb, ne_eqb, false≢true}
-use Rattle.std.proofs.lemmas.List.{append-nil}
-use Rattle.std.proofs.lemmas.List.Sums.{sum_by-cons, sum_by-append}
-use Rattle.fs_layout.specs.declared.entry.Dirent.{Dirent}
-use Rattle.image_tree.specs.Lists.{gathered, times}
-use Rattle.image_tree.specs.Inodes.{inode_of, last}
-use Rattle.image_tree.specs.Links.{slot_numbers, number_in, named_in, further_in, parent_of, up, names_of, further_names_of, children_of, climb}
-use Rattle.image_tree.specs.Checks.{IsOneTree, HasGoodCounts, IsGoodCount}
+use Rattle.mkfs.proofs.Vocabulary.{◌≡◌, ◌≢◌, ⊎_elim, ℕ, zero, suc, ◌+◌, ◌<◌, ◌≤◌, Bool, true, false, not, eqb, cond, pos, List, [], ◌∷◌, ◌++◌, length, drop, filter, get_or, None, Option, refl, sym, ap, subst, ◌∙◌, arith, range_with_len, cases_eq, eq-eqb, ne_eqb, false≢true, append-nil, sum_by-cons, sum_by-append, Dirent, gathered, times, inode_of, last, slot_numbers, named_in, further_in, parent_of, up, further_names_of, children_of, climb, IsOneTree, HasGoodCounts, IsGoodCount}
+use Rattle.image_tree.specs.Links.{number_in, names_of}
 use Rattle.mkfs.proofs.FilesShown.{ShowsFiles}
 use Rattle.mkfs.proofs.Directories.{IsFile, root_directory, root_live, root_bound, file_no_directory, which_node, one_directory, root_slots_in, other_slots_in}
 use Rattle.mkfs.proofs.SlotChecks.{all-numbers, further-numbers}

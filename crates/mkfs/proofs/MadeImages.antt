@@ -1,15 +1,6 @@
 -- What can be made is made well.
-use Rattle.std.proofs.Common.{◌≡◌, ℕ, List, length, subst, sym, ◌∙◌}
-use Rattle.std.proofs.lemmas.List.{length-map}
-use Rattle.block_device.specs.Blocks.{blocks_of}
-use Rattle.image_tree.specs.Damage.{IsWellFormed}
-use Rattle.image_tree.specs.Trees.{tree_in}
-use Rattle.mkfs.specs.declared.new_file.NewFile.{NewFile}
-use Rattle.mkfs.specs.Image.{image_of, root_content, nodes_with, names_of, contents_of}
-use Rattle.mkfs.specs.Made.{IsMade}
-use Rattle.mkfs.specs.Refusals.{CanBeMade}
-use Rattle.mkfs.specs.Stated.{stated_tree}
-use Rattle.mkfs.proofs.Shown.{Shows}
+use Rattle.mkfs.proofs.Vocabulary.{◌≡◌, ℕ, List, length, subst, sym, ◌∙◌, length-map, blocks_of, IsWellFormed, tree_in, NewFile, image_of, root_content, nodes_with, names_of, contents_of, IsMade, CanBeMade, stated_tree}
+use Rattle.mkfs.proofs.Basics.{Shows}
 use Rattle.mkfs.proofs.ImageShows.{image-shows}
 use Rattle.mkfs.proofs.UpToSizes.{up_to_sizes}
 use Rattle.mkfs.proofs.TreeChecks.{shown_well_formed, shown_tree}

@@ -1,16 +1,6 @@
 -- The blocks of a node, one by one.
-use Rattle.std.proofs.Common.{◌≡◌, ℕ, ◌+◌, ◌-◌, ◌*◌, ◌<◌, ◌≤◌, Bool, cond, nat_lt, List, ◌++◌, length, take, drop, replicate, get_or, ap, ◌∙◌, sym, ⊎_elim, arith, append_assoc, length-append, length-drop}
-use Rattle.std.proofs.lemmas.Bool.{cases_lt, lt-ltb, le-ltb}
-use Rattle.std.proofs.lemmas.List.{take_at, drop_at, drop-drop, take-append-le, drop-append-le, take-append-drop, length-take-le}
-use Rattle.std.proofs.lemmas.List.Sums.{sum_by_more_le}
-use Rattle.fs_layout.specs.Recovered.{recovered}
-use Rattle.image_tree.specs.Inodes.{blocks_for}
-use Rattle.mkfs.specs.Layout.{data_start}
-use Rattle.mkfs.specs.Image.{Node, padded, whole, image_with, node_bytes, indirect_block, blocks_before, blocks_of_node}
-use Rattle.mkfs.proofs.Padding.{node_bytes-small, node_bytes-large}
-use Rattle.mkfs.proofs.Pieces.{part-of-part}
-use Rattle.mkfs.proofs.Lengths.{Fits, length-indirect_block}
-use Rattle.mkfs.proofs.Places.{disk_of, block-at, recovered-there}
+use Rattle.mkfs.proofs.Vocabulary.{◌≡◌, ℕ, ◌+◌, ◌-◌, ◌*◌, ◌<◌, ◌≤◌, Bool, cond, nat_lt, List, ◌++◌, length, take, drop, replicate, get_or, ap, ◌∙◌, sym, ⊎_elim, arith, append_assoc, length-append, length-drop, cases_lt, lt-ltb, le-ltb, take_at, drop_at, drop-drop, take-append-le, drop-append-le, take-append-drop, length-take-le, sum_by_more_le, recovered, blocks_for, data_start, Node, padded, whole, image_with, node_bytes, indirect_block, blocks_before, blocks_of_node}
+use Rattle.mkfs.proofs.Basics.{node_bytes-small, node_bytes-large, part-of-part, Fits, length-indirect_block, disk_of, block-at, recovered-there}
 use Rattle.mkfs.proofs.DataBlocks.{node-there}
 
 -- ---- in the image

@@ -1,15 +1,7 @@
 -- The content of a node, block by block, as the image shows it.
-use Rattle.std.proofs.Common.{◌≡◌, ℕ, ◌+◌, ◌*◌, ◌<◌, ◌≤◌, List, length, take, drop, get_or, ap, ◌∙◌, ⊎_elim, arith}
-use Rattle.std.specs.List.{All}
-use Rattle.std.proofs.lemmas.Bool.{cases_lt}
-use Rattle.fs_layout.specs.Recovered.{recovered}
-use Rattle.image_tree.specs.Inodes.{inode_of, numbers_of, block_number, content_block}
-use Rattle.mkfs.specs.Layout.{data_start, node_blocks}
-use Rattle.mkfs.specs.Image.{Node, whole, blocks_before, blocks_of_node}
-use Rattle.mkfs.proofs.Lengths.{Fits, blocks-small, blocks-large}
-use Rattle.mkfs.proofs.Places.{disk_of}
+use Rattle.mkfs.proofs.Vocabulary.{◌≡◌, ℕ, ◌+◌, ◌*◌, ◌<◌, ◌≤◌, List, length, take, drop, get_or, ap, ◌∙◌, ⊎_elim, arith, All, cases_lt, recovered, inode_of, numbers_of, block_number, content_block, data_start, node_blocks, Node, whole, blocks_before, blocks_of_node}
+use Rattle.mkfs.proofs.Basics.{Fits, blocks-small, blocks-large, disk_of, in-range}
 use Rattle.mkfs.proofs.Records.{IsNode}
-use Rattle.mkfs.proofs.Ranges.{in-range}
 use Rattle.mkfs.proofs.NodeBlocks.{node-block, place, place-below, place-behind, block-of-content}
 use Rattle.mkfs.proofs.NodeNumbers.{numbers-there}
 

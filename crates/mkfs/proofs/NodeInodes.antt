@@ -1,16 +1,6 @@
 -- The inodes that an image shows.
-use Rattle.std.proofs.Common.{◌≡◌, ℕ, ◌+◌, ◌/◌, ◌%◌, ◌<◌, ◌≤◌, List, length, get_or, ap, ◌∙◌}
-use Rattle.std.specs.List.{All}
-use Rattle.fs_layout.specs.declared.superblock.Super.{Super}
-use Rattle.fs_layout.specs.declared.inode.Dinode.{Dinode}
-use Rattle.fs_layout.specs.Inode.{dinode_at}
-use Rattle.block_device.specs.Blocks.{block_at}
-use Rattle.fs_layout.specs.Recovered.{recovered}
-use Rattle.image_tree.specs.Inodes.{inode_of}
-use Rattle.mkfs.specs.Layout.{data_start}
-use Rattle.mkfs.specs.Image.{Node, inodes_from}
-use Rattle.mkfs.proofs.Lengths.{Fits}
-use Rattle.mkfs.proofs.Places.{disk_of, sizes-there, recovered-there}
+use Rattle.mkfs.proofs.Vocabulary.{◌≡◌, ℕ, ◌+◌, ◌/◌, ◌%◌, ◌<◌, ◌≤◌, List, length, get_or, ap, ◌∙◌, All, Super, Dinode, dinode_at, block_at, recovered, inode_of, data_start, Node, inodes_from}
+use Rattle.mkfs.proofs.Basics.{Fits, disk_of, sizes-there, recovered-there}
 use Rattle.mkfs.proofs.Records.{IsNode, inode-there}
 
 -- an inode stands in the image where its number says

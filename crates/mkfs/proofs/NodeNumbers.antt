@@ -1,23 +1,7 @@
 -- The numbers of a node's blocks, as its inode and the block of its numbers have them.
-use Rattle.std.proofs.Common.{◌≡◌, ℕ, zero, suc, ◌+◌, ◌-◌, ◌<◌, ◌≤◌, ◌^◌, eqb, min, Bool, false, cond, List, [], ◌∷◌, ◌++◌, length, take, replicate, get_or, ap, ◌∙◌, sym, ⊎_elim, arith, append_assoc}
-use Rattle.std.specs.List.{All, range_with_len}
-use Rattle.std.proofs.lemmas.Bool.{cases_lt, ne_eqb}
-use Rattle.std.proofs.lemmas.List.{append-nil, get_or-append_right, get_or_append_left, get_or-replicate}
-use Rattle.std.proofs.lemmas.List.FromFn.{length-range_with_len, get_or-range_with_len}
-use Rattle.std.proofs.lemmas.List.Sums.{sum_by-cons, sum_by_more_le}
-use Rattle.fs_layout.specs.declared.inode.Dinode.{Dinode}
-use Rattle.fs_layout.specs.Indirect.{numbers_in, spell_numbers}
-use Rattle.fs_layout.specs.Recovered.{recovered}
-use Rattle.fs_layout.proofs.Words.{numbers_in-spell}
-use Rattle.image_tree.specs.Inodes.{inode_of, numbers_of, blocks_for}
-use Rattle.mkfs.specs.Layout.{data_start}
-use Rattle.mkfs.specs.Image.{Node, padded, inode_for, inodes_from, blocks_before, blocks_of_node}
-use Rattle.mkfs.proofs.Padding.{length-padded}
-use Rattle.mkfs.proofs.Lengths.{Fits, blocks-small, blocks-large}
-use Rattle.mkfs.proofs.Places.{disk_of}
+use Rattle.mkfs.proofs.Vocabulary.{◌≡◌, ℕ, zero, suc, ◌+◌, ◌-◌, ◌<◌, ◌≤◌, ◌^◌, eqb, min, Bool, false, cond, List, [], ◌∷◌, ◌++◌, length, take, replicate, get_or, ap, ◌∙◌, sym, ⊎_elim, arith, append_assoc, All, range_with_len, cases_lt, ne_eqb, append-nil, get_or-append_right, get_or_append_left, get_or-replicate, length-range_with_len, get_or-range_with_len, sum_by-cons, sum_by_more_le, Dinode, numbers_in, spell_numbers, recovered, numbers_in-spell, inode_of, numbers_of, blocks_for, data_start, Node, padded, inode_for, inodes_from, blocks_before, blocks_of_node}
+use Rattle.mkfs.proofs.Basics.{length-padded, Fits, blocks-small, blocks-large, disk_of, IsRange, range-append}
 use Rattle.mkfs.proofs.Records.{IsNode, all-append, all-range, all-zeros}
-use Rattle.mkfs.proofs.Shown.{IsRange}
-use Rattle.mkfs.proofs.Ranges.{range-append}
 use Rattle.mkfs.proofs.NodeInodes.{inode-is}
 use Rattle.mkfs.proofs.NodeBlocks.{node-block, block-of-numbers}
 

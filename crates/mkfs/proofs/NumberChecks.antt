@@ -1,19 +1,6 @@
 -- The checks of block numbers pass: each is a data block's, none is named twice, and their bits are set.
-use Rattle.std.proofs.Common.{◌≡◌, ℕ, zero, suc, ◌+◌, ◌-◌, ◌<◌, ◌≤◌, true, List, [], ◌++◌, length, get_or, filter, ap, ◌∙◌, sym, refl, subst, arith}
-use Rattle.std.specs.List.{All, range_with_len}
-use Rattle.std.proofs.lemmas.Bool.{lt-ltb}
-use Rattle.std.proofs.lemmas.List.{append-nil}
-use Rattle.std.proofs.lemmas.List.Sums.{sum_by_more}
-use Rattle.fs_layout.specs.declared.superblock.Super.{Super}
-use Rattle.fs_layout.specs.Recovered.{sizes_of}
-use Rattle.image_tree.specs.Inodes.{named_by, numbers_by, is_block, last}
-use Rattle.image_tree.specs.Lists.{IsOnce, gathered}
-use Rattle.image_tree.specs.Checks.{IsData, HasGoodNumbers, NamesOnce, HasMarks, is_marked}
-use Rattle.mkfs.specs.Layout.{data_start}
-use Rattle.mkfs.specs.Image.{Node, root_node, used_by, blocks_before, blocks_of_node}
-use Rattle.mkfs.proofs.Lengths.{Fits}
-use Rattle.mkfs.proofs.Ranges.{range-append, range-once, blocks-of-range}
-use Rattle.mkfs.proofs.Shown.{Shows}
+use Rattle.mkfs.proofs.Vocabulary.{◌≡◌, ℕ, zero, suc, ◌+◌, ◌-◌, ◌<◌, ◌≤◌, true, List, [], ◌++◌, length, get_or, filter, ap, ◌∙◌, sym, refl, subst, arith, All, range_with_len, lt-ltb, append-nil, sum_by_more, Super, sizes_of, named_by, numbers_by, is_block, last, IsOnce, gathered, IsData, HasGoodNumbers, NamesOnce, HasMarks, is_marked, data_start, Node, root_node, used_by, blocks_before, blocks_of_node}
+use Rattle.mkfs.proofs.Basics.{Fits, range-append, range-once, blocks-of-range, Shows}
 use Rattle.mkfs.proofs.ShownInodes.{IsKind, numbers-shown, numbers-free, All-named}
 
 pub has_numbers : (disk : List (List ℕ)) (size ninodes : ℕ) (nodes : List Node) → Shows disk size ninodes nodes → All IsKind nodes → Fits size ninodes nodes → HasGoodNumbers disk

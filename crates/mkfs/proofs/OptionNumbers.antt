@@ -1,38 +1,5 @@
 -- A parse of the command line gives its numbers.
-use Rattle.std.proofs.Common.{◌≡◌, ◌∙◌, ◌<◌, ◌==◌, ◌&&◌, ◌^◌, ℕ, Bool, true, false, true≢false, not, cond, zero, suc, refl, sym, ap, subst, arith, inl, inr, List, [], ◌∷◌, map, length, drop, Some, None, codes, option_map}
-use Rattle.std.specs.Prelude.{⊤, find, pos, slice_get, unwrap_or, Err, IfOk, IsErrAnd, Ok, Result}
-use Rattle.std.specs.Borrow.{Bor}
-use Rattle.std.specs.List.{All, Any, list_any, slice_index_or}
-use Rattle.std.specs.Str.{bytes_eq}
-use Rattle.std.specs.Str.Parse.{IsNumeral, digits_value, starts_with_minus, without_leading_plus}
-use Rattle.std.proofs.lemmas.Bool.{ne_eqb}
-use Rattle.std.proofs.lemmas.Int.{ints}
-use Rattle.std.proofs.lemmas.List.Elements.{All-get_or}
-use Rattle.std.proofs.lemmas.List.Folds.{Any-from_list_any}
-use Rattle.std.proofs.lemmas.Slice.Eq.{bytes_eq-Decides}
-use Rattle.std.proofs.lemmas.Str.Parse.{digit_from_value}
-use Rattle.clap.specs.Built.{BuildsOrBreaks, BuildsTo, is_broken}
-use Rattle.clap.specs.Facts.{Entry, EntryPasses, HasId, HasIn, IsParsed, MayBeEmpty, PassesArg, WantsDefault, args_of, groups_of, parser_of, parser_of_value, unwrap_or_range}
-use Rattle.clap.specs.Lexer.{without_minus}
-use Rattle.clap.specs.Matches.{found_of, has_subcommand, matched_of, one_text}
-use Rattle.clap.specs.Simple.{App, app_of, built, is_buildable}
-use Rattle.clap.specs.Values.{Accepts, IsSignedIn, reading_of}
-use Rattle.clap.specs.Walk.{Rule, Text, action_of, is_empty, rule_of, texts}
-use Rattle.clap.specs.declared.builder.action.ArgAction.TheVariants.{Count, Set}
-use Rattle.clap.specs.declared.builder.arg.Arg.{Arg}
-use Rattle.clap.specs.declared.builder.command.Command.{Command}
-use Rattle.clap.specs.declared.builder.command.Command.TheViews.{out-Command}
-use Rattle.clap.specs.declared.builder.value_parser.Reading.TheVariants.{WithoutMinus}
-use Rattle.clap.specs.declared.builder.value_parser.ValueParser.{ValueParser}
-use Rattle.clap.specs.declared.builder.value_parser.ValueParser.TheVariants.{Signed}
-use Rattle.clap.specs.declared.error.Error.{Error}
-use Rattle.clap.specs.declared.parser.matches.ArgMatches.{ArgMatches}
-use Rattle.clap.specs.declared.parser.matches.Found.{Found}
-use Rattle.clap.specs.declared.parser.matches.MatchedArg.{MatchedArg}
-use Rattle.clap.proofs.CallerLemmas.{entry_by_id}
-use Rattle.clap.proofs.SimpleLemmas.{is_false, is_nil}
-use Rattle.clap.proofs.WalkLemmas.{both, list_any-map}
-use Rattle.mkfs.specs.Options.{HasNumber, mkfs_line, number_in}
+use Rattle.mkfs.proofs.Vocabulary.{◌≡◌, ◌∙◌, ◌<◌, ◌==◌, ◌&&◌, ◌^◌, ℕ, Bool, true, false, true≢false, not, cond, zero, suc, refl, sym, ap, subst, arith, inl, inr, List, [], ◌∷◌, map, length, drop, Some, None, codes, option_map, ⊤, find, pos, slice_get, unwrap_or, Err, IfOk, IsErrAnd, Ok, Result, Bor, All, Any, list_any, slice_index_or, bytes_eq, IsNumeral, digits_value, starts_with_minus, without_leading_plus, ne_eqb, ints, All-get_or, Any-from_list_any, bytes_eq-Decides, digit_from_value, BuildsOrBreaks, BuildsTo, is_broken, Entry, EntryPasses, HasId, HasIn, IsParsed, MayBeEmpty, PassesArg, WantsDefault, args_of, groups_of, parser_of, parser_of_value, unwrap_or_range, without_minus, found_of, has_subcommand, matched_of, one_text, App, app_of, built, is_buildable, Accepts, IsSignedIn, reading_of, Rule, Text, action_of, is_empty, rule_of, texts, Count, Set, Arg, Command, out-Command, WithoutMinus, ValueParser, Signed, Error, ArgMatches, Found, MatchedArg, entry_by_id, is_false, is_nil, both, list_any-map, HasNumber, mkfs_line, number_in}
 
 -- ---- the text of a u32
 

@@ -1,9 +1,6 @@
 -- A parse of the command line gives its values.
-use Rattle.std.proofs.Common.{◌≡◌, List, Result, Ok, Err, true, ap, refl, ◌∙◌}
-use Rattle.std.specs.Prelude.{IfOk}
-use Rattle.clap.specs.Words.{App, HasMatchesOf, Text, found_of, is_simple, matches_of, rows_of}
-use Rattle.clap.specs.declared.parser.matches.ArgMatches.{ArgMatches}
-use Rattle.mkfs.specs.Options.{mkfs_line}
+use Rattle.mkfs.proofs.Vocabulary.{◌≡◌, List, Result, Ok, Err, true, ap, refl, ◌∙◌, IfOk, HasMatchesOf, is_simple, matches_of, rows_of, ArgMatches, mkfs_line}
+use Rattle.clap.specs.Words.{App, Text, found_of}
 
 pub line_is_simple : is_simple mkfs_line ≡ true
 line_is_simple = refl

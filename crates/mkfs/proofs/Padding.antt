@@ -1,14 +1,5 @@
 -- Zeros behind numbers, and numbers that rise.
-use Rattle.std.proofs.Common.{◌≡◌, ℕ, zero, suc, ◌+◌, ◌-◌, ◌*◌, ◌/◌, ◌%◌, ◌<◌, ◌≤◌, List, [], ◌∷◌, ◌++◌, length, take, drop, replicate, refl, sym, ap, ◌∙◌, arith, length-append, append_assoc, set, get_or, ◌^◌, Bool, true, false, if◌then◌else◌, nat_lt, min}
-use Rattle.std.proofs.lemmas.List.{append-nil, drop-replicate, length-replicate, length-take-le, take_at, set_at, drop_more}
-use Rattle.std.proofs.lemmas.List.FromFn.{length-range_with_len}
-use Rattle.std.specs.List.{range_with_len}
-use Rattle.fs_layout.specs.Bytes.{overwrite}
-use Rattle.std.proofs.Math.Pow.{pow-lt}
-use Rattle.std.proofs.lemmas.Bool.{le-ltb, lt-ltb}
-use Rattle.mkfs.specs.Image.{Node, inode_for, padded, whole, bitmap, node_bytes, indirect_block}
-use Rattle.image_tree.specs.Inodes.{blocks_for}
-use Rattle.mkfs.specs.Layout.{node_blocks}
+use Rattle.mkfs.proofs.Vocabulary.{◌≡◌, ℕ, zero, suc, ◌+◌, ◌-◌, ◌*◌, ◌/◌, ◌%◌, ◌<◌, ◌≤◌, List, [], ◌∷◌, ◌++◌, length, take, drop, replicate, refl, sym, ap, ◌∙◌, arith, length-append, append_assoc, set, get_or, ◌^◌, Bool, true, false, if◌then◌else◌, nat_lt, min, append-nil, drop-replicate, length-replicate, length-take-le, take_at, set_at, drop_more, length-range_with_len, range_with_len, overwrite, pow-lt, le-ltb, lt-ltb, Node, inode_for, padded, whole, bitmap, node_bytes, indirect_block, blocks_for, node_blocks}
 
 -- written over zeros
 pub overwrite-zeros : (n : ℕ) (xs : List ℕ) → overwrite (replicate n 0) 0 xs ≡ padded n xs

@@ -1,9 +1,5 @@
 -- Pieces of a list: a part of a part, and records of one length side by side.
-use Rattle.std.proofs.Common.{◌≡◌, ℕ, zero, suc, ◌+◌, ◌-◌, ◌*◌, ◌<◌, ◌≤◌, List, [], ◌∷◌, ◌++◌, length, take, drop, get_or, ap, ◌∙◌, sym, arith, append_assoc, length-append}
-use Rattle.std.specs.List.{All, flat_map}
-use Rattle.std.proofs.Math.Nat.{mul-suc, mul-zero}
-use Rattle.std.proofs.lemmas.List.{drop_at, drop-drop, drop-take, take_at, take-take}
-use Rattle.std.proofs.lemmas.List.Elements.{All-head, All-tail}
+use Rattle.mkfs.proofs.Vocabulary.{◌≡◌, ℕ, zero, suc, ◌+◌, ◌-◌, ◌*◌, ◌<◌, ◌≤◌, List, [], ◌∷◌, ◌++◌, length, take, drop, get_or, ap, ◌∙◌, sym, arith, append_assoc, length-append, All, flat_map, mul-suc, mul-zero, drop_at, drop-drop, drop-take, take_at, take-take, All-head, All-tail}
 
 -- the n numbers from a place on, of the many from another place on
 pub part-of-part : (xs : List ℕ) (n at many from place : ℕ) → at + n ≤ many → from + at ≡ place → take n (drop at (take many (drop from xs))) ≡ take n (drop place xs)

@@ -1,16 +1,5 @@
 -- What stands where in an image.
-use Rattle.std.proofs.Common.{◌≡◌, ℕ, ◌-◌, ◌*◌, ◌<◌, ◌≤◌, Bool, true, false, cond, eqb, Some, None, List, [], ◌++◌, length, take, drop, replicate, ap, ◌∙◌, sym, refl, arith, append_assoc, length-append}
-use Rattle.std.proofs.lemmas.Bool.{eqb-true}
-use Rattle.std.proofs.lemmas.List.{take_at, drop_at, take-append-le, take-replicate}
-use Rattle.block_device.specs.Blocks.{blocks_of, block_at}
-use Rattle.block_device.specs.BlockLaws.{get_or-blocks_of, length-blocks_of}
-use Rattle.fs_layout.specs.declared.superblock.Super.{Super}
-use Rattle.fs_layout.specs.Bytes.{u32_at, u32s_at}
-use Rattle.fs_layout.specs.Super.{super_fields, spell_super, IsSuper}
-use Rattle.fs_layout.specs.Recovered.{sizes_of, log_head_at, log_count, logged, recovered}
-use Rattle.fs_layout.proofs.Words.{super_of-spell}
-use Rattle.mkfs.specs.Layout.{data_start, super_for}
-use Rattle.mkfs.specs.Image.{Node, padded, front, inode_table, bitmap, data_from, used_by, image_with}
+use Rattle.mkfs.proofs.Vocabulary.{◌≡◌, ℕ, ◌-◌, ◌*◌, ◌<◌, ◌≤◌, Bool, true, false, cond, eqb, Some, None, List, [], ◌++◌, length, take, drop, replicate, ap, ◌∙◌, sym, refl, arith, append_assoc, length-append, eqb-true, take_at, drop_at, take-append-le, take-replicate, blocks_of, block_at, get_or-blocks_of, length-blocks_of, Super, u32_at, u32s_at, super_fields, spell_super, IsSuper, sizes_of, log_head_at, log_count, logged, recovered, super_of-spell, data_start, super_for, Node, padded, front, inode_table, bitmap, data_from, used_by, image_with}
 use Rattle.mkfs.proofs.Padding.{length-padded}
 use Rattle.mkfs.proofs.Lengths.{Fits, length-image, length-zeros, length-super}
 

@@ -1,12 +1,5 @@
 -- Numbers that rise one by one, and zeros behind them.
-use Rattle.std.proofs.Common.{◌≡◌, ◌≢◌, ℕ, zero, suc, ◌+◌, ◌<◌, ◌≤◌, Bool, cond, not, List, [], ◌∷◌, ◌++◌, length, replicate, get_or, filter, ap, ◌∙◌, sym, refl, subst, arith}
-use Rattle.std.specs.List.{All, range_with_len}
-use Rattle.std.proofs.lemmas.Bool.{ne_eqb}
-use Rattle.std.proofs.lemmas.List.{append-nil, get_or_append_left}
-use Rattle.std.proofs.lemmas.List.Elements.{All-append, All-replicate, filter-append}
-use Rattle.std.proofs.lemmas.List.FromFn.{length-range_with_len, get_or-range_with_len}
-use Rattle.image_tree.specs.Inodes.{is_block}
-use Rattle.image_tree.specs.Lists.{IsOnce}
+use Rattle.mkfs.proofs.Vocabulary.{◌≡◌, ◌≢◌, ℕ, zero, suc, ◌+◌, ◌<◌, ◌≤◌, Bool, cond, not, List, [], ◌∷◌, ◌++◌, length, replicate, get_or, filter, ap, ◌∙◌, sym, refl, subst, arith, All, range_with_len, ne_eqb, append-nil, get_or_append_left, All-append, All-replicate, filter-append, length-range_with_len, get_or-range_with_len, is_block, IsOnce}
 use Rattle.mkfs.proofs.Shown.{IsRange}
 
 -- one range behind another

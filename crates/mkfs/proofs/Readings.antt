@@ -1,10 +1,5 @@
 -- What a typed getter read.
-use Rattle.std.proofs.Common.{◌≡◌, ℕ, true, List, Option, Some, None, Result, Ok, Err, is_some, refl}
-use Rattle.std.specs.Str.Parse.{ParsesUnsigned, ExplainsUnsignedError, HasUnsignedDigitsIfOk}
-use Rattle.std.specs.declared.num.ParseIntError.{ParseIntError}
-use Rattle.clap.specs.Matches.{found_of, one_text, ReadsOne}
-use Rattle.clap.specs.declared.parser.matches.ArgMatches.{ArgMatches}
-use Rattle.mkfs.specs.Options.{HasNumber, number_in}
+use Rattle.mkfs.proofs.Vocabulary.{◌≡◌, ℕ, true, List, Option, Some, None, Result, Ok, Err, is_some, refl, ParsesUnsigned, ExplainsUnsignedError, HasUnsignedDigitsIfOk, ParseIntError, found_of, one_text, ReadsOne, ArgMatches, HasNumber, number_in}
 
 -- what a u32's text gives
 abbrev pub Reads : List ℕ → Result ℕ ParseIntError → Type 0

@@ -1,19 +1,6 @@
 -- The inodes of an image.
-use Rattle.std.proofs.Common.{◌≡◌, ℕ, zero, suc, ◌+◌, ◌-◌, ◌*◌, ◌/◌, ◌%◌, ◌^◌, ◌<◌, ◌≤◌, min, w16, FitsSigned, List, [], ◌∷◌, ◌++◌, length, take, drop, map, replicate, get_or, sum_by, ap, ◌∙◌, sym, subst, arith, rules, append_assoc, length-append}
-use Rattle.std.specs.List.{All, AllByRecursion, flat_map, range_with_len}
-use Rattle.std.proofs.lemmas.List.{drop_at, drop-drop, length-map, get_or-map}
-use Rattle.std.proofs.lemmas.List.Sums.{sum_by-cons}
-use Rattle.fs_layout.specs.declared.inode.Dinode.{Dinode}
-use Rattle.fs_layout.specs.Bytes.{record_at}
-use Rattle.fs_layout.specs.Inode.{dinode_at, dinode_of, spell_dinode, IsDinode}
-use Rattle.block_device.specs.Blocks.{block_at}
-use Rattle.fs_layout.proofs.Inodes.{dinode_of-spell}
-use Rattle.mkfs.specs.Layout.{data_start, inode_blocks}
-use Rattle.mkfs.specs.Image.{Node, padded, front, inode_for, inodes_from, inode_table, bitmap, data_from, used_by, image_with, blocks_of_node, nodes_with, file_node}
-use Rattle.mkfs.proofs.Padding.{length-addrs}
-use Rattle.mkfs.proofs.Lengths.{AreNodes, Fits, length-front, length-zeros, inode-spelled}
-use Rattle.mkfs.proofs.Pieces.{part-of-part}
-use Rattle.mkfs.proofs.Places.{disk_of, block-at}
+use Rattle.mkfs.proofs.Vocabulary.{◌≡◌, ℕ, zero, suc, ◌+◌, ◌-◌, ◌*◌, ◌/◌, ◌%◌, ◌^◌, ◌<◌, ◌≤◌, min, w16, FitsSigned, List, [], ◌∷◌, ◌++◌, length, take, drop, map, replicate, get_or, sum_by, ap, ◌∙◌, sym, subst, arith, rules, append_assoc, length-append, All, AllByRecursion, flat_map, range_with_len, drop_at, drop-drop, length-map, get_or-map, sum_by-cons, Dinode, record_at, dinode_at, dinode_of, spell_dinode, IsDinode, block_at, dinode_of-spell, data_start, inode_blocks, Node, padded, front, inode_for, inodes_from, inode_table, bitmap, data_from, used_by, image_with, blocks_of_node, nodes_with, file_node}
+use Rattle.mkfs.proofs.Basics.{length-addrs, AreNodes, Fits, length-front, length-zeros, inode-spelled, part-of-part, disk_of, block-at}
 
 regroup : (f z i r b d e : List ℕ) → (((f ++ ((z ++ i) ++ r)) ++ b) ++ d) ++ e ≡ (f ++ z) ++ (i ++ (r ++ (b ++ (d ++ e))))
 regroup f z i r b d e = simp append_assoc

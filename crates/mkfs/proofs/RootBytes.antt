@@ -1,18 +1,5 @@
 -- The root's bytes are its entries, spelled: those of the names, and free ones behind them.
-use Rattle.std.proofs.Common.{◌≡◌, ◌≢◌, ℕ, zero, suc, ◌+◌, ◌-◌, ◌*◌, ◌/◌, ◌%◌, ◌^◌, ◌<◌, ◌≤◌, List, [], ◌∷◌, ◌++◌, length, take, drop, replicate, get_or, Some, refl, sym, ap, ◌∙◌, arith, length-append}
-use Rattle.std.specs.List.{All, flat_map}
-use Rattle.std.proofs.lemmas.List.{length-replicate, replicate-append-replicate}
-use Rattle.std.proofs.lemmas.List.Concat.{flat_map-append}
-use Rattle.std.proofs.lemmas.List.Elements.{All-append, All-cons, All-head, All-tail, All-nil, All-replicate}
-use Rattle.fs_layout.specs.declared.entry.Dirent.{Dirent}
-use Rattle.fs_layout.specs.declared.entry.Dirent.TheVariants.{Free, Used}
-use Rattle.fs_layout.specs.Name.{IsName}
-use Rattle.fs_layout.specs.Entry.{spell_dirent, dirent_at, dirent_of, IsDirent}
-use Rattle.fs_layout.proofs.Entries.{length-spell_dirent, dirent_of-spell}
-use Rattle.image_tree.specs.Inodes.{blocks_for}
-use Rattle.mkfs.specs.Layout.{root_size}
-use Rattle.plain_tree.specs.Tree.{dot, dotdot}
-use Rattle.mkfs.specs.Image.{padded, whole, root_content, root_entries, entries_from}
+use Rattle.mkfs.proofs.Vocabulary.{◌≡◌, ◌≢◌, ℕ, zero, suc, ◌+◌, ◌-◌, ◌*◌, ◌/◌, ◌%◌, ◌^◌, ◌<◌, ◌≤◌, List, [], ◌∷◌, ◌++◌, length, take, drop, replicate, get_or, Some, refl, sym, ap, ◌∙◌, arith, length-append, All, flat_map, length-replicate, replicate-append-replicate, flat_map-append, All-append, All-cons, All-head, All-tail, All-nil, All-replicate, Dirent, Free, Used, IsName, spell_dirent, dirent_at, dirent_of, IsDirent, length-spell_dirent, dirent_of-spell, blocks_for, root_size, dot, dotdot, padded, whole, root_content, root_entries, entries_from}
 use Rattle.mkfs.proofs.Padding.{length-whole}
 use Rattle.mkfs.proofs.Pieces.{part-of-part, AreLong, length-records, record-there}
 

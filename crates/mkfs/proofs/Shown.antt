@@ -1,14 +1,5 @@
 -- What the disk of an image shows of the nodes that lie on it.
-use Rattle.std.proofs.Common.{◌≡◌, ℕ, ◌+◌, ◌*◌, ◌<◌, nat_lt, List, [], ◌++◌, length, take, drop, replicate, get_or, pos}
-use Rattle.std.specs.List.{range_with_len}
-use Rattle.fs_layout.specs.declared.inode.Dinode.{Dinode}
-use Rattle.fs_layout.specs.Bytes.{u32_at}
-use Rattle.block_device.specs.Blocks.{block_at}
-use Rattle.fs_layout.specs.Recovered.{sizes_of, log_count, logged, recovered}
-use Rattle.image_tree.specs.Inodes.{inode_of, numbers_of, content_block}
-use Rattle.image_tree.specs.Checks.{is_marked}
-use Rattle.mkfs.specs.Layout.{data_start, super_for}
-use Rattle.mkfs.specs.Image.{Node, whole, inodes_from, used_by, blocks_before, blocks_of_node}
+use Rattle.mkfs.proofs.Vocabulary.{◌≡◌, ℕ, ◌+◌, ◌*◌, ◌<◌, nat_lt, List, [], ◌++◌, length, take, drop, replicate, get_or, pos, range_with_len, Dinode, u32_at, block_at, sizes_of, log_count, logged, recovered, inode_of, numbers_of, content_block, is_marked, data_start, super_for, Node, whole, inodes_from, used_by, blocks_before, blocks_of_node}
 
 -- an inode that is all zeros
 abbrev pub free_inode : Dinode

@@ -1,21 +1,7 @@
 -- What a disk that shows its nodes has as inodes, and which blocks they name.
-use Rattle.std.proofs.Common.{◌≡◌, ◌≢◌, ℕ, zero, suc, ◌+◌, ◌-◌, ◌<◌, ◌≤◌, pos, false, ◌⊎◌, inl, inr, List, [], length, get_or, map, ap, ◌∙◌, sym, refl, subst, ⊎_elim, arith}
-use Rattle.std.specs.List.{All}
-use Rattle.std.proofs.lemmas.Bool.{cases_lt}
-use Rattle.std.proofs.lemmas.List.{get_or-map, length-map}
-use Rattle.std.proofs.lemmas.List.Sums.{sum_by_more_le}
-use Rattle.std.proofs.lemmas.List.Elements.{All-nil}
-use Rattle.fs_layout.specs.declared.superblock.Super.{Super}
-use Rattle.fs_layout.specs.declared.inode.Dinode.{Dinode}
-use Rattle.fs_layout.specs.Recovered.{sizes_of}
-use Rattle.image_tree.specs.Inodes.{inode_of, is_free, numbers_by}
-use Rattle.image_tree.proofs.Nodes.{numbers_by_node}
-use Rattle.image_tree.proofs.NumberLists.{numbers_by_free}
-use Rattle.mkfs.specs.Layout.{data_start}
-use Rattle.mkfs.specs.Image.{Node, root_node, file_node, nodes_with, inode_for, used_by, blocks_before, blocks_of_node}
-use Rattle.mkfs.proofs.Shown.{Shows, IsRange, free_inode}
+use Rattle.mkfs.proofs.Vocabulary.{◌≡◌, ◌≢◌, ℕ, zero, suc, ◌+◌, ◌-◌, ◌<◌, ◌≤◌, pos, false, ◌⊎◌, inl, inr, List, [], length, get_or, map, ap, ◌∙◌, sym, refl, subst, ⊎_elim, arith, All, cases_lt, get_or-map, length-map, sum_by_more_le, All-nil, Super, Dinode, sizes_of, inode_of, is_free, numbers_by, numbers_by_node, numbers_by_free, data_start, Node, root_node, file_node, nodes_with, inode_for, used_by, blocks_before, blocks_of_node}
+use Rattle.mkfs.proofs.Basics.{Shows, IsRange, free_inode, All-range}
 use Rattle.mkfs.proofs.NodeNumbers.{inode-in}
-use Rattle.mkfs.proofs.Ranges.{All-range}
 
 -- ---- the inodes
 

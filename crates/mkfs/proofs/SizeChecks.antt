@@ -1,20 +1,8 @@
 -- The check of sizes passes.
-use Rattle.std.proofs.Common.{◌≡◌, ◌≢◌, ℕ, zero, suc, ◌+◌, ◌*◌, ◌%◌, ◌<◌, ◌≤◌, true, false, List, [], length, get_or, ap, ◌∙◌, sym, refl, subst, arith}
-use Rattle.std.specs.List.{All}
-use Rattle.std.proofs.lemmas.Bool.{false≢true}
-use Rattle.fs_layout.specs.declared.superblock.Super.{Super}
-use Rattle.fs_layout.specs.declared.inode.Dinode.{Dinode}
-use Rattle.fs_layout.specs.Recovered.{sizes_of}
-use Rattle.image_tree.specs.Inodes.{inode_of, is_number, is_free, numbers_of, block_number}
-use Rattle.image_tree.specs.Checks.{IsFittingSize, IsGoodSize, HasGoodSizes}
-use Rattle.image_tree.proofs.Nodes.{node_is}
-use Rattle.mkfs.specs.Layout.{data_start, node_blocks, root_size}
-use Rattle.mkfs.specs.Image.{Node, root_node, nodes_with, inode_for, blocks_before}
-use Rattle.mkfs.proofs.Lengths.{AreNodes}
+use Rattle.mkfs.proofs.Vocabulary.{◌≡◌, ◌≢◌, ℕ, zero, suc, ◌+◌, ◌*◌, ◌%◌, ◌<◌, ◌≤◌, true, false, List, [], length, get_or, ap, ◌∙◌, sym, refl, subst, arith, All, false≢true, Super, Dinode, sizes_of, inode_of, is_number, is_free, numbers_of, block_number, IsFittingSize, IsGoodSize, HasGoodSizes, node_is, data_start, node_blocks, root_size, Node, root_node, nodes_with, inode_for, blocks_before}
+use Rattle.mkfs.proofs.Basics.{AreNodes, in-range, Shows, IsRange}
 use Rattle.mkfs.proofs.NodeBlocks.{place}
 use Rattle.mkfs.proofs.NodeContents.{place-within}
-use Rattle.mkfs.proofs.Ranges.{in-range}
-use Rattle.mkfs.proofs.Shown.{Shows, IsRange}
 use Rattle.mkfs.proofs.ShownInodes.{by-place, inode-shown, file-at}
 
 -- a directory has whole slots, and its first two

@@ -1,18 +1,6 @@
 -- The slots of an image's root are good.
-use Rattle.std.proofs.Common.{◌≡◌, ◌≢◌, ℕ, zero, suc, ◌+◌, ◌<◌, true, List, [], ◌∷◌, ◌++◌, length, drop, map, replicate, get_or, Some, None, Option, refl, sym, ap, subst, ◌∙◌, arith}
-use Rattle.std.specs.List.{All, AllPairs, range_with_len}
-use Rattle.std.proofs.lemmas.List.{append-nil, get_or-map, length-map}
-use Rattle.std.proofs.lemmas.List.Elements.{All-cons}
-use Rattle.std.proofs.lemmas.List.FromFn.{length-range_with_len, get_or-range_with_len}
-use Rattle.fs_layout.specs.declared.entry.Dirent.{Dirent}
-use Rattle.fs_layout.specs.declared.entry.Dirent.TheVariants.{Free}
-use Rattle.image_tree.specs.Inodes.{is_node}
-use Rattle.image_tree.specs.Links.{slots_in, slot_numbers, slot_names}
-use Rattle.image_tree.specs.Checks.{AreGoodSlots, HasGoodSlots}
-use Rattle.plain_tree.specs.Tree.{dot, dotdot}
-use Rattle.mkfs.specs.Image.{entries_from}
-use Rattle.mkfs.specs.Refusals.{HasGoodNames}
-use Rattle.mkfs.proofs.RootBytes.{all_entries, free_entries}
+use Rattle.mkfs.proofs.Vocabulary.{◌≡◌, ◌≢◌, ℕ, zero, suc, ◌+◌, ◌<◌, true, List, [], ◌∷◌, ◌++◌, length, drop, map, replicate, get_or, Some, None, Option, refl, sym, ap, subst, ◌∙◌, arith, All, AllPairs, range_with_len, append-nil, get_or-map, length-map, All-cons, length-range_with_len, get_or-range_with_len, Dirent, Free, is_node, slots_in, slot_numbers, slot_names, AreGoodSlots, HasGoodSlots, dot, dotdot, entries_from, HasGoodNames}
+use Rattle.mkfs.proofs.Basics.{all_entries, free_entries}
 use Rattle.mkfs.proofs.FilesShown.{ShowsFiles}
 use Rattle.mkfs.proofs.Directories.{one_directory, root_is_node, file_is_node, root_slots_in}
 

@@ -1,17 +1,6 @@
 -- Appending one part after another.
-use Rattle.std.proofs.Common.{◌≡◌, ℕ, ◌+◌, ◌-◌, ◌<◌, ◌≤◌, List, [], ◌∷◌, ◌++◌, length, take, drop, map, get_or, sym, subst, ap, if◌then◌else◌, is_ok, Ok, Err, Result, OnOk, ◌∙◌, arith, append_assoc}
-use Rattle.std.specs.List.{All, flat_map, range_with_len}
-use Rattle.std.proofs.lemmas.List.{drop_more, get_or-map, length-map}
-use Rattle.std.proofs.lemmas.List.Sums.{sum_by-cons}
-use Rattle.fs_layout.specs.Inode.{spell_dinode}
-use Rattle.fs_layout.specs.Entry.{spell_dirent}
-use Rattle.fs_layout.specs.Indirect.{spell_numbers}
-use Rattle.fs_layout.specs.declared.entry.Dirent.TheVariants.{Used}
-use Rattle.image_tree.specs.Inodes.{blocks_for}
-use Rattle.mkfs.specs.Layout.{node_blocks, file_blocks}
-use Rattle.mkfs.specs.declared.new_file.NewFile.{NewFile}
-use Rattle.mkfs.specs.Image.{contents_of, names_of, entries_from, inodes_from, data_from, file_node, inode_for, node_bytes, padded, whole}
-use Rattle.mkfs.proofs.Padding.{node_bytes-large, whole-front}
+use Rattle.mkfs.proofs.Vocabulary.{◌≡◌, ℕ, ◌+◌, ◌-◌, ◌<◌, ◌≤◌, List, [], ◌∷◌, ◌++◌, length, take, drop, map, get_or, sym, subst, ap, if◌then◌else◌, is_ok, Ok, Err, Result, OnOk, ◌∙◌, arith, append_assoc, All, flat_map, range_with_len, drop_more, get_or-map, length-map, sum_by-cons, spell_dinode, spell_dirent, spell_numbers, Used, blocks_for, node_blocks, file_blocks, NewFile, contents_of, names_of, entries_from, inodes_from, data_from, file_node, inode_for, node_bytes, padded, whole}
+use Rattle.mkfs.proofs.Basics.{node_bytes-large, whole-front}
 
 -- one part more, of those that are left
 pub one_more : (old part rest left all new : List ℕ) → new ≡ old ++ part → left ≡ part ++ rest → old ++ left ≡ all → new ++ rest ≡ all

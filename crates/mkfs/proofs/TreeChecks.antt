@@ -1,12 +1,6 @@
 -- An image that can be made passes the checks of its slots, its tree and its counts, and holds the tree that is stated.
-use Rattle.std.proofs.Common.{◌≡◌, ℕ, List, length}
-use Rattle.image_tree.specs.Checks.{HasGoodSlots, IsOneTree, HasGoodCounts}
-use Rattle.image_tree.specs.Damage.{UpToSizes, IsWellFormed}
-use Rattle.image_tree.specs.Trees.{tree_in}
-use Rattle.mkfs.specs.Image.{root_content, nodes_with}
-use Rattle.mkfs.specs.Refusals.{CanBeMade}
-use Rattle.mkfs.specs.Stated.{stated_tree}
-use Rattle.mkfs.proofs.Shown.{Shows}
+use Rattle.mkfs.proofs.Vocabulary.{◌≡◌, ℕ, List, length, HasGoodSlots, IsOneTree, HasGoodCounts, UpToSizes, IsWellFormed, tree_in, root_content, nodes_with, CanBeMade, stated_tree}
+use Rattle.mkfs.proofs.Basics.{Shows}
 use Rattle.mkfs.proofs.FilesShown.{shown_files}
 use Rattle.mkfs.proofs.SlotChecks.{has_good_slots}
 use Rattle.mkfs.proofs.LinkChecks.{is_one_tree, has_good_counts}

@@ -1,21 +1,7 @@
 -- An image holds the tree that is stated of its files.
-use Rattle.std.proofs.Common.{◌≡◌, ⊎_elim, ℕ, zero, suc, ◌+◌, ◌-◌, ◌<◌, ◌≤◌, true, false, List, [], ◌∷◌, ◌++◌, length, take, map, replicate, get_or, Some, None, Option, refl, sym, ap, ◌∙◌, arith, length-append}
-use Rattle.std.proofs.lemmas.Bool.{cases_lt}
-use Rattle.std.proofs.lemmas.List.{take_all, take_more, length-map, length-replicate, get_or-map, get_or_append_left, get_or-append_right}
-use Rattle.fs_layout.specs.declared.inode.Dinode.{Dinode}
-use Rattle.fs_layout.specs.declared.entry.Dirent.{Dirent}
-use Rattle.fs_layout.specs.declared.entry.Dirent.TheVariants.{Free}
-use Rattle.fs_layout.specs.Recovered.{sizes_of}
-use Rattle.plain_tree.specs.declared.node.Slot.{Slot}
-use Rattle.plain_tree.specs.declared.node.Kind.TheVariants.{Directory, File}
+use Rattle.mkfs.proofs.Vocabulary.{◌≡◌, ⊎_elim, ℕ, zero, suc, ◌+◌, ◌-◌, ◌<◌, ◌≤◌, true, false, List, [], ◌∷◌, ◌++◌, length, take, map, replicate, get_or, Some, None, Option, refl, sym, ap, ◌∙◌, arith, length-append, cases_lt, take_all, take_more, length-map, length-replicate, get_or-map, get_or_append_left, get_or-append_right, Dinode, Dirent, Free, sizes_of, Slot, Directory, File, at_rest, inode_of, is_node, is_directory, is_number, slots_of, content_of, slot_of, is_file, kind_of, node_of, first_nodes, tree_in, no_node_zero, entries_from, slots_from, root_slots, root_in_tree, file_in_tree, stated_tree}
 use Rattle.plain_tree.specs.declared.node.Node.{Node}
-use Rattle.plain_tree.specs.Fresh.{at_rest}
-use Rattle.image_tree.specs.Inodes.{inode_of, is_node, is_directory, is_number, slots_of, content_of}
-use Rattle.image_tree.specs.Trees.{slot_of, is_file, kind_of, node_of, first_nodes, tree_in}
-use Rattle.image_tree.proofs.EntryLemmas.{no_node_zero}
-use Rattle.mkfs.specs.Image.{entries_from}
-use Rattle.mkfs.specs.Stated.{slots_from, root_slots, root_in_tree, file_in_tree, stated_tree}
-use Rattle.mkfs.proofs.RootBytes.{all_entries, free_entries}
+use Rattle.mkfs.proofs.Basics.{all_entries, free_entries}
 use Rattle.mkfs.proofs.FilesShown.{ShowsFiles}
 use Rattle.mkfs.proofs.Directories.{root_directory, root_is_node, file_is_node, file_no_directory, past_no_node}
 

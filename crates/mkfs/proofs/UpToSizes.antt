@@ -1,12 +1,7 @@
 -- Of an image that can be made the checks up to that of sizes pass.
-use Rattle.std.proofs.Common.{◌≡◌, ℕ, ◌≤◌, List, length, arith}
-use Rattle.std.specs.List.{All}
-use Rattle.image_tree.specs.Damage.{UpToShort, UpToLog, UpToRoot, UpToMarks, UpToSizes}
-use Rattle.mkfs.specs.Image.{Node, nodes_with, root_content}
-use Rattle.mkfs.specs.Refusals.{CanBeMade}
-use Rattle.mkfs.proofs.Lengths.{Fits}
+use Rattle.mkfs.proofs.Vocabulary.{◌≡◌, ℕ, ◌≤◌, List, length, arith, All, UpToShort, UpToLog, UpToRoot, UpToMarks, UpToSizes, Node, nodes_with, root_content, CanBeMade}
+use Rattle.mkfs.proofs.Basics.{Fits, Shows}
 use Rattle.mkfs.proofs.Wanted.{fits, root_long}
-use Rattle.mkfs.proofs.Shown.{Shows}
 use Rattle.mkfs.proofs.ShownInodes.{IsKind, are-kinds}
 use Rattle.mkfs.proofs.FrontChecks.{has_super, has_blocks, has_log, has_types, has_root}
 use Rattle.mkfs.proofs.NumberChecks.{has_numbers, names_once, has_marks}

@@ -1,15 +1,6 @@
 -- What can be made fits its image.
-use Rattle.std.proofs.Common.{◌≡◌, ℕ, zero, suc, ◌+◌, ◌<◌, ◌≤◌, ◌^◌, List, length, map, ap, ◌∙◌, sym, subst, arith}
-use Rattle.std.specs.List.{All}
-use Rattle.std.proofs.lemmas.List.{length-map}
-use Rattle.std.proofs.lemmas.List.Elements.{All-map}
-use Rattle.fs_layout.specs.Name.{IsName}
-use Rattle.mkfs.specs.Layout.{node_blocks, file_blocks, data_start, root_size}
-use Rattle.mkfs.specs.Image.{Node, nodes_with, file_node, used_by, root_content}
-use Rattle.mkfs.specs.Refusals.{CanBeMade}
-use Rattle.mkfs.proofs.Joins.{used-parts}
-use Rattle.mkfs.proofs.RootBytes.{length-root_content}
-use Rattle.mkfs.proofs.Lengths.{Fits, AreNodes}
+use Rattle.mkfs.proofs.Vocabulary.{◌≡◌, ℕ, zero, suc, ◌+◌, ◌<◌, ◌≤◌, ◌^◌, List, length, map, ap, ◌∙◌, sym, subst, arith, All, length-map, All-map, IsName, node_blocks, file_blocks, data_start, root_size, Node, nodes_with, file_node, used_by, root_content, CanBeMade}
+use Rattle.mkfs.proofs.Basics.{used-parts, length-root_content, Fits, AreNodes}
 
 pub root_long : (size ninodes : ℕ) (names contents : List (List ℕ)) → length names ≡ length contents → CanBeMade size ninodes names contents
     → length (root_content names) ≡ root_size (length contents)

@@ -1,17 +1,6 @@
 -- The image that is made: its bytes, one part after another.
 use Rattle.std.specs.Prelude.{ℕ, ◌+◌, ◌-◌, ◌*◌, ◌/◌, ◌%◌, ◌^◌, min, nat_lt, if◌then◌else◌, ℤ, pos, List, [], ◌∷◌, ◌++◌, length, take, drop, map, replicate, sum_by}
-use Rattle.std.specs.List.{flat_map, range_with_len}
-use Rattle.fs_layout.specs.declared.inode.Dinode.{Dinode}
-use Rattle.fs_layout.specs.declared.entry.Dirent.{Dirent}
-use Rattle.fs_layout.specs.declared.entry.Dirent.TheVariants.{Used}
-use Rattle.fs_layout.specs.Inode.{spell_dinode}
-use Rattle.fs_layout.specs.Entry.{spell_dirent}
-use Rattle.fs_layout.specs.Indirect.{spell_numbers}
-use Rattle.fs_layout.specs.Super.{spell_super}
-use Rattle.fs_layout.specs.Widths.{addresses, block_len, inode_len, inodes_per_block, numbers_per_block}
-use Rattle.image_tree.specs.Inodes.{blocks_for, direct}
-use Rattle.plain_tree.specs.Tree.{dot, dotdot}
-use Rattle.plain_tree.specs.Widths.{root}
+use Rattle.mkfs.specs.Vocabulary.{flat_map, range_with_len, Dinode, Dirent, Used, spell_dinode, spell_dirent, spell_numbers, spell_super, addresses, block_len, inode_len, inodes_per_block, numbers_per_block, blocks_for, direct, dot, dotdot, root}
 use Rattle.mkfs.specs.declared.new_file.NewFile.{NewFile}
 use Rattle.mkfs.specs.Layout.{log_blocks, inode_blocks, data_start, super_for, node_blocks}
 use Rattle.mkfs.specs.Widths.{bits_per_byte, direct_len, directory_kind, file_kind, first_file}

@@ -1,8 +1,6 @@
 -- Where the parts of an image lie that is made, in blocks.
 use Rattle.std.specs.Prelude.{ℕ, ◌+◌, ◌-◌, ◌*◌, ◌/◌, nat_lt, if◌then◌else◌, List, length, sum_by}
-use Rattle.fs_layout.specs.declared.superblock.Super.{Super}
-use Rattle.fs_layout.specs.Widths.{block_len, inodes_per_block, dirent_len}
-use Rattle.image_tree.specs.Inodes.{blocks_for, direct}
+use Rattle.mkfs.specs.Vocabulary.{Super, block_len, inodes_per_block, dirent_len, blocks_for, direct}
 
 -- where the log begins, and how many blocks it has
 abbrev pub log_start : ℕ

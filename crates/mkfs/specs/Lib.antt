@@ -1,3 +1,4 @@
+pub mod Vocabulary
 pub mod Image
 pub mod Layout
 pub mod Made

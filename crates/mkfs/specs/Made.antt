@@ -1,8 +1,6 @@
 -- A disk that was made.
 use Rattle.std.specs.Prelude.{◌≡◌, ℕ, List}
-use Rattle.block_device.specs.Blocks.{blocks_of}
-use Rattle.image_tree.specs.Damage.{IsWellFormed}
-use Rattle.image_tree.specs.Trees.{tree_in}
+use Rattle.mkfs.specs.Vocabulary.{blocks_of, IsWellFormed, tree_in}
 use Rattle.mkfs.specs.Image.{image_of}
 use Rattle.mkfs.specs.Refusals.{CanBeMade}
 use Rattle.mkfs.specs.Stated.{stated_tree}

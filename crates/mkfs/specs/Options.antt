@@ -1,11 +1,6 @@
 -- The command line: IMAGE [--size N] [--inodes N] [FILE..], and what it gives.
 use Rattle.std.specs.Prelude.{◌≡◌, ℕ, ◌-◌, ◌^◌, ◌<◌, List, [], ◌∷◌, Some, true, codes, pos}
-use Rattle.std.specs.Str.Parse.{IsNumeral, digits_value, without_leading_plus}
-use Rattle.clap.specs.Lexer.{usize_max}
-use Rattle.clap.specs.Words.{App, Rule, Text, found_of, new_app, new_rule, one_text, with_rule}
-use Rattle.clap.specs.declared.builder.action.ArgAction.TheVariants.{Set}
-use Rattle.clap.specs.declared.builder.value_parser.ValueParser.TheVariants.{Signed}
-use Rattle.clap.specs.declared.parser.matches.ArgMatches.{ArgMatches}
+use Rattle.mkfs.specs.Vocabulary.{IsNumeral, digits_value, without_leading_plus, usize_max, App, Rule, Text, found_of, new_app, new_rule, one_text, with_rule, Set, Signed, ArgMatches}
 
 -- the file to write
 abbrev pub image_rule : Rule

@@ -1,10 +1,8 @@
 -- What can be made, and the first reason why not.
 use Rattle.std.specs.Prelude.{◌≢◌, ℕ, ◌+◌, ◌-◌, ◌≤◌, List, length, codes, All, AllPairs}
-use Rattle.fs_layout.specs.Name.{IsName}
+use Rattle.mkfs.specs.Vocabulary.{IsName, largest_size, dot, dotdot}
 use Rattle.mkfs.specs.declared.refused.MakeRefused.{MakeRefused}
 use Rattle.mkfs.specs.declared.refused.MakeRefused.TheVariants.{NoMemory, BadSizes, BadName, FileTooBig, NoBlocks, NoInodes}
-use Rattle.image_tree.specs.Checks.{largest_size}
-use Rattle.plain_tree.specs.Tree.{dot, dotdot}
 use Rattle.mkfs.specs.Layout.{data_start, node_blocks, file_blocks, root_size}
 use Rattle.mkfs.specs.Widths.{most_blocks, most_entries, most_inodes}
 

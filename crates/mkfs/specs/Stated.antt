@@ -1,13 +1,6 @@
 -- The tree that an image is to hold: the root with the files' names, and the files behind it.
 use Rattle.std.specs.Prelude.{ℕ, ◌+◌, ◌-◌, ◌/◌, List, [], ◌∷◌, ◌++◌, length, map, replicate, Option, Some, None}
-use Rattle.plain_tree.specs.declared.node.Slot.{Slot}
-use Rattle.plain_tree.specs.declared.node.Kind.TheVariants.{Directory, File}
-use Rattle.plain_tree.specs.declared.node.Node.{Node}
-use Rattle.plain_tree.specs.TreeData.{TreeData}
-use Rattle.plain_tree.specs.Fresh.{at_rest}
-use Rattle.plain_tree.specs.Tree.{dot, dotdot}
-use Rattle.plain_tree.specs.Widths.{root}
-use Rattle.fs_layout.specs.Widths.{dirent_len}
+use Rattle.mkfs.specs.Vocabulary.{Slot, Directory, File, Node, TreeData, at_rest, dot, dotdot, root, dirent_len}
 use Rattle.mkfs.specs.Layout.{root_size}
 use Rattle.mkfs.specs.Widths.{first_file}
 

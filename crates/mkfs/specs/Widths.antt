@@ -1,7 +1,6 @@
 -- How much an image and its nodes may have, and what their inodes say.
 use Rattle.std.specs.Prelude.{ℕ, ◌+◌, ◌-◌, ◌*◌, ◌^◌, ℤ, pos}
-use Rattle.fs_layout.specs.Widths.{block_len, numbers_per_block, dirents_per_block}
-use Rattle.image_tree.specs.Inodes.{direct}
+use Rattle.mkfs.specs.Vocabulary.{block_len, numbers_per_block, dirents_per_block, direct}
 
 -- how many bits a byte has
 abbrev pub bits_per_byte : ℕ

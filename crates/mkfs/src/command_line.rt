@@ -1,6 +1,6 @@
 //! The command line.
 ghost use Rattle.std.specs.Prelude.{◌≡◌, codes, false, map, string_bytes, IfOk};
-ghost use Rattle.clap.specs.Words.{app_of, fault_of, found_of, matches_of, rows_of, rule_of, FailsBy};
+ghost use Rattle.mkfs.specs.Vocabulary.{app_of, fault_of, found_of, matches_of, rows_of, rule_of, FailsBy};
 ghost use Rattle.mkfs.specs.Options.{files_rule, image_rule, mkfs_app, mkfs_line, number_in, number_rule, HasNumber};
 
 use clap::{Arg, ArgAction, ArgMatches, Command, Error};

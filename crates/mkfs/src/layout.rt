@@ -1,9 +1,8 @@
 //! Where things lie.
 ghost use Rattle.std.specs.Prelude.{◌≡◌, ◌+◌, ◌*◌, ◌^◌, ◌<◌, ◌≤◌, length, All};
-ghost use Rattle.image_tree.specs.Inodes.{blocks_for};
+ghost use Rattle.mkfs.specs.Vocabulary.{blocks_for, largest_size};
 ghost use Rattle.mkfs.specs.Layout.{bitmap_start, data_start, file_blocks, node_blocks, root_size, super_for};
 ghost use Rattle.mkfs.specs.Image.{contents_of};
-ghost use Rattle.image_tree.specs.Checks.{largest_size};
 ghost use Rattle.mkfs.specs.Refusals.{HasGoodFiles};
 ghost use Rattle.mkfs.specs.Widths.{most_node_blocks};
 

@@ -18,18 +18,17 @@ pub mod widths;
 ghost use Rattle.std.specs.Prelude.{◌≡◌, ◌≤◌, ◌+◌, length, IfOk};
 ghost use Rattle.mkfs.specs.Names.{shown};
 
-use std::fs::{File, Files};
-use std::io::Read;
-use std::io;
-
 pub use crate::command_line::{FILES, IMAGE, INODES, SIZE, number, options};
+pub use crate::images::{ImageFile, ImageRefused, read_image};
 pub use crate::judges::is_file_name;
 pub use crate::layout::data_start;
 pub use crate::made::{made_blocks, made_front, made_inodes, make};
 pub use crate::new_file::NewFile;
 pub use crate::refused::MakeRefused;
-pub use crate::images::{ImageFile, ImageRefused, read_image};
 pub use crate::replacing::{SaveRefused, save, try_to_save};
+use std::fs::{File, Files};
+use std::io;
+use std::io::Read;
 
 /// A file's name as a message has it: of none its quotation marks.
 pub fn shown(name: &str) -> &str

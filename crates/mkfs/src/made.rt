@@ -1,13 +1,9 @@
 //! Making an image.
 ghost use Rattle.std.specs.Prelude.{◌≡◌, ◌^◌, ◌<◌, ◌≤◌, ◌+◌, ◌*◌, ◌/◌, ◌%◌, ◌++◌, ℕ, List, [], drop, length, slice_index_or, take, IfOk, OnOk, MatchResult};
-ghost use Rattle.block_device.specs.Blocks.{blocks_of, block_at};
-ghost use Rattle.fs_layout.specs.Inode.{dinode_at};
-ghost use Rattle.fs_layout.specs.declared.inode.Dinode.{Dinode};
-ghost use Rattle.fs_layout.specs.Recovered.{logged, recovered, sizes_of};
+ghost use Rattle.mkfs.specs.Vocabulary.{blocks_of, block_at, dinode_at, Dinode, logged, recovered, sizes_of, largest_size};
 ghost use Rattle.mkfs.specs.Layout.{bitmap_start, data_start, inode_start, super_for};
 ghost use Rattle.mkfs.specs.Image.{bitmap, blocks_before, blocks_of_node, contents_of, data_from, front, image_of, image_with, inode_table, inodes_from, names_of, node_bytes, nodes_with, root_content, used_by, Node};
 ghost use Rattle.mkfs.specs.Made.{IsMade};
-ghost use Rattle.image_tree.specs.Checks.{largest_size};
 ghost use Rattle.mkfs.specs.Refusals.{CanBeMade, HasGoodFiles, HasInodes, IsFirstRefusal};
 ghost use Rattle.mkfs.specs.Widths.{most_blocks, most_inodes};
 

@@ -1,13 +1,8 @@
 //! The nodes of an image: the root, and the files in it.
 ghost use Rattle.std.specs.Prelude.{◌≡◌, ◌+◌, ◌*◌, ◌^◌, ◌<◌, ◌≤◌, ◌++◌, ℕ, List, length, map, All, IfOk, OnOk};
-ghost use Rattle.std.specs.List.{flat_map};
-ghost use Rattle.fs_layout.specs.Inode.{spell_dinode};
-ghost use Rattle.fs_layout.specs.Entry.{spell_dirent};
-ghost use Rattle.fs_layout.specs.Name.{IsName};
-ghost use Rattle.image_tree.specs.Inodes.{blocks_for};
+ghost use Rattle.mkfs.specs.Vocabulary.{flat_map, spell_dinode, spell_dirent, IsName, blocks_for, largest_size};
 ghost use Rattle.mkfs.specs.Layout.{node_blocks};
 ghost use Rattle.mkfs.specs.Image.{contents_of, data_from, entries_from, file_node, inodes_from, names_of, root_content};
-ghost use Rattle.image_tree.specs.Checks.{largest_size};
 
 use crate::appends::push_whole;
 use crate::layout::node_blocks;

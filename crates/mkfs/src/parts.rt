@@ -1,15 +1,7 @@
 //! The parts of an image.
 ghost use Rattle.std.specs.Prelude.{◌≡◌, ◌≢◌, ◌+◌, ◌-◌, ◌^◌, ◌<◌, ◌≤◌, ◌++◌, ℕ, List, length, drop, min, OnOk};
-ghost use Rattle.std.specs.List.{range_with_len};
-ghost use Rattle.fs_layout.specs.Super.{spell_super};
-ghost use Rattle.fs_layout.specs.Inode.{spell_dinode};
-ghost use Rattle.fs_layout.specs.Entry.{spell_dirent};
-ghost use Rattle.fs_layout.specs.Indirect.{spell_numbers};
-ghost use Rattle.fs_layout.specs.Name.{IsName};
-ghost use Rattle.fs_layout.specs.Widths.{addresses, block_len, numbers_per_block};
-ghost use Rattle.fs_layout.specs.declared.entry.Dirent.TheVariants.{Used};
+ghost use Rattle.mkfs.specs.Vocabulary.{range_with_len, spell_super, spell_dinode, spell_dirent, spell_numbers, IsName, addresses, block_len, numbers_per_block, Used, largest_size};
 ghost use Rattle.mkfs.specs.Image.{bitmap, inode_for, node_bytes, padded};
-ghost use Rattle.image_tree.specs.Checks.{largest_size};
 ghost use Rattle.mkfs.specs.Widths.{most_blocks};
 
 use crate::appends::{push_many, push_whole};

@@ -7,11 +7,10 @@
 
 use clap::ArgMatches;
 use clap::error::ErrorKind;
-use mkfs::{SaveRefused, read_at_most, save, shown};
 use mkfs::widths::{INODE_START, LARGEST_SIZE, LOG_BLOCKS};
 use mkfs::{
-    FILES, IMAGE, INODES, MakeRefused, NewFile, SIZE, data_start, is_file_name, make, number,
-    options,
+    FILES, IMAGE, INODES, MakeRefused, NewFile, SIZE, SaveRefused, data_start, is_file_name, make,
+    number, options, read_at_most, save, shown,
 };
 use std::alloc::{AllocError, Global};
 use std::process::ExitCode;

@@ -1,15 +1,5 @@
 -- An element that stands in a path.
-use Rattle.std.proofs.Common.{◌≡◌, ◌≢◌, ℕ, suc, ◌+◌, ◌-◌, ◌<◌, ◌≤◌, min, Bool, true, ◌&&◌, nat_lt, nat_le, not, eqb, List, [], ◌∷◌, length, take, drop, get_or, refl, ap, ◌∙◌, arith, ⊎_elim}
-use Rattle.std.specs.Prelude.{slice_range, All}
-use Rattle.std.specs.List.{list_all}
-use Rattle.std.proofs.lemmas.Bool.{cases_lt, and_from, not_from_false, ne_eqb, lt-ltb, le-leb}
-use Rattle.std.proofs.lemmas.List.{drop-drop, drop_all, take_all, get_or-take, get_or-drop, length-take-le, take-take}
-use Rattle.std.proofs.lemmas.List.Elements.{All-get_or}
-use Rattle.std.proofs.Common.{length-drop}
-use Rattle.path_walk.specs.Names.{is_name_byte}
-use Rattle.plain_tree.specs.Code.{with_element}
-use Rattle.plain_tree.specs.Tree.{Name, elements}
-use Rattle.path_walk.specs.Elements.{IsElement}
+use Rattle.path_walk.proofs.Vocabulary.{◌≡◌, ◌≢◌, ℕ, suc, ◌+◌, ◌-◌, ◌<◌, ◌≤◌, min, Bool, true, ◌&&◌, nat_lt, nat_le, not, eqb, List, [], ◌∷◌, length, take, drop, get_or, refl, ap, ◌∙◌, arith, ⊎_elim, slice_range, All, list_all, cases_lt, and_from, not_from_false, ne_eqb, lt-ltb, le-leb, drop-drop, drop_all, take_all, get_or-take, get_or-drop, length-take-le, take-take, All-get_or, length-drop, is_name_byte, with_element, Name, elements, IsElement}
 
 -- bytes that are there are an element
 some_element : (bytes : List ℕ) (es : List Name) → 0 < length bytes → with_element bytes es ≡ take 14 bytes ∷ es

@@ -1,14 +1,5 @@
 -- From element to element.
-use Rattle.std.proofs.Common.{◌≡◌, ℕ, List, ◌∷◌, drop, sym, ◌∙◌, ap}
-use Rattle.plain_tree.specs.Tree.{Name, elements}
-use Rattle.plain_tree.specs.declared.step.Action.{Action}
-use Rattle.atomic_programs.specs.Prog.{Do}
-use Rattle.path_walk.specs.Elements.{name_in}
-use Rattle.inode_machine.specs.Inodes.{AtName}
-use Rattle.inode_machine.specs.World.Op.{Take}
-use Rattle.inode_machine.specs.Parts.{looks_or_quits, walk_step}
-use Rattle.path_walk.specs.Walks.{After, onward, walk_of}
-use Rattle.path_walk.specs.declared.elements.Element.{Element}
+use Rattle.path_walk.proofs.Vocabulary.{◌≡◌, ℕ, List, ◌∷◌, drop, sym, ◌∙◌, ap, Name, elements, Action, Do, name_in, AtName, Take, looks_or_quits, walk_step, After, onward, walk_of, Element}
 use Rattle.path_walk.specs.declared.walk.Goal.TheVariants as goal
 use Rattle.path_walk.specs.declared.walk.Walk.TheVariants as walking
 

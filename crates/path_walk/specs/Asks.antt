@@ -1,22 +1,11 @@
 -- What a call in code asks and hears, in the words of the machine of whole inodes.
 use Rattle.std.specs.Prelude.{ℕ, Bool, true, false, List, [], ◌++◌, take, Option, Some, None}
-use Rattle.std.specs.Option.{option_map}
-use Rattle.plain_tree.specs.declared.step.Action.{Action}
+use Rattle.path_walk.specs.Vocabulary.{option_map, Action, Cause, BadDescriptor, piece, Reply, CallAnswer, Call, Ret, Do, Op, Answer, P, file_for}
 use Rattle.plain_tree.specs.declared.step.Action.TheVariants as steps
-use Rattle.plain_tree.specs.declared.answer.Cause.{Cause}
-use Rattle.plain_tree.specs.declared.answer.Cause.TheVariants.{BadDescriptor}
-use Rattle.plain_tree.specs.Calls.{piece}
-use Rattle.plain_tree.specs.declared.answer.Reply.{Reply}
-use Rattle.plain_tree.specs.declared.answer.Answer.{Answer as CallAnswer}
-use Rattle.plain_tree.specs.declared.call.Call.{Call}
-use Rattle.atomic_programs.specs.Prog.{Ret, Do}
 use Rattle.path_walk.specs.Elements.{name_in, IsElement, IsInOne}
 use Rattle.inode_machine.specs.Inodes as whole
 use Rattle.tree_laws.specs.Moves as moves
 use Rattle.inode_machine.specs.World as world
-use Rattle.inode_machine.specs.World.{Op, Answer}
-use Rattle.inode_machine.specs.Parts.{P}
-use Rattle.inode_machine.specs.Opening.{file_for}
 use Rattle.path_walk.specs.declared.asks.Claimed.{Claimed}
 use Rattle.path_walk.specs.declared.asks.Claimed.TheVariants as claimed
 use Rattle.path_walk.specs.declared.asks.Entered.{Entered}

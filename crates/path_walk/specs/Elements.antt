@@ -1,7 +1,7 @@
 -- The elements of a path, where they stand in it.
 use Rattle.std.specs.Prelude.{ℕ, ◌+◌, ◌≤◌, ◌⊎◌, List, [], ◌∷◌, length, slice_range, Option, Some, None}
 use Rattle.path_walk.specs.Names.{IsName}
-use Rattle.plain_tree.specs.Tree.{Name}
+use Rattle.path_walk.specs.Vocabulary.{Name}
 use Rattle.path_walk.specs.declared.elements.Element.{Element}
 
 -- bytes of the longest path, and the elements that it has at most

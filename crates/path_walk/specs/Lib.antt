@@ -1,3 +1,4 @@
+pub mod Vocabulary
 pub mod Asks
 pub mod Elements
 pub mod Names

@@ -1,7 +1,6 @@
 -- The name of a directory's element.
 use Rattle.std.specs.Prelude.{ℕ, ◌==◌, ◌&&◌, nat_lt, nat_le, not, Bool, IsTrue, List, length}
-use Rattle.std.specs.List.{list_all}
-use Rattle.plain_tree.specs.Widths.{name_len}
+use Rattle.path_walk.specs.Vocabulary.{list_all, name_len}
 
 abbrev pub slash : ℕ
 slash = 47

@@ -1,15 +1,8 @@
 -- What is left of a walk.
 use Rattle.std.specs.Prelude.{◌≤◌, ℕ, ◌+◌, List, [], ◌∷◌, drop, length, Option, Some, None, IfSome}
-use Rattle.std.specs.Option.{option_map}
-use Rattle.plain_tree.specs.Tree.{Name, elements}
-use Rattle.plain_tree.specs.declared.answer.Reply.{Reply}
-use Rattle.plain_tree.specs.declared.step.Action.{Action}
-use Rattle.atomic_programs.specs.Prog.{Do, unmarked}
+use Rattle.path_walk.specs.Vocabulary.{option_map, Name, elements, Reply, Action, Do, unmarked, AtName, Take, Give, WalkDown, P, leave_directory, looks_or_quits, see_parent, start, walk, walk_parent, walk_step, with_last}
 use Rattle.path_walk.specs.Elements.{name_in, IsElement}
-use Rattle.inode_machine.specs.Inodes.{AtName}
-use Rattle.inode_machine.specs.World.Op.{Take, Give, WalkDown}
 use Rattle.inode_machine.specs.Parts as parts
-use Rattle.inode_machine.specs.Parts.{P, leave_directory, looks_or_quits, see_parent, start, walk, walk_parent, walk_step, with_last}
 use Rattle.path_walk.specs.declared.walk.Goal.{Goal}
 use Rattle.path_walk.specs.declared.walk.Goal.TheVariants as goal
 use Rattle.path_walk.specs.declared.walk.Lost.{Lost}

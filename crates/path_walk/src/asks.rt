@@ -1,8 +1,6 @@
 //! What a call asks of whole inodes, and what it hears.
 ghost use Rattle.std.specs.Prelude.{◌≡◌, ◌<◌, ◌+◌, ◌^◌, ◌++◌, ℕ, List, length, false};
-ghost use Rattle.plain_tree.specs.declared.answer.Reply.{Reply};
-ghost use Rattle.plain_tree.specs.declared.call.Call.{Call};
-ghost use Rattle.inode_machine.specs.Parts.{P};
+ghost use Rattle.path_walk.specs.Vocabulary.{Reply, Call, P};
 ghost use Rattle.path_walk.specs.declared.asks.Turn.TheVariants as turns;
 ghost use Rattle.path_walk.specs.Asks.{at_in, bool_in, checked_in, claimed_in, claimed_of, count_in, doubled_in, entered_in, entered_of, face_in_stat, joined_in, joined_of, loan_in, loan_of, locked_in, locked_of, number_in, op_in, shut_in, sight_in, sight_of, start_in, stepped, turned, with_face, wrote_in, wrote_of, IsNamed, IsNamedInTwo, OnlySeeks};
 

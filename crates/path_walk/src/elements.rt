@@ -1,7 +1,6 @@
 //! The elements of a path, which stay where they are in it.
 ghost use Rattle.std.specs.Prelude.{◌≡◌, ◌≢◌, ◌+◌, ◌<◌, ◌≤◌, ◌^◌, ℕ, [], ◌∷◌, length, take, drop, slice_index, All, IfSome, MatchOption};
-ghost use Rattle.plain_tree.specs.Code.{with_element};
-ghost use Rattle.plain_tree.specs.Tree.{elements, is_absolute};
+ghost use Rattle.path_walk.specs.Vocabulary.{with_element, elements, is_absolute};
 ghost use Rattle.path_walk.specs.Elements.{name_in, shifted, IsElement};
 
 const NAME_LEN: usize = 14;

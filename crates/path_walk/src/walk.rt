@@ -1,12 +1,8 @@
 //! A path walked, from directory to directory.
 ghost use Rattle.std.specs.Prelude.{◌≡◌, ◌≢◌, ◌≤◌, ◌+◌, ℕ, All, List, Option, Some, drop, length};
-ghost use Rattle.plain_tree.specs.Tree.{elements};
-ghost use Rattle.plain_tree.specs.declared.step.Action.{Action};
+ghost use Rattle.path_walk.specs.Vocabulary.{elements, Action, is_directory_face, is_live_face, face_or, Call, stopped};
 ghost use Rattle.path_walk.specs.Asks.{asks, hears, mark_at, marked_as, op_in, sight_of, reply_to, face_of, IsNamed, OnlySeeks};
 ghost use Rattle.path_walk.specs.Walks.{After, Stands, StandsAt, elements_from, most_left, most_walked, onward, walk_of, walked_to, most_next, next_of, next_stands, stop_of};
-ghost use Rattle.inode_machine.specs.Inodes.{is_directory_face, is_live_face, face_or};
-ghost use Rattle.plain_tree.specs.declared.call.Call.{Call};
-ghost use Rattle.inode_machine.specs.Parts.{stopped};
 
 use crate::asks::{Ask, Face, Heard, Mark, Query, Sight, Sort};
 use crate::elements::{Element, is_absolute, next_element};

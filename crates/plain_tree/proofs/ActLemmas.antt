@@ -1,19 +1,5 @@
 -- What a step makes of a tree, from its parts.
-use Rattle.std.proofs.Common.{◌≡◌, ◌≢◌, ℕ, ◌+◌, ◌-◌, ◌^◌, ◌<◌, Bool, true, false, ◌||◌, not, nat_lt, List, inl, inr, refl, sym, ◌∙◌, ap, subst, Option, Some, None, if◌then◌else◌, arith}
-use Rattle.std.proofs.Math.Path.{fun_ext}
-use Rattle.std.proofs.lemmas.Bool.{cases_Bool}
-use Rattle.std.proofs.lemmas.Bool.Decides.{nat_tests}
-use Rattle.plain_tree.specs.declared.answer.Cause.TheVariants.{TooManyLinks}
-use Rattle.plain_tree.specs.declared.node.Node.{Node}
-use Rattle.plain_tree.specs.declared.node.Kind.TheVariants.{Directory}
-use Rattle.plain_tree.specs.declared.tree.OpenFile.{OpenFile}
-use Rattle.plain_tree.specs.declared.tree.Hold.{Hold}
-use Rattle.plain_tree.specs.declared.tree.OpenFileEntry.{OpenFileEntry}
-use Rattle.plain_tree.specs.declared.step.Action.TheVariants.{Dup, Close, Inherit}
-use Rattle.plain_tree.specs.declared.step.StepAnswer.{StepAnswer}
-use Rattle.plain_tree.specs.Tree.{Name, Tree, file_in, is_directory, live_directory, look, put, slots_of}
-use Rattle.plain_tree.specs.Steps.{at_hold, at_node, bump_refusal, cleared, emptied, lowered, raise_hold, raised, read_refusal, removed, removed_child, truncated, mkdir_refusal, name_taken, or_else, fd_refusal, file_at, has, has_room, is_nothing, lowest, node_or, node_at, place_of, read_write, refusal_with, with_file, with_nodes, write_only}
-use Rattle.plain_tree.specs.Code.{Advances, EndsWithin, HasFiles, read_count}
+use Rattle.plain_tree.proofs.Vocabulary.{◌≡◌, ◌≢◌, ℕ, ◌+◌, ◌-◌, ◌^◌, ◌<◌, Bool, true, false, ◌||◌, not, nat_lt, List, inl, inr, refl, sym, ◌∙◌, ap, subst, Option, Some, None, if◌then◌else◌, arith, fun_ext, cases_Bool, nat_tests, TooManyLinks, Node, Directory, OpenFile, Hold, OpenFileEntry, Dup, Close, Inherit, StepAnswer, Name, Tree, file_in, is_directory, live_directory, look, put, slots_of, at_hold, at_node, bump_refusal, cleared, emptied, lowered, raise_hold, raised, read_refusal, removed, removed_child, truncated, mkdir_refusal, name_taken, or_else, fd_refusal, file_at, has, has_room, is_nothing, lowest, node_or, node_at, place_of, read_write, refusal_with, with_file, with_nodes, write_only, Advances, EndsWithin, HasFiles, read_count}
 use Rattle.plain_tree.proofs.TreeLemmas.{put_same, put_other}
 
 pub given_file : (t t1 t2 : Tree) (ns : ℕ → Option Node) (h id n flags : ℕ) (es : List OpenFileEntry) → t1 ≡ with_nodes t ns → has_room (t.fds h) ≡ true

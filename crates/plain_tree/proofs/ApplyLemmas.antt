@@ -1,15 +1,5 @@
 -- A step, from the parts that the code found.
-use Rattle.std.proofs.Common.{◌≡◌, ℕ, ◌<◌, ◌≤◌, true, false, nat_lt, refl, arith, Option}
-use Rattle.std.proofs.lemmas.Bool.Decides.{nat_tests}
-use Rattle.plain_tree.specs.declared.answer.Cause.TheVariants.{BadDescriptor}
-use Rattle.plain_tree.specs.declared.step.Action.{Action}
-use Rattle.plain_tree.specs.declared.step.Action.TheVariants.{Open, Truncate, Read, WritePart, Find, Bump, Enter, Unbump, Unlink, Mkdir, Chdir, Dup, Close, Fstat, Inherit}
-use Rattle.plain_tree.specs.declared.step.TreeStep.{TreeStep}
-use Rattle.plain_tree.specs.declared.step.StepAnswer.{StepAnswer}
-use Rattle.plain_tree.specs.declared.step.StepAnswer.TheVariants.{Failed}
-use Rattle.plain_tree.specs.Tree.{Name, Tree, parent}
-use Rattle.plain_tree.specs.Steps.{path_of, place_of, makes_node}
-use Rattle.plain_tree.specs.Applied.{out_of_place, IsAppliedAt}
+use Rattle.plain_tree.proofs.Vocabulary.{◌≡◌, ℕ, ◌<◌, ◌≤◌, true, false, nat_lt, refl, arith, Option, nat_tests, BadDescriptor, Action, Open, Truncate, Read, WritePart, Find, Bump, Enter, Unbump, Unlink, Mkdir, Chdir, Dup, Close, Fstat, Inherit, TreeStep, StepAnswer, Failed, Name, Tree, parent, path_of, place_of, makes_node, out_of_place, IsAppliedAt}
 
 hart_true : (h : ℕ) → h < 8 → nat_lt h 8 ≡ true
 hart_true h lt = grind (arith, nat_tests)

@@ -1,9 +1,5 @@
 -- The check of a list, entry after entry.
-use Rattle.std.proofs.Common.{◌≡◌, ℕ, suc, ◌+◌, ◌<◌, ◌≤◌, Bool, true, false, List, [], ◌∷◌, length, drop, get_or, refl, sym, ◌∙◌, ap, subst, arith, add-one, drop-cons, IsTrue, ◌↔◌}
-use Rattle.std.proofs.lemmas.List.{drop_all}
-use Rattle.plain_tree.specs.declared.trace.Trace.{Trace}
-use Rattle.plain_tree.specs.declared.trace.Placed.{Placed}
-use Rattle.plain_tree.specs.Explains.{AllBelong, Belongs, Rises}
+use Rattle.plain_tree.proofs.Vocabulary.{◌≡◌, ℕ, suc, ◌+◌, ◌<◌, ◌≤◌, Bool, true, false, List, [], ◌∷◌, length, drop, get_or, refl, sym, ◌∙◌, ap, subst, arith, add-one, drop-cons, IsTrue, ◌↔◌, drop_all, Trace, Placed, AllBelong, Belongs, Rises}
 
 pub refuted : (P : Type 0) → (P → ⊥) → IsTrue false ↔ P
 refuted P not_so = (λ f. absurd cc, λ p. absurd (not_so p))

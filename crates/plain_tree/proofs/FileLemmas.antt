@@ -1,13 +1,5 @@
 -- Open files that no descriptor has leave the tree one after another.
-use Rattle.std.proofs.Common.{◌≡◌, ◌≢◌, ℕ, zero, suc, ◌<◌, true, false, List, [], ◌∷◌, length, get_or, inl, inr, refl, sym, ◌∙◌, ap, arith, Option, Some, None, remove}
-use Rattle.std.proofs.Math.Path.{fun_ext}
-use Rattle.std.proofs.lemmas.Bool.{cases_eq, cases_Bool}
-use Rattle.plain_tree.specs.declared.tree.OpenFile.{OpenFile}
-use Rattle.plain_tree.specs.declared.tree.OpenFileEntry.{OpenFileEntry}
-use Rattle.plain_tree.specs.TreeData.{TreeData}
-use Rattle.plain_tree.specs.Tree.{Tree, tree_of, file_in}
-use Rattle.plain_tree.specs.Steps.{has_fd, closed}
-use Rattle.plain_tree.specs.Code.{IsOrphan}
+use Rattle.plain_tree.proofs.Vocabulary.{◌≡◌, ◌≢◌, ℕ, zero, suc, ◌<◌, true, false, List, [], ◌∷◌, length, get_or, inl, inr, refl, sym, ◌∙◌, ap, arith, Option, Some, None, remove, fun_ext, cases_eq, cases_Bool, OpenFile, OpenFileEntry, TreeData, Tree, tree_of, file_in, has_fd, closed, IsOrphan}
 use Rattle.plain_tree.proofs.TreeLemmas.{file_first, file_later}
 
 removed_other : (es : List OpenFileEntry) (i k : ℕ) (d : OpenFileEntry) → i < length es → (get_or es i d).id ≢ k → file_in (remove es i) k ≡ file_in es k

@@ -1,14 +1,5 @@
 -- A step that leads on with its answer, and a list of them.
-use Rattle.std.proofs.Common.{◌≡◌, ℕ, suc, ◌+◌, ◌<◌, ◌≤◌, Bool, true, false, ◌↔◌, IsTrue, List, [], ◌∷◌, refl, sym, ◌∙◌, ap, subst, drop, length, get_or, add-one, drop-cons}
-use Rattle.std.proofs.lemmas.List.{drop_all}
-use Rattle.plain_tree.specs.declared.step.TreeStep.{TreeStep}
-use Rattle.plain_tree.specs.declared.step.StepAnswer.{StepAnswer}
-use Rattle.plain_tree.specs.declared.trace.Placed.{Placed}
-use Rattle.plain_tree.specs.Tree.{Tree}
-use Rattle.plain_tree.specs.Steps.{Step, IsInPlace}
-use Rattle.plain_tree.specs.Applied.{IsApplied}
-use Rattle.plain_tree.specs.Explains.{Chain}
-use Rattle.plain_tree.specs.Checked.{Leads, LeadsOn}
+use Rattle.plain_tree.proofs.Vocabulary.{◌≡◌, ℕ, suc, ◌+◌, ◌<◌, ◌≤◌, Bool, true, false, ◌↔◌, IsTrue, List, [], ◌∷◌, refl, sym, ◌∙◌, ap, subst, drop, length, get_or, add-one, drop-cons, drop_all, TreeStep, StepAnswer, Placed, Tree, Step, IsInPlace, IsApplied, Chain, Leads, LeadsOn}
 use Rattle.plain_tree.proofs.StepLaws.{step_taken, applied_step, step_one}
 
 -- the step was made and answered b

@@ -1,3 +1,5 @@
+pub mod Lemmas
+pub mod Vocabulary
 pub mod Maps
 pub mod PathLemmas
 pub mod SlotLemmas

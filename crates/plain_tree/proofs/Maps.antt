@@ -1,8 +1,5 @@
 -- Maps, and tests on all harts.
-use Rattle.std.proofs.Common.{◌≡◌, ◌≢◌, ℕ, zero, suc, ◌<◌, Bool, true, false, ◌&&◌, ◌||◌, ◌==◌, ◌⊎◌, inl, inr, refl, sym, subst, arith}
-use Rattle.std.proofs.lemmas.Bool.Decides.{nat_tests}
-use Rattle.plain_tree.specs.Tree.{put}
-use Rattle.plain_tree.specs.Tree.{any_below}
+use Rattle.plain_tree.proofs.Vocabulary.{◌≡◌, ◌≢◌, ℕ, zero, suc, ◌<◌, Bool, true, false, ◌&&◌, ◌||◌, ◌==◌, ◌⊎◌, inl, inr, refl, sym, subst, arith, nat_tests, put, any_below}
 
 pub eq_self : (k : ℕ) → (k == k) ≡ true
 eq_self k = grind (arith, nat_tests)

@@ -1,17 +1,5 @@
 -- Marks on the numbers that paths from the root lead to.
-use Rattle.std.proofs.Common.{◌≡◌, ◌≢◌, ℕ, zero, suc, ◌+◌, ◌<◌, ◌≤◌, Bool, true, false, ◌&&◌, List, [], ◌∷◌, ◌++◌, length, get_or, ◌==◌, ◌⊎◌, inl, inr, refl, sym, ◌∙◌, ap, subst, arith, Option, Some, None, if◌then◌else◌, replicate, get_or-set_other, get_or-set_same}
-use Rattle.std.proofs.Math.ListN.{set, length-set, get_or-eq_default}
-use Rattle.std.proofs.lemmas.Bool.{cases_eq, cases_Bool}
-use Rattle.std.proofs.lemmas.Bool.Decides.{nat_tests}
-use Rattle.plain_tree.specs.declared.node.Node.{Node}
-use Rattle.plain_tree.specs.declared.node.Slot.{Slot}
-use Rattle.plain_tree.specs.TreeData.{TreeData}
-use Rattle.plain_tree.specs.Tree.{Name, Tree, tree_of, same_name, first_slot, look, follow, and_then, file_in, resting}
-use Rattle.plain_tree.specs.Explains.{IsReached, IsNamedPart}
-use Rattle.plain_tree.specs.Marks.{FindsMarked, IsClosed, IsNext, MarksReached, MarksAll, is_marked}
-use Rattle.plain_tree.specs.Fresh.{at_rest, fresh_hart}
-use Rattle.plain_tree.specs.declared.tree.Hart.{Hart}
-use Rattle.plain_tree.specs.Widths.{root, hart_count, descriptor_count}
+use Rattle.plain_tree.proofs.Vocabulary.{◌≡◌, ◌≢◌, ℕ, zero, suc, ◌+◌, ◌<◌, ◌≤◌, Bool, true, false, ◌&&◌, List, [], ◌∷◌, ◌++◌, length, get_or, ◌==◌, ◌⊎◌, inl, inr, refl, sym, ◌∙◌, ap, subst, arith, Option, Some, None, if◌then◌else◌, replicate, get_or-set_other, get_or-set_same, set, length-set, get_or-eq_default, cases_eq, cases_Bool, nat_tests, Node, Slot, TreeData, Name, Tree, tree_of, same_name, first_slot, look, follow, and_then, file_in, resting, IsReached, IsNamedPart, FindsMarked, IsClosed, IsNext, MarksReached, MarksAll, is_marked, at_rest, fresh_hart, Hart, root, hart_count, descriptor_count}
 
 eq_of : (x y : ℕ) → (x == y) ≡ true → x ≡ y
 eq_of x y h = grind (arith, nat_tests)

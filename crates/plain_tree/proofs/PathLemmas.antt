@@ -1,11 +1,6 @@
 -- The elements of a path, found byte by byte.
-use Rattle.std.proofs.Common.{◌≡◌, ◌≢◌, ℕ, suc, ◌+◌, ◌<◌, ◌≤◌, true, false, ◌&&◌, List, [], ◌∷◌, ◌++◌, length, take, drop, map, filter, get_or, ◌==◌, refl, sym, ◌∙◌, ap, not, arith, add-one, drop-cons, nat_eq}
-use Rattle.std.proofs.lemmas.List.{take_more, drop_all, take_all}
+use Rattle.plain_tree.proofs.Vocabulary.{◌≡◌, ◌≢◌, ℕ, suc, ◌+◌, ◌<◌, ◌≤◌, true, false, ◌&&◌, List, [], ◌∷◌, ◌++◌, length, take, drop, map, filter, get_or, ◌==◌, refl, sym, ◌∙◌, ap, not, arith, add-one, drop-cons, nat_eq, take_more, drop_all, take_all, nat_tests, Name, pieces, elements, is_empty, same_name, with_element, name_len}
 use lib.Pointwise.{pointwise}
-use Rattle.std.proofs.lemmas.Bool.Decides.{nat_tests}
-use Rattle.plain_tree.specs.Tree.{Name, pieces, elements, is_empty, same_name}
-use Rattle.plain_tree.specs.Code.{with_element}
-use Rattle.plain_tree.specs.Widths.{name_len}
 
 other_byte : (x : ℕ) → x ≢ 47 → (x == 47) ≡ false
 other_byte x ne = grind (arith, nat_tests)

@@ -1,22 +1,6 @@
 -- What comes next of a call depends only on how many of its steps acted, and on the last answer.
-use Rattle.std.proofs.Common.{◌≡◌, ◌≢◌, ℕ, suc, ◌+◌, ◌<◌, ◌≤◌, Bool, true, false, nat_lt, List, [], ◌∷◌, ◌++◌, length, ◌==◌, refl, sym, ◌∙◌, ap, subst, not, Decides, take, drop, get_or, append_assoc, drop-cons, inl, inr, arith, Option, Some, None, if◌then◌else◌}
-use Rattle.std.proofs.lemmas.List.{append-nil, length_push, take-append-drop, take_all, take_more}
-use Rattle.std.proofs.lemmas.Bool.{cases_Bool}
-use Rattle.std.proofs.lemmas.Bool.Decides.{nat_tests}
-use Rattle.plain_tree.specs.declared.answer.Cause.{Cause}
-use Rattle.plain_tree.specs.declared.call.Call.{Call}
-use Rattle.plain_tree.specs.declared.call.Call.TheVariants.{Open, Read, Write, Link, Unlink, Mkdir, Chdir, Dup, Fstat, Close, Inherit}
-use Rattle.plain_tree.specs.declared.step.Action.{Action}
-use Rattle.plain_tree.specs.declared.step.Action.TheVariants.{Bump as BumpStep, Enter as EnterStep, Unbump as UnbumpStep, WritePart as WritePartStep}
-use Rattle.plain_tree.specs.declared.step.StepAnswer.{StepAnswer}
-use Rattle.plain_tree.specs.declared.step.StepAnswer.TheVariants.{Opened, Bytes, Stat as Status, Fd as NewFd, Done, Failed, Full as NoRoom}
-use Rattle.plain_tree.specs.declared.trace.Placed.{Placed}
-use Rattle.plain_tree.specs.declared.progress.Last.TheVariants.{Nothing}
-use Rattle.plain_tree.specs.declared.progress.Progress.{Progress}
-use Rattle.plain_tree.specs.Explains.{act_of, acts_of}
-use Rattle.plain_tree.specs.Steps.{has, empty_it, is_nothing}
-use Rattle.plain_tree.specs.Calls.{Act, Follows, cause_of, if_done, if_failed, last_cause, next_link, next_of, next_open, next_piece, once, piece, piece_count, to_truncate}
-use Rattle.plain_tree.specs.Progress.{has_failed, is_done, last_of, link_next, next_at, next_where, only_next, open_next, progress_of, said, truncate_next}
+use Rattle.plain_tree.proofs.Vocabulary.{◌≡◌, ◌≢◌, ℕ, suc, ◌+◌, ◌<◌, ◌≤◌, Bool, true, false, nat_lt, List, [], ◌∷◌, ◌++◌, length, ◌==◌, refl, sym, ◌∙◌, ap, subst, not, Decides, take, drop, get_or, append_assoc, drop-cons, inl, inr, arith, Option, Some, None, if◌then◌else◌, length_push, take-append-drop, take_all, take_more, cases_Bool, nat_tests, Cause, Call, OpenCall as Open, ReadCall as Read, Write, Link, UnlinkCall as Unlink, MkdirCall as Mkdir, ChdirCall as Chdir, DupCall as Dup, FstatCall as Fstat, CloseCall as Close, InheritCall as Inherit, Action, Bump as BumpStep, Enter as EnterStep, Unbump as UnbumpStep, WritePart as WritePartStep, StepAnswer, Opened, Bytes, Status, NewFd, Done, Failed, NoRoom, Placed, Nothing, Progress, act_of, acts_of, has, empty_it, is_nothing, Act, Follows, cause_of, if_done, if_failed, last_cause, next_link, next_of, next_open, next_piece, once, piece, piece_count, to_truncate, has_failed, is_done, last_of, link_next, next_at, next_where, only_next, open_next, progress_of, said, truncate_next}
+use Rattle.std.proofs.lemmas.List.{append-nil}
 
 equal_not : (m n : ℕ) → m ≢ n → (m == n) ≡ false
 equal_not m n ne = grind (arith, nat_tests)

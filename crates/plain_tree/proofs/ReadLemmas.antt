@@ -1,11 +1,5 @@
 -- What the code's searches find.
-use Rattle.std.proofs.Common.{◌≡◌, ℕ, zero, suc, ◌+◌, ◌-◌, ◌<◌, ◌≤◌, Bool, true, false, List, length, drop, ◌||◌, nat_lt, inl, inr, add-one, refl, sym, ◌∙◌, ap, arith, Option, Some}
-use Rattle.std.proofs.lemmas.List.{drop_all}
-use Rattle.std.proofs.lemmas.Bool.{cases_eq}
-use Rattle.std.proofs.lemmas.Bool.Decides.{nat_tests}
-use Rattle.plain_tree.specs.declared.node.Slot.{Slot}
-use Rattle.plain_tree.specs.Tree.{any_below}
-use Rattle.plain_tree.specs.Steps.{any_used, lowest_from}
+use Rattle.plain_tree.proofs.Vocabulary.{◌≡◌, ℕ, zero, suc, ◌+◌, ◌-◌, ◌<◌, ◌≤◌, Bool, true, false, List, length, drop, ◌||◌, nat_lt, inl, inr, add-one, refl, sym, ◌∙◌, ap, arith, Option, Some, drop_all, cases_eq, nat_tests, Slot, any_below, any_used, lowest_from}
 
 pub few_unused : (ss : List (Option Slot)) → length ss ≤ 2 → any_used (drop 2 ss) ≡ false
 unfolding any_used

@@ -1,15 +1,5 @@
 -- What a list has of a call, entry after entry, and the reply that it makes.
-use Rattle.std.proofs.Common.{◌≡◌, ◌≢◌, ℕ, ◌+◌, ◌<◌, ◌≤◌, Bool, true, false, List, [], ◌∷◌, length, drop, get_or, ◌==◌, refl, sym, ◌∙◌, ap, arith, Some, None}
-use Rattle.std.proofs.lemmas.List.{drop_all}
-use Rattle.std.proofs.lemmas.Bool.Decides.{nat_tests}
-use Rattle.plain_tree.specs.declared.answer.Cause.{Cause}
-use Rattle.plain_tree.specs.declared.step.Action.{Action}
-use Rattle.plain_tree.specs.declared.step.StepAnswer.{StepAnswer}
-use Rattle.plain_tree.specs.declared.step.StepAnswer.TheVariants.{Opened, Bytes, Stat as Status, Fd as NewFd, Done, Failed, Full as NoRoom}
-use Rattle.plain_tree.specs.declared.trace.Placed.{Placed}
-use Rattle.plain_tree.specs.Calls.{Act, cause_of, first_cause, had_room}
-use Rattle.plain_tree.specs.Checked.{is_full}
-use Rattle.plain_tree.specs.Explains.{act_of, acts_of}
+use Rattle.plain_tree.proofs.Vocabulary.{◌≡◌, ◌≢◌, ℕ, ◌+◌, ◌<◌, ◌≤◌, Bool, true, false, List, [], ◌∷◌, length, drop, get_or, ◌==◌, refl, sym, ◌∙◌, ap, arith, Some, None, drop_all, nat_tests, Cause, Action, StepAnswer, Opened, Bytes, Status, NewFd, Done, Failed, NoRoom, Placed, Act, cause_of, first_cause, had_room, is_full, act_of, acts_of}
 use Rattle.plain_tree.proofs.CheckLemmas.{drop_at}
 
 same_number : (x y : ℕ) → x ≡ y → (x == y) ≡ true

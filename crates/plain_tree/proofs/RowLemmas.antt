@@ -1,11 +1,5 @@
 -- What a hart's row says of the tree.
-use Rattle.std.proofs.Common.{◌≡◌, ℕ, ◌<◌, Bool, true, false, ◌&&◌, ◌||◌, ◌==◌, nat_lt, Option, Some, None, refl, sym, ◌∙◌, ap, arith, if◌then◌else◌}
-use Rattle.std.proofs.lemmas.Bool.Decides.{nat_tests}
-use Rattle.plain_tree.specs.declared.tree.OpenFile.{OpenFile}
-use Rattle.plain_tree.specs.Widths.{hart_count, descriptor_count}
-use Rattle.plain_tree.specs.Tree.{Tree, any_below, hold_names, fd_names, file_names, is_named}
-use Rattle.plain_tree.specs.Steps.{file_at}
-use Rattle.plain_tree.specs.HartRow.{Key, key_is, key_of, key_at, key_names, row_of, row_names}
+use Rattle.plain_tree.proofs.Vocabulary.{◌≡◌, ℕ, ◌<◌, Bool, true, false, ◌&&◌, ◌||◌, ◌==◌, nat_lt, Option, Some, None, refl, sym, ◌∙◌, ap, arith, if◌then◌else◌, nat_tests, OpenFile, hart_count, descriptor_count, Tree, any_below, hold_names, fd_names, file_names, is_named, file_at, Key, key_is, key_of, key_at, key_names, row_of, row_names}
 use Rattle.plain_tree.proofs.Maps.{and_true, any_same}
 
 -- a key names what the descriptor does

@@ -1,16 +1,5 @@
 -- A step of one hart leaves the rows of the others.
-use Rattle.std.proofs.Common.{◌≡◌, ◌≢◌, inl, inr, ℕ, ◌+◌, ◌<◌, Bool, true, false, ◌&&◌, ◌==◌, nat_lt, List, [], ◌∷◌, length, Option, Some, None, refl, sym, ◌∙◌, ap, if◌then◌else◌}
-use Rattle.plain_tree.specs.declared.tree.OpenFile.{OpenFile}
-use Rattle.plain_tree.specs.declared.tree.Hold.{Hold}
-use Rattle.plain_tree.specs.declared.step.Action.{Action}
-use Rattle.plain_tree.specs.declared.step.TreeStep.{TreeStep}
-use Rattle.plain_tree.specs.declared.step.StepAnswer.{StepAnswer}
-use Rattle.plain_tree.specs.declared.step.StepAnswer.TheVariants.{Failed}
-use Rattle.plain_tree.specs.declared.step.Action.TheVariants.{Open, Truncate, Read, WritePart, Find, Bump, Enter, Unbump, Unlink, Mkdir, Chdir, Dup, Close, Fstat, Inherit}
-use Rattle.plain_tree.specs.Widths.{hart_count, descriptor_count}
-use Rattle.plain_tree.specs.Tree.{Name, Tree, put, and_then, any_below, look, parent, resolve}
-use Rattle.plain_tree.specs.Steps.{at_dir, at_hold, closed, creates, drop_hold, effect_with, enter_hold, entered, file_at, has_fd, has_room, held, lowered, lowest, made, moved, new_file, opened_at, opened_in, opened_new, opens_one, part, path_of, raise_hold, raised, refused, removed, removed_child, truncated, with_file, with_nodes, written, wrote, Step}
-use Rattle.plain_tree.specs.HartRow.{key_at, key_of, row_of}
+use Rattle.plain_tree.proofs.Vocabulary.{◌≡◌, ◌≢◌, inl, inr, ℕ, ◌+◌, ◌<◌, Bool, true, false, ◌&&◌, ◌==◌, nat_lt, List, [], ◌∷◌, length, Option, Some, None, refl, sym, ◌∙◌, ap, if◌then◌else◌, OpenFile, Hold, Action, TreeStep, StepAnswer, Failed, Open, Truncate, Read, WritePart, Find, Bump, Enter, Unbump, Unlink, Mkdir, Chdir, Dup, Close, Fstat, Inherit, hart_count, descriptor_count, Name, Tree, put, and_then, any_below, look, parent, resolve, at_dir, at_hold, closed, creates, drop_hold, effect_with, enter_hold, entered, file_at, has_fd, has_room, held, lowered, lowest, made, moved, new_file, opened_at, opened_in, opened_new, opens_one, part, path_of, raise_hold, raised, refused, removed, removed_child, truncated, with_file, with_nodes, written, wrote, Step, key_at, key_of, row_of}
 use Rattle.plain_tree.specs.Laws.{HasFiles}
 use Rattle.plain_tree.proofs.Maps.{any_at, either, eq_self, put_is, put_other}
 use Rattle.plain_tree.proofs.RowLemmas.{less_is}

@@ -1,14 +1,5 @@
 -- Nodes that nothing keeps leave the tree one after another.
-use Rattle.std.proofs.Common.{◌≡◌, ◌≢◌, ℕ, zero, suc, ◌+◌, ◌<◌, ◌≤◌, Bool, true, false, ◌||◌, ◌&&◌, not, ◌==◌, nat_lt, length, ◌⊎◌, inl, inr, refl, sym, ◌∙◌, ap, subst, arith, Option, Some, None, cond}
-use Rattle.std.proofs.Math.Path.{fun_ext}
-use Rattle.std.proofs.Math.ListN.{get_or-eq_default}
-use Rattle.std.proofs.lemmas.Bool.{cases_eq, cases_Bool}
-use Rattle.std.proofs.lemmas.Bool.Decides.{nat_tests}
-use Rattle.plain_tree.specs.declared.node.Node.{Node}
-use Rattle.plain_tree.specs.TreeData.{TreeData}
-use Rattle.plain_tree.specs.Tree.{Tree, tree_of, is_live, is_named, put, settle}
-use Rattle.plain_tree.specs.Steps.{with_nodes}
-use Rattle.plain_tree.specs.Code.{is_lost, lost_of, settled_below}
+use Rattle.plain_tree.proofs.Vocabulary.{◌≡◌, ◌≢◌, ℕ, zero, suc, ◌+◌, ◌<◌, ◌≤◌, Bool, true, false, ◌||◌, ◌&&◌, not, ◌==◌, nat_lt, length, ◌⊎◌, inl, inr, refl, sym, ◌∙◌, ap, subst, arith, Option, Some, None, cond, fun_ext, get_or-eq_default, cases_eq, cases_Bool, nat_tests, Node, TreeData, Tree, tree_of, is_live, is_named, put, settle, with_nodes, is_lost, lost_of, settled_below}
 use Rattle.plain_tree.proofs.TreeLemmas.{put_same, put_other}
 
 pub named_with : (t : Tree) (ns : ℕ → Option Node) (n : ℕ) → is_named (with_nodes t ns) n ≡ is_named t n

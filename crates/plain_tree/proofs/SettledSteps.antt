@@ -1,20 +1,5 @@
 -- A step of a settled tree is that of the unsettled one.
-use Rattle.std.proofs.Common.{◌≡◌, ◌≢◌, ◌⊎◌, inl, inr, ℕ, ◌+◌, ◌-◌, ◌<◌, Bool, true, false, ◌&&◌, ◌||◌, not, ◌==◌, nat_lt, List, [], ◌∷◌, length, take, drop, Option, Some, None, refl, sym, ◌∙◌, ap, subst, if◌then◌else◌}
-use Rattle.plain_tree.specs.declared.answer.Cause.{Cause}
-use Rattle.plain_tree.specs.declared.answer.Cause.TheVariants.{IsDirectory, BadMode, TooManyLinks, DotName, NotDirectory}
-use Rattle.plain_tree.specs.declared.answer.Full.TheVariants.{Descriptors}
-use Rattle.plain_tree.specs.declared.node.Node.{Node}
-use Rattle.plain_tree.specs.declared.node.Kind.TheVariants.{Directory}
-use Rattle.plain_tree.specs.declared.tree.OpenFile.{OpenFile}
-use Rattle.plain_tree.specs.declared.tree.Hold.{Hold}
-use Rattle.plain_tree.specs.declared.step.Action.{Action}
-use Rattle.plain_tree.specs.declared.step.Action.TheVariants.{Open, Truncate, Read, WritePart, Find, Bump, Enter, Unbump, Unlink, Mkdir, Chdir, Dup, Close, Fstat, Inherit}
-use Rattle.plain_tree.specs.declared.step.StepAnswer.{StepAnswer}
-use Rattle.plain_tree.specs.declared.step.StepAnswer.TheVariants.{Opened, Bytes, Stat as Status, Failed, Full as NoRoom}
-use Rattle.plain_tree.specs.Widths.{hart_count, descriptor_count, count_limit}
-use Rattle.plain_tree.specs.Tree.{Name, Tree, put, and_then, all_slots, dot, dotdot, fd_names, file_names, first_slot, hold_names, is_directory, is_live, is_named, live_directory, look, same_name, settle, slots_of}
-use Rattle.plain_tree.specs.Steps.{IsInPlace, IsNewNode, MayChoose, StepWith, answer_with, at_dir, at_hold, at_node, bump_refusal, chdir_refusal, child_refusal, cleared, closed, content, creates, drop_hold, effect_with, emptied, enter_hold, enter_refusal, fd_refusal, file_at, find_refusal, first_free, has, has_fd, has_room, held, is_absent, is_file, is_nothing, is_open_file, lowered, lowest, made, makes_node, mkdir_refusal, moved, name_taken, new_directory, new_file, no_driver, node_or, not_empty, open_kind, open_new, open_old, open_there, opened, opened_at, opened_in, opened_new, opens_file, or_else, part, place_of, raise_hold, raised, read_refusal, read_write, refusal_with, refused, removed, removed_child, stat_answer, stat_of, truncated, unlink_refusal, with_file, with_nodes, write_kind, write_only, write_refusal, written, written_kind, wrote}
-use Rattle.plain_tree.specs.Laws.{Stays, AsksForWhatStays}
+use Rattle.plain_tree.proofs.Vocabulary.{◌≡◌, ◌≢◌, ◌⊎◌, inl, inr, ℕ, ◌+◌, ◌-◌, ◌<◌, Bool, true, false, ◌&&◌, ◌||◌, not, ◌==◌, nat_lt, List, [], ◌∷◌, length, take, drop, Option, Some, None, refl, sym, ◌∙◌, ap, subst, if◌then◌else◌, Cause, IsDirectory, BadMode, TooManyLinks, DotName, NotDirectory, Descriptors, Node, Directory, OpenFile, Hold, Action, Open, Truncate, Read, WritePart, Find, Bump, Enter, Unbump, Unlink, Mkdir, Chdir, Dup, Close, Fstat, Inherit, StepAnswer, Opened, Bytes, Status, Failed, NoRoom, hart_count, descriptor_count, count_limit, Name, Tree, put, and_then, all_slots, dot, dotdot, fd_names, file_names, first_slot, hold_names, is_directory, is_live, is_named, live_directory, look, same_name, settle, slots_of, IsInPlace, IsNewNode, MayChoose, StepWith, answer_with, at_dir, at_hold, at_node, bump_refusal, chdir_refusal, child_refusal, cleared, closed, content, creates, drop_hold, effect_with, emptied, enter_hold, enter_refusal, fd_refusal, file_at, find_refusal, first_free, has, has_fd, has_room, held, is_absent, is_file, is_nothing, is_open_file, lowered, lowest, made, makes_node, mkdir_refusal, moved, name_taken, new_directory, new_file, no_driver, node_or, not_empty, open_kind, open_new, open_old, open_there, opened, opened_at, opened_in, opened_new, opens_file, or_else, part, place_of, raise_hold, raised, read_refusal, read_write, refusal_with, refused, removed, removed_child, stat_answer, stat_of, truncated, unlink_refusal, with_file, with_nodes, write_kind, write_only, write_refusal, written, written_kind, wrote, Stays, AsksForWhatStays}
 use Rattle.plain_tree.proofs.Maps.{and_true, either, eq_not, eq_self, same_or, put_is, put_same, put_other}
 use Rattle.plain_tree.proofs.Settling.{Unnamed, unnamed, is_unnamed, settle_nodes, settle_or, settle_again, settle_named, settle_none, named_fd, named_hold}
 use Rattle.plain_tree.proofs.RowLemmas.{less_is}

@@ -1,11 +1,5 @@
 -- What settling leaves of a tree, and when two trees settle to one.
-use Rattle.std.proofs.Common.{◌≡◌, ◌⊎◌, inl, inr, ℕ, ◌<◌, Bool, true, false, ◌||◌, ◌==◌, nat_lt, Option, Some, None, refl, sym, ◌∙◌, ap, if◌then◌else◌}
-use Rattle.plain_tree.specs.declared.node.Node.{Node}
-use Rattle.plain_tree.specs.declared.tree.OpenFile.{OpenFile}
-use Rattle.plain_tree.specs.Widths.{hart_count, descriptor_count}
-use Rattle.plain_tree.specs.Tree.{Tree, any_below, fd_names, hold_names, is_directory, is_live, is_named, live_directory, settle}
-use Rattle.plain_tree.specs.Steps.{file_at, with_nodes}
-use Rattle.plain_tree.specs.HartRow.{row_of}
+use Rattle.plain_tree.proofs.Vocabulary.{◌≡◌, ◌⊎◌, inl, inr, ℕ, ◌<◌, Bool, true, false, ◌||◌, ◌==◌, nat_lt, Option, Some, None, refl, sym, ◌∙◌, ap, if◌then◌else◌, Node, OpenFile, hart_count, descriptor_count, Tree, any_below, fd_names, hold_names, is_directory, is_live, is_named, live_directory, settle, file_at, with_nodes, row_of}
 use Rattle.plain_tree.proofs.Maps.{and_true, or_none, or_left, or_right, any_none, none_any, any_at}
 
 -- A change that is made before a tree settles is the same after it, where what had left isn't asked for.

@@ -1,10 +1,5 @@
 -- Slots of a directory, one after another.
-use Rattle.std.proofs.Common.{◌≡◌, ℕ, suc, ◌+◌, ◌<◌, ◌≤◌, true, false, List, [], ◌∷◌, ◌++◌, length, take, drop, get_or, refl, sym, ◌∙◌, ap, add-one, drop-cons, append_assoc, append-nil, Option, Some, None}
-use Rattle.std.proofs.Math.ListN.{set}
-use Rattle.std.proofs.lemmas.List.{take_more, take_all, drop_all, set_split}
-use Rattle.plain_tree.specs.declared.node.Slot.{Slot}
-use Rattle.plain_tree.specs.Tree.{Name, same_name}
-use Rattle.plain_tree.specs.Steps.{cleared, entries, entry_bytes, first_free}
+use Rattle.plain_tree.proofs.Vocabulary.{◌≡◌, ℕ, suc, ◌+◌, ◌<◌, ◌≤◌, true, false, List, [], ◌∷◌, ◌++◌, length, take, drop, get_or, refl, sym, ◌∙◌, ap, add-one, drop-cons, append_assoc, append-nil, Option, Some, None, set, take_more, take_all, drop_all, set_split, Slot, Name, same_name, cleared, entries, entry_bytes, first_free}
 
 free_some : (x : Slot) (ss : List (Option Slot)) (s : Slot) → first_free (Some x ∷ ss) s ≡ Some x ∷ first_free ss s
 unfolding first_free

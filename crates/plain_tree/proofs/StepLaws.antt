@@ -1,21 +1,5 @@
 -- A step with its answer, against what is applied.
-use Rattle.std.proofs.Common.{◌≡◌, ℕ, ◌<◌, ◌≤◌, Bool, true, false, ◌&&◌, nat_lt, List, [], ◌∷◌, ◌⊎◌, inl, inr, refl, sym, ◌∙◌, ap, subst, arith, Option, Some, None, if◌then◌else◌}
-use Rattle.std.proofs.lemmas.Bool.{cases_Bool}
-use Rattle.std.proofs.lemmas.Bool.Decides.{nat_tests}
-use Rattle.plain_tree.specs.declared.answer.Cause.{Cause}
-use Rattle.plain_tree.specs.declared.node.Node.{Node}
-use Rattle.plain_tree.specs.declared.tree.OpenFile.{OpenFile}
-use Rattle.plain_tree.specs.declared.step.Action.{Action}
-use Rattle.plain_tree.specs.declared.step.Action.TheVariants.{Open, Fstat}
-use Rattle.plain_tree.specs.declared.step.TreeStep.{TreeStep}
-use Rattle.plain_tree.specs.declared.step.StepAnswer.{StepAnswer}
-use Rattle.plain_tree.specs.declared.step.StepAnswer.TheVariants.{Opened, Bytes, Stat as Status, Fd as NewFd, Done, Failed, Full as NoRoom}
-use Rattle.plain_tree.specs.declared.trace.Placed.{Placed}
-use Rattle.plain_tree.specs.Tree.{Name, Tree, resolve, parent, settle, look, and_then}
-use Rattle.plain_tree.specs.Steps.{Step, StepWith, MayChoose, IsInPlace, IsLeastUnused, IsNewNode, answer_with, effect_with, refusal, refused, path_of, place_of, opens_one, opens_file, stat_answer, file_at, has_room, lowest, opened, creates, with_file, opened_new, opened_in, opened_at}
-use Rattle.plain_tree.specs.Applied.{Outcome, applied, in_place, IsApplied, IsAppliedAt, IsBadChoice}
-use Rattle.plain_tree.specs.Explains.{Chain}
-use Rattle.plain_tree.specs.Widths.{hart_count}
+use Rattle.plain_tree.proofs.Vocabulary.{◌≡◌, ℕ, ◌<◌, ◌≤◌, Bool, true, false, ◌&&◌, nat_lt, List, [], ◌∷◌, ◌⊎◌, inl, inr, refl, sym, ◌∙◌, ap, subst, arith, Option, Some, None, if◌then◌else◌, cases_Bool, nat_tests, Cause, Node, OpenFile, Action, Open, Fstat, TreeStep, StepAnswer, Opened, Bytes, Status, NewFd, Done, Failed, NoRoom, Placed, Name, Tree, resolve, parent, settle, look, and_then, Step, StepWith, MayChoose, IsInPlace, IsLeastUnused, IsNewNode, answer_with, effect_with, refusal, refused, path_of, place_of, opens_one, opens_file, stat_answer, file_at, has_room, lowest, opened, creates, with_file, opened_new, opened_in, opened_at, Outcome, applied, in_place, IsApplied, IsAppliedAt, IsBadChoice, Chain, hart_count}
 
 -- one id is the least unused
 pub least_one : (t : Tree) (i j : ℕ) → IsLeastUnused t i → IsLeastUnused t j → i ≡ j

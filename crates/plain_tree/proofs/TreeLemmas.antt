@@ -1,21 +1,5 @@
 -- A tree's data changed in one place, and what its functions then say.
-use Rattle.std.proofs.Common.{◌^◌, ◌&&◌, nat_lt, Result, Ok, Err, MatchResult, ◌≡◌, ◌≢◌, ℕ, zero, suc, ◌+◌, ◌<◌, ◌≤◌, Bool, true, false, List, [], ◌∷◌, ◌++◌, length, take, get_or, ◌==◌, ◌⊎◌, inl, inr, refl, sym, ◌∙◌, ap, arith, Option, Some, None, replicate, get_or-set_other, get_or-set_same}
-use Rattle.std.proofs.Math.Path.{fun_ext}
-use Rattle.std.proofs.Math.ListN.{set, get_or-eq_default}
-use Rattle.std.proofs.lemmas.List.{take_more, set-get_or}
-use Rattle.std.proofs.lemmas.Bool.{cases_eq, cases_Bool}
-use Rattle.std.proofs.lemmas.Bool.Decides.{nat_tests}
-use Rattle.plain_tree.specs.declared.node.Node.{Node}
-use Rattle.plain_tree.specs.declared.node.Kind.{Kind}
-use Rattle.plain_tree.specs.declared.node.Kind.TheVariants.{Directory, File, Device}
-use Rattle.plain_tree.specs.declared.tree.OpenFile.{OpenFile}
-use Rattle.plain_tree.specs.declared.tree.OpenFileEntry.{OpenFileEntry}
-use Rattle.plain_tree.specs.declared.tree.Hart.{Hart}
-use Rattle.plain_tree.specs.declared.tree.Hold.{Hold}
-use Rattle.plain_tree.specs.Code.{Advances, IsEntryOf}
-use Rattle.plain_tree.specs.TreeData.{TreeData}
-use Rattle.plain_tree.specs.Tree.{Tree, tree_of, hart_at, resting, file_in, put, and_then, is_directory, live_directory, slots_of}
-use Rattle.plain_tree.specs.Steps.{at_node, node_or, node_at, with_nodes, moved}
+use Rattle.plain_tree.proofs.Vocabulary.{◌^◌, ◌&&◌, nat_lt, Result, Ok, Err, MatchResult, ◌≡◌, ◌≢◌, ℕ, zero, suc, ◌+◌, ◌<◌, ◌≤◌, Bool, true, false, List, [], ◌∷◌, ◌++◌, length, take, get_or, ◌==◌, ◌⊎◌, inl, inr, refl, sym, ◌∙◌, ap, arith, Option, Some, None, replicate, get_or-set_other, get_or-set_same, fun_ext, set, get_or-eq_default, take_more, set-get_or, cases_eq, cases_Bool, nat_tests, Node, Kind, Directory, File, Device, OpenFile, OpenFileEntry, Hart, Hold, Advances, IsEntryOf, TreeData, Tree, tree_of, hart_at, resting, file_in, put, and_then, is_directory, live_directory, slots_of, at_node, node_or, node_at, with_nodes, moved}
 
 pub eq_true : (n k : ℕ) → n ≡ k → (n == k) ≡ true
 eq_true n k e = grind (arith, nat_tests)

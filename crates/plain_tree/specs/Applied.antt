@@ -10,10 +10,7 @@ use Rattle.plain_tree.specs.declared.step.StepAnswer.{StepAnswer}
 use Rattle.plain_tree.specs.declared.step.StepAnswer.TheVariants.{Failed, Full as NoRoom}
 use Rattle.plain_tree.specs.declared.refused.ApplyRefused.{ApplyRefused}
 use Rattle.plain_tree.specs.declared.refused.ApplyRefused.TheVariants.{NoMemory, BadChoice}
-use Rattle.plain_tree.specs.TreeData.{TreeData}
-use Rattle.plain_tree.specs.Tree.{Tree, tree_of, resolve, parent, settle}
-use Rattle.plain_tree.specs.Steps.{path_of, refusal, refused, effect_with, answer_with, place_of, makes_node, opens_one, IsNewNode, IsLeastUnused}
-use Rattle.plain_tree.specs.Widths.{hart_count}
+use Rattle.plain_tree.specs.Basics.{TreeData, Tree, tree_of, resolve, parent, settle, path_of, refusal, refused, effect_with, answer_with, place_of, makes_node, opens_one, IsNewNode, IsLeastUnused, hart_count}
 
 -- an answer, and the tree after it
 pub record Outcome : Type 0 where

@@ -10,9 +10,7 @@ use Rattle.plain_tree.specs.declared.step.Action.{Action}
 use Rattle.plain_tree.specs.declared.step.Action.TheVariants.{Open as OpenStep, Truncate as TruncateStep, Read as ReadStep, WritePart as WritePartStep, Find as FindStep, Bump as BumpStep, Enter as EnterStep, Unbump as UnbumpStep, Unlink as UnlinkStep, Mkdir as MkdirStep, Chdir as ChdirStep, Dup as DupStep, Fstat as FstatStep, Close as CloseStep, Inherit as InheritStep}
 use Rattle.plain_tree.specs.declared.step.StepAnswer.{StepAnswer}
 use Rattle.plain_tree.specs.declared.step.StepAnswer.TheVariants.{Opened, Bytes, Stat as Status, Fd as NewFd, Done, Failed, Full as NoRoom}
-use Rattle.plain_tree.specs.Tree.{climbs}
-use Rattle.plain_tree.specs.Steps.{has, empty_it}
-use Rattle.plain_tree.specs.Widths.{piece_len}
+use Rattle.plain_tree.specs.Basics.{climbs, has, empty_it, piece_len}
 
 -- what acted, with its answer
 pub record Act : Type 0 where

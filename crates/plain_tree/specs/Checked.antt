@@ -5,8 +5,7 @@ use Rattle.plain_tree.specs.declared.step.StepAnswer.{StepAnswer}
 use Rattle.plain_tree.specs.declared.step.StepAnswer.TheVariants.{Full as NoRoom}
 use Rattle.plain_tree.specs.declared.trace.Placed.{Placed}
 use Rattle.plain_tree.specs.declared.trace.TracedCall.{TracedCall}
-use Rattle.plain_tree.specs.Tree.{Tree}
-use Rattle.plain_tree.specs.Steps.{Step}
+use Rattle.plain_tree.specs.Basics.{Tree, Step}
 use Rattle.plain_tree.specs.Explains.{Chain, IsWritten, acts_of}
 
 -- the list leads from t to some tree

@@ -8,10 +8,7 @@ use Rattle.plain_tree.specs.declared.step.StepAnswer.{StepAnswer}
 use Rattle.plain_tree.specs.declared.step.StepAnswer.TheVariants.{Bytes}
 use Rattle.plain_tree.specs.declared.tree.OpenFile.{OpenFile}
 use Rattle.plain_tree.specs.declared.tree.OpenFileEntry.{OpenFileEntry}
-use Rattle.plain_tree.specs.Tree.{Name, Tree, tree_of, file_in, is_empty, and_then, is_named, settle}
-use Rattle.plain_tree.specs.TreeData.{TreeData}
-use Rattle.plain_tree.specs.Steps.{cleared, file_at, first_free, has_fd}
-use Rattle.plain_tree.specs.Widths.{name_len}
+use Rattle.plain_tree.specs.Basics.{Name, Tree, tree_of, file_in, is_empty, and_then, is_named, settle, TreeData, cleared, file_at, first_free, has_fd, name_len}
 
 -- the element that these bytes are, if there are any, before the others
 abbrev pub with_element : List ℕ → List Name → List Name

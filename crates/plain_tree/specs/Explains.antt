@@ -5,11 +5,8 @@ use Rattle.plain_tree.specs.declared.call.Call.{Call}
 use Rattle.plain_tree.specs.declared.trace.Trace.{Trace}
 use Rattle.plain_tree.specs.declared.trace.TracedCall.{TracedCall}
 use Rattle.plain_tree.specs.declared.trace.Placed.{Placed}
-use Rattle.plain_tree.specs.TreeData.{TreeData}
-use Rattle.plain_tree.specs.Tree.{Name, Tree, tree_of, follow}
-use Rattle.plain_tree.specs.Steps.{Step, is_nothing}
+use Rattle.plain_tree.specs.Basics.{TreeData, Name, Tree, tree_of, follow, Step, is_nothing, root}
 use Rattle.plain_tree.specs.Calls.{Act, IsBeginning, IsWhole}
-use Rattle.plain_tree.specs.Widths.{root}
 
 -- what a run shows of an event
 pub data Shown : Type 0 where

@@ -5,10 +5,8 @@ use Rattle.plain_tree.specs.declared.node.Kind.TheVariants.{Directory}
 use Rattle.plain_tree.specs.declared.step.TreeStep.{TreeStep}
 use Rattle.plain_tree.specs.declared.step.StepAnswer.{StepAnswer}
 use Rattle.plain_tree.specs.declared.tree.Hart.{Hart}
-use Rattle.plain_tree.specs.TreeData.{TreeData}
-use Rattle.plain_tree.specs.Tree.{Tree, dot, dotdot}
+use Rattle.plain_tree.specs.Basics.{TreeData, Tree, dot, dotdot, root, hart_count, descriptor_count}
 use Rattle.plain_tree.specs.Applied.{applied}
-use Rattle.plain_tree.specs.Widths.{root, hart_count, descriptor_count}
 
 -- slots of a fresh root: one block of them
 abbrev pub fresh_slots : ℕ

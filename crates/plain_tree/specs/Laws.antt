@@ -4,10 +4,8 @@ use Rattle.plain_tree.specs.declared.step.Action.{Action}
 use Rattle.plain_tree.specs.declared.step.Action.TheVariants.{Inherit}
 use Rattle.plain_tree.specs.declared.step.TreeStep.{TreeStep}
 use Rattle.plain_tree.specs.declared.step.StepAnswer.{StepAnswer}
-use Rattle.plain_tree.specs.Tree.{Name, Tree, any_below, is_named, look, settle}
-use Rattle.plain_tree.specs.Steps.{IsInPlace, IsLeastUnused, Step, StepWith, opens_one}
+use Rattle.plain_tree.specs.Basics.{Name, Tree, any_below, is_named, look, settle, IsInPlace, IsLeastUnused, Step, StepWith, opens_one, hart_count, descriptor_count}
 use Rattle.plain_tree.specs.HartRow.{row_of, row_names}
-use Rattle.plain_tree.specs.Widths.{hart_count, descriptor_count}
 use Rattle.plain_tree.specs.Applied.{applied, IsApplied, IsBadChoice}
 
 -- A step in its place, with a right number for a new node and the least unused id for a file that it opens, goes as it is applied.

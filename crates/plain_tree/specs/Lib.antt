@@ -1,3 +1,4 @@
+pub mod Basics
 pub mod Widths
 pub mod Numbers
 pub mod TreeData

@@ -1,10 +1,8 @@
 -- Words in which the search for the named part is promised.
 use Rattle.std.specs.Prelude.{ℕ, ◌≡◌, ◌<◌, length, slice_index_or, Bool, true, false, List, Option, Some}
 use Rattle.plain_tree.specs.declared.node.Slot.{Slot}
-use Rattle.plain_tree.specs.TreeData.{TreeData}
-use Rattle.plain_tree.specs.Tree.{Name, Tree, tree_of, first_slot, look}
+use Rattle.plain_tree.specs.Basics.{TreeData, Name, Tree, tree_of, first_slot, look, root}
 use Rattle.plain_tree.specs.Explains.{IsReached}
-use Rattle.plain_tree.specs.Widths.{root}
 
 -- a number past the marks counts as marked
 abbrev pub is_marked : List Bool → ℕ → Bool

@@ -3,8 +3,7 @@ use Rattle.std.specs.Prelude.{◌≡◌, List}
 use Rattle.plain_tree.specs.declared.step.TreeStep.{TreeStep}
 use Rattle.plain_tree.specs.declared.step.StepAnswer.{StepAnswer}
 use Rattle.plain_tree.specs.declared.trace.Placed.{Placed}
-use Rattle.plain_tree.specs.Tree.{Tree}
-use Rattle.plain_tree.specs.Steps.{Step}
+use Rattle.plain_tree.specs.Basics.{Tree, Step}
 use Rattle.plain_tree.specs.Explains.{Chain}
 
 -- a step gives one answer and leads to one tree

@@ -9,7 +9,7 @@ use Rattle.plain_tree.specs.declared.step.StepAnswer.TheVariants.{Opened, Done, 
 use Rattle.plain_tree.specs.declared.progress.Last.{Last}
 use Rattle.plain_tree.specs.declared.progress.Last.TheVariants.{Nothing, Done as WasDone, Failed as HasFailed, File, Other}
 use Rattle.plain_tree.specs.declared.progress.Progress.{Progress}
-use Rattle.plain_tree.specs.Steps.{has, empty_it}
+use Rattle.plain_tree.specs.Basics.{has, empty_it}
 use Rattle.plain_tree.specs.Calls.{Act, piece, piece_count}
 
 -- what an answer says to the step after it

@@ -8,7 +8,7 @@ use Rattle.plain_tree.specs.declared.step.Action.{Action}
 use Rattle.plain_tree.specs.declared.step.Action.TheVariants.{Open, Truncate, Read, WritePart, Find, Bump, Enter, Unbump, Unlink, Mkdir, Chdir, Dup, Close, Fstat, Inherit}
 use Rattle.plain_tree.specs.declared.step.StepAnswer.{StepAnswer}
 use Rattle.plain_tree.specs.declared.step.StepAnswer.TheVariants.{Opened, Bytes, Stat as Status, Done, Failed, Full as NoRoom}
-use Rattle.plain_tree.specs.Tree.{tree_of}
+use Rattle.plain_tree.specs.Basics.{tree_of}
 use Rattle.plain_tree.specs.Fresh.{Made, fresh, answers}
 
 -- a step and what it answers

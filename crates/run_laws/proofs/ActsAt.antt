@@ -1,53 +1,12 @@
 -- Each operation's program is marked at its first step or at its last one.
-use Rattle.std.proofs.Common.{◌≡◌, ◌⊎◌, inl, inr, ◌<◌, ◌+◌, ◌-◌, ◌*◌, ◌/◌, ◌==◌, nat_lt, if◌then◌else◌, ℕ, zero, suc, Bool, true, false, is_some, Option, Some, None, List, [], ◌∷◌, length, take, slice_index, refl, subst, arith}
-use Rattle.std.specs.Option.{option_map}
-use Rattle.std.proofs.lemmas.Bool.Decides.{nat_tests}
-use Rattle.fs_layout.specs.declared.inode.Dinode.{Dinode}
-use Rattle.fs_layout.specs.declared.entry.Dirent.TheVariants.{Used}
-use Rattle.fs_layout.specs.declared.superblock.Super.{Super}
-use Rattle.fs_layout.specs.Entry.{dirent_at, spell_dirent}
-use Rattle.fs_layout.specs.Indirect.{numbers_in}
-use Rattle.plain_tree.specs.declared.answer.Cause.{Cause}
-use Rattle.plain_tree.specs.Tree.{Name, same_name}
-use Rattle.atomic_programs.specs.Joined.{Handover}
-use Rattle.atomic_programs.specs.Prog.{Ret, Do, bind, unmarked}
-use Rattle.group_log.specs.declared.log.Left.{Left}
+use Rattle.run_laws.proofs.Vocabulary.{◌≡◌, ◌⊎◌, inl, inr, ◌<◌, ◌+◌, ◌-◌, ◌*◌, ◌/◌, ◌==◌, nat_lt, if◌then◌else◌, ℕ, zero, suc, Bool, true, false, is_some, Option, Some, None, List, [], ◌∷◌, length, take, slice_index, refl, subst, arith, option_map, nat_tests, Dinode, Used, Super, dirent_at, spell_dirent, numbers_in, Cause, Name, same_name, Handover, Ret, Do, bind, unmarked, Left, first_below, first_clear_below, clear_bit, free_block, take_first, zero_found, FirstIs, first_is, LockedState, Locks, after_leave, commit_unless, commits, fetch, read_unless, inode_blocks, give_back, inode_block, load_unless, put_inode, store, Address, Direct, InTable, address, table_of, free_in_table, free_indirect, free_numbers, free_table, FilledMemory, blocks_between, end_of, fetch_at, fetch_block, fetch_named, fetch_number, filled_with, give_fetched, next_block, part_of, read_blocks, read_from, read_part, direct, WriteResult, front_of, locate, locate_at, locate_in_table, located, look_up, name_direct, name_in_table, put_part, store_written, take_one, with_address, with_table, write_blocks, write_in, write_part, Query, AtNothing, AtName, AtEntries, Sort, ClaimResult, EntryResult, Wrote, Take, Give, UpStart, Up, WalkDown, Down, Free, Forget, Claim, Store, Fill, Enter, Clear, Empty, Slot, Install, StatFile, LockFile, ReadFile, CheckFile, JoinFile, LockOpen, WriteFile, Double, Shut, Settle, Lend, LendDirectory, Release, Join, Leave, Say, give_content, dots, enter_in, entered_to, filled_to, if_none, look_last, put_grown, search_full, Acts, acts, Apart, Carry, Emptied, Finds, Had, Has, NothingMore, Opened, HasInodes, claim_at, claim_from, clear_in, clear_slot, slot_found, slot_of, looked, number_found, learned, search_entries, seen_record, stat_loaded, stat_locked, file_locked, give_read, handlers, put_record, record_in, give_written, refused_in, write_unless, Found, slot_for, Aim, Named, Unused, block_count, found_at, found_in, is_directory, is_live_directory, look_at, lookup, most_slots, or_next, search, search_from, slot_count, slots_in, is_free, IsAtEnd, MarksLast, MarksNone, MarksOne, OperationsActFirstOrLast}
 use Rattle.group_log.specs.declared.log.Left.TheVariants as left
-use Rattle.bitmap_alloc.specs.First.{first_below, first_clear_below}
-use Rattle.bitmap_alloc.specs.Programs.{clear_bit, free_block, take_first, zero_found}
-use Rattle.bitmap_alloc.proofs.First.{FirstIs, first_is}
-use Rattle.fs_machine.specs.Inodes.{LockedState, Refuses, Locks}
-use Rattle.fs_machine.specs.Programs.{after_leave, commit_unless, commits, fetch, read_unless}
+use Rattle.fs_machine.specs.Inodes.{Refuses}
 use Rattle.fs_machine.specs.Steps as steps
-use Rattle.inode_table.specs.NewInodes.{inode_blocks}
-use Rattle.inode_table.specs.Programs.{give_back, inode_block, load_unless, put_inode, store}
-use Rattle.inode_data.specs.declared.addresses.Address.{Address}
-use Rattle.inode_data.specs.declared.addresses.Address.TheVariants.{Direct, InTable}
-use Rattle.inode_data.specs.Addresses.{address, table_of}
-use Rattle.inode_data.specs.Freeing.{free_in_table, free_indirect, free_numbers, free_table}
-use Rattle.inode_data.specs.Programs.{FilledMemory, blocks_between, end_of, fetch_at, fetch_block, fetch_named, fetch_number, filled_with, give_fetched, next_block, part_of, read_blocks, read_from, read_part}
-use Rattle.inode_data.specs.Widths.{direct}
-use Rattle.inode_data.specs.Writing.{WriteResult, front_of, locate, locate_at, locate_in_table, located, look_up, name_direct, name_in_table, put_part, store_written, take_one, with_address, with_table, write_blocks, write_in, write_part}
-use Rattle.inode_machine.specs.Inodes.{Query, AtNothing, AtName, AtEntries, Sort}
 use Rattle.inode_machine.specs.World as above
-use Rattle.inode_machine.specs.World.{ClaimResult, EntryResult, Wrote}
-use Rattle.inode_machine.specs.World.Op.{Take, Give, UpStart, Up, WalkDown, Down, Free, Forget, Claim, Store, Fill, Enter, Clear, Empty, Slot, Install, StatFile, LockFile, ReadFile, CheckFile, JoinFile, LockOpen, WriteFile, Double, Shut, Settle, Lend, LendDirectory, Release, Join, Leave, Say}
-use Rattle.inodes_on_blocks.specs.Emptying.{give_content}
-use Rattle.inodes_on_blocks.specs.Entering.{dots, enter_in, entered_to, filled_to, if_none, look_last, put_grown, search_full}
-use Rattle.inodes_on_blocks.specs.Handlers.{Acts, P, acts}
-use Rattle.inodes_on_blocks.specs.Lowering.{Apart, Carry, Emptied, Finds, Had, Has, NothingMore, Opened}
-use Rattle.inodes_on_blocks.specs.Making.{HasInodes, claim_at, claim_from}
-use Rattle.inodes_on_blocks.specs.Naming.{clear_in, clear_slot, slot_found, slot_of}
-use Rattle.inodes_on_blocks.specs.Reading.{looked, number_found, learned, search_entries, seen_record, stat_loaded, stat_locked}
-use Rattle.inodes_on_blocks.specs.Files.{file_locked, give_read}
-use Rattle.inodes_on_blocks.specs.Programs.{handlers}
-use Rattle.inodes_on_blocks.specs.Storing.{put_record, record_in}
-use Rattle.inodes_on_blocks.specs.Writing.{give_written, refused_in, write_unless}
-use Rattle.directory.specs.declared.found.Found.{Found}
-use Rattle.directory.specs.Entering.{slot_for}
-use Rattle.directory.specs.Programs.{Aim, Entry, Named, Unused, block_count, found_at, found_in, is_directory, is_live_directory, look_at, lookup, most_slots, or_next, search, search_from, slot_count, slots_in}
-use Rattle.directory.specs.Slots.{first_free, is_free}
-use Rattle.run_laws.specs.ActsAt.{IsAtEnd, MarksLast, MarksNone, MarksOne, OperationsActFirstOrLast}
+use Rattle.inodes_on_blocks.specs.Handlers.{P}
+use Rattle.directory.specs.Programs.{Entry}
+use Rattle.directory.specs.Slots.{first_free}
 
 -- ---- programs in parts
 

@@ -1,25 +1,6 @@
 -- A call that is answered that there is no room has made an operation that wanted it.
-use Rattle.std.proofs.Common.{◌≡◌, inl, inr, ℕ, Bool, true, false, nat_eq, if◌then◌else◌, List, [], ◌∷◌, ◌++◌, Some, refl, sym}
-use Rattle.std.proofs.Common.{Option, ap, subst}
-use Rattle.std.proofs.lemmas.Bool.{eqb-true}
-use Rattle.fs_layout.specs.declared.superblock.Super.{Super}
-use Rattle.fs_layout.specs.Recovered.{sizes_of}
-use Rattle.plain_tree.specs.declared.answer.Reply.{Reply}
-use Rattle.atomic_programs.specs.Calls.{PlacedStep, fresh, run}
-use Rattle.atomic_programs.specs.Explained.{Chain, In, steps_of}
+use Rattle.run_laws.proofs.Vocabulary.{◌≡◌, inl, inr, ℕ, Bool, true, false, nat_eq, if◌then◌else◌, List, [], ◌∷◌, ◌++◌, Some, refl, sym, Option, ap, subst, eqb-true, Super, sizes_of, Reply, PlacedStep, fresh, run, Chain, In, steps_of, first_world, first, trace_in, WorldOf, TracedCall, All, All-cons, All-head, All-nil, All-tail, CallsFindNoneWhereThereIsNone, IsAnsweredRightly, RefinesWholeInodes, operations_made, operations_of, IsRun, RunsTo, wanted, IsStep, Operation, lowered_inode_calls, unreserved}
 use Rattle.inode_machine.specs.World as above
-use Rattle.inodes_on_blocks.specs.Mounted.{first_world}
-use Rattle.calls_on_blocks.specs.History.{first}
-use Rattle.hart_core.specs.Runs.{trace_in}
-use Rattle.hart_core.specs.Worlds.{WorldOf}
-use Rattle.plain_tree.specs.declared.trace.TracedCall.{TracedCall}
-use Rattle.std.specs.List.{All}
-use Rattle.std.proofs.lemmas.List.Elements.{All-cons, All-head, All-nil, All-tail}
-use Rattle.run_laws.specs.Answered.{CallsFindNoneWhereThereIsNone, IsAnsweredRightly}
-use Rattle.run_laws.specs.Laws.{RefinesWholeInodes, operations_made, operations_of}
-use Rattle.run_laws.specs.Worlds.{IsRun, RunsTo}
-use Rattle.run_laws.specs.Wanted.{wanted}
-use Rattle.run_laws.specs.WholeInodes.{IsStep, Operation, lowered_inode_calls, unreserved}
 use Rattle.run_laws.proofs.Wants.{step_wants}
 use Rattle.run_laws.proofs.Worlds.{worlds_refine}
 

@@ -1,16 +1,7 @@
 -- Programs below do beside the children as they do without, under any history: who has a lender stays the child of that one's call.
-use Rattle.std.proofs.Common.{ℕ, List, [], ◌∷◌, Option, Some, None, suc}
-use Rattle.fs_layout.specs.declared.superblock.Super.{Super}
-use Rattle.atomic_programs.specs.Prog.{Ret, Do, Did, Waits, Ran, Stops, did_in}
-use Rattle.atomic_programs.specs.Logic.{P, onto, Goes, placed_with, Good, Wp}
-use Rattle.atomic_programs.specs.Joined.{ActOf, Both, joined, both, seen_after, Handlers, Below}
-use Rattle.atomic_programs.specs.Spending.{Budget, AtomicWithin}
+use Rattle.run_laws.proofs.Vocabulary.{ℕ, List, [], ◌∷◌, Option, Some, None, suc, Super, Ret, Do, Did, Waits, Ran, Stops, did_in, PartOf as P, onto, Goes, placed_with, Good, Wp, ActOf, Both, joined, both, seen_after, Handlers, Below, Budget, AtomicWithin, more, exec_blocks, Labels, labelled, below, World, Reserves, layer, acts_reserve}
 use Rattle.inode_machine.specs.World as above
-use Rattle.inode_machine.specs.Rules.{more}
-use Rattle.inodes_on_blocks.specs.Below.{World as Blocks, exec as exec_blocks}
-use Rattle.inodes_on_blocks.specs.Lowering.{Labels, labelled, below}
-use Rattle.calls_on_blocks.specs.Layer.{World, Reserves, layer}
-use Rattle.calls_on_blocks.proofs.Lenders.{acts_reserve}
+use Rattle.inodes_on_blocks.specs.Below.{World as Blocks}
 
 module _ (sizes : Super) (l : Labels) where
   abbrev alone : Both World above.World → Both Blocks above.World

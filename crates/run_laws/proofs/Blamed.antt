@@ -1,18 +1,7 @@
 -- What a call has wanted when it ends for want of a room: while it goes on, one of its operations so far, or of those that are left.
-use Rattle.std.proofs.Common.{◌≡◌, ◌⊎◌, inl, inr, ℕ, List, [], ◌∷◌, Option, None, refl, subst}
+use Rattle.run_laws.proofs.Vocabulary.{◌≡◌, ◌⊎◌, inl, inr, ℕ, List, [], ◌∷◌, Option, None, refl, subst, Full, Reply, In, Wp, onto, Ret, Do, MoveStep, counted_down, P, Inv, machine, Answer, Mark, Room, laws, HasWanted, IsRunOf, Operation}
 use Rattle.plain_tree.specs.declared.answer.Answer.TheVariants as answers
-use Rattle.plain_tree.specs.declared.answer.Full.{Full}
-use Rattle.plain_tree.specs.declared.answer.Reply.{Reply}
-use Rattle.atomic_programs.specs.Explained.{In}
-use Rattle.atomic_programs.specs.Logic.{Wp, onto}
-use Rattle.atomic_programs.specs.Prog.{Ret, Do}
-use Rattle.tree_laws.specs.Moves.{Step as MoveStep}
-use Rattle.inode_machine.specs.Exec.{counted_down}
-use Rattle.inode_machine.specs.Parts.{P}
-use Rattle.inode_machine.specs.Rules.{Inv, machine}
-use Rattle.inode_machine.specs.World.{Answer, Mark, Room, World}
-use Rattle.inode_machine.proofs.Calls.{laws}
-use Rattle.run_laws.specs.WholeInodes.{HasWanted, IsRunOf, Operation}
+use Rattle.inode_machine.specs.World.{World}
 use Rattle.run_laws.proofs.Running.{some_answer}
 use Rattle.run_laws.proofs.WantsCalls.{Blames, GivesBack, goes_or}
 

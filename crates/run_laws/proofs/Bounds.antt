@@ -1,26 +1,6 @@
 -- The calls on blocks, and the runs of a world, take few steps.
-use Rattle.std.proofs.Common.{◌≡◌, ◌≤◌, ℕ, Bool}
-use Rattle.fs_layout.specs.declared.superblock.Super.{Super}
-use Rattle.fs_layout.specs.Recovered.{sizes_of}
-use Rattle.plain_tree.specs.declared.call.Call.{Call}
-use Rattle.plain_tree.specs.Tree.{put}
-use Rattle.tree_laws.proofs.Maps.{and_true}
-use Rattle.atomic_programs.specs.Calls.{Theory, Begins, fresh}
-use Rattle.atomic_programs.specs.Joined.{Both}
-use Rattle.atomic_programs.specs.Lowered.{began_to}
-use Rattle.atomic_programs.proofs.Explains.{Keeps-fresh}
-use Rattle.atomic_programs.proofs.Lowered.{begun_both}
+use Rattle.run_laws.proofs.Vocabulary.{◌≡◌, ◌≤◌, ℕ, Bool, Super, sizes_of, Call, put, and_true, Theory, Begins, fresh, Both, began_to, Keeps-fresh, begun_both, limit, is_covered, mounts_show_their_trees, first, World, shared_of, begins, block_calls, child_of, is_served, served_calls, first_holds, first_idle, lawful, begun_here, AreFew, CallsTakeFewSteps}
 use Rattle.inode_machine.specs.World as above
-use Rattle.inode_machine.specs.Programs.{limit}
-use Rattle.inode_machine.specs.Theory.{is_covered}
-use Rattle.inodes_on_blocks.proofs.Mounted.{mounts_show_their_trees}
-use Rattle.calls_on_blocks.specs.History.{first}
-use Rattle.calls_on_blocks.specs.Layer.{World, shared_of}
-use Rattle.calls_on_blocks.specs.Theory.{begins, block_calls, child_of, is_served, served_calls}
-use Rattle.calls_on_blocks.proofs.History.{first_holds, first_idle}
-use Rattle.calls_on_blocks.proofs.Lawful.{lawful}
-use Rattle.calls_on_blocks.proofs.Starting.{begun_here}
-use Rattle.run_laws.specs.StepBounds.{AreFew, CallsTakeFewSteps}
 use Rattle.run_laws.proofs.Counts.{each_fits}
 use Rattle.run_laws.proofs.Limits.{limits}
 

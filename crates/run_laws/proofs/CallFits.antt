@@ -1,21 +1,7 @@
 -- What each call that is served asks for fits.
-use Rattle.std.proofs.Common.{refl, ◌≡◌, ℕ, Bool, true, false, List, length, if◌then◌else◌, Option, Some, None}
-use Rattle.plain_tree.specs.declared.call.Call.{Call}
+use Rattle.run_laws.proofs.Vocabulary.{refl, ◌≡◌, ℕ, Bool, true, false, List, length, if◌then◌else◌, Option, Some, None, Call, Descriptors, creates, elements, piece_len, Do, unmarked, dup_on, close_on, stat_on, stat_reply, read_on, read_reply, Face, open_new, open_old, say, full, done, program, LockResult, NotLocked, LocksIt, Leave, is_served}
 use Rattle.plain_tree.specs.declared.call.Call.TheVariants as calls
 use Rattle.plain_tree.specs.declared.answer.Answer.TheVariants as answers
-use Rattle.plain_tree.specs.declared.answer.Full.TheVariants.{Descriptors}
-use Rattle.plain_tree.specs.Steps.{creates}
-use Rattle.plain_tree.specs.Tree.{elements}
-use Rattle.plain_tree.specs.Widths.{piece_len}
-use Rattle.atomic_programs.specs.Prog.{Do, unmarked}
-use Rattle.inode_machine.specs.Descriptors.{dup_on, close_on, stat_on, stat_reply, read_on, read_reply}
-use Rattle.inode_machine.specs.Inodes.{Face}
-use Rattle.inode_machine.specs.Opening.{open_new, open_old}
-use Rattle.inode_machine.specs.Parts.{say, full, done}
-use Rattle.inode_machine.specs.Programs.{program}
-use Rattle.inode_machine.specs.World.{LockResult, NotLocked, LocksIt}
-use Rattle.inode_machine.specs.World.Op.{Leave}
-use Rattle.calls_on_blocks.specs.Theory.{is_served}
 use Rattle.run_laws.proofs.Fits.{AllFit, AllFitUpTo}
 use Rattle.run_laws.proofs.InheritFits.{inherit_fits}
 use Rattle.run_laws.proofs.LinkFits.{link_fits}

@@ -1,12 +1,5 @@
 -- The number of a call's steps that a state keeps is the one that its events show; so no call takes more than its limit.
-use Rattle.std.proofs.Common.{◌≡◌, ◌≢◌, ◌≤◌, ◌+◌, ℕ, suc, Bool, true, false, nat_eq, if◌then◌else◌, Option, Some, None, List, [], ◌∷◌, refl, sym, ◌∙◌, ap, subst, inl, arith}
-use Rattle.std.proofs.lemmas.Bool.{eqb-true, eqb-false}
-use Rattle.atomic_programs.specs.Prog.{Ret, Do, Did, Waits, Ran, Stops}
-use Rattle.atomic_programs.specs.Logic.{P, OpWithAnswer, own, onto}
-use Rattle.atomic_programs.specs.Calls.{Theory, Began, Refuses, Begins, Lawful, Run, FinishedCall, State, Made, Event, Start, Step, hart_of, AllHonest, changed, told, all_told, moved, tried, step_prog, step_unless, step_run, begun, busy_in, start_run, makes, next, outcomes}
-use Rattle.atomic_programs.specs.Explained.{In}
-use Rattle.atomic_programs.proofs.Explains.{Keeps, Keeps-next, changed_same, changed_other, Some-inj}
-use Rattle.run_laws.specs.Steps.{with_outcome, steps_ran, OfBegun, OfEachCall}
+use Rattle.run_laws.proofs.Vocabulary.{◌≡◌, ◌≢◌, ◌≤◌, ◌+◌, ℕ, suc, Bool, true, false, nat_eq, if◌then◌else◌, Option, Some, None, List, [], ◌∷◌, refl, sym, ◌∙◌, ap, subst, inl, arith, eqb-true, eqb-false, Ret, Do, Did, Waits, Ran, Stops, PartOf as P, OpWithAnswer, own, onto, Theory, Began, Refuses, Begins, Lawful, Run, FinishedCall, State, Made, EventOf as Event, Start, Step, hart_of, AllHonest, changed, told, all_told, moved, tried, step_prog, step_unless, step_run, begun, busy_in, start_run, makes, next, outcomes, In, Keeps, Keeps-next, changed_same, changed_other, Some-inj, with_outcome, steps_ran, OfBegun, OfEachCall}
 
 -- hart h's call is r, and later so many of its steps run
 module _ (L : Theory) (h : ℕ) (s : State L) (r : Run L) (is : s.running h ≡ Some r) (later : ℕ) where

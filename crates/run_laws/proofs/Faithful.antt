@@ -1,15 +1,6 @@
 -- Each operation of a program above acts once within its own program below, with the answer that this program ends with.
-use Rattle.std.proofs.Common.{◌≡◌, ◌≢◌, ◌⊎◌, inl, inr, ◌<◌, ◌+◌, ◌-◌, ℕ, suc, true, Option, Some, None, is_some, List, [], ◌∷◌, ◌++◌, refl, sym, ◌∙◌, ap, subst, arith}
-use Rattle.std.proofs.lemmas.Bool.{ne_eqb}
-use Rattle.atomic_programs.specs.Prog.{Ret, Do, bind, Did, Waits, Ran, Stops}
-use Rattle.atomic_programs.specs.Logic.{Machine, OpWithAnswer, P, own, onto, oldest_first, placed_with, Grown, Good, Wp, Laws}
-use Rattle.atomic_programs.specs.Joined.{Lower, Both, joined, LowerLaws, Handover, Handlers, lowered, Lasts, Below}
-use Rattle.atomic_programs.specs.Lifting.{Uses}
-use Rattle.atomic_programs.specs.Spending.{Budget, Affords, AtomicWithin}
-use Rattle.atomic_programs.proofs.Noted.{Alone}
-use Rattle.atomic_programs.proofs.Operations.{own_one}
-use Rattle.atomic_programs.proofs.Sound.{Wp-weaker, Wp-more, Wp-bind, Wp-others}
-use Rattle.run_laws.specs.Faithful.{ActsWithin, EndsWith, IsFaithful, IsUnderWay, Notes, StepNote, stepwise}
+use Rattle.run_laws.proofs.Vocabulary.{◌≡◌, ◌≢◌, ◌⊎◌, inl, inr, ◌<◌, ◌+◌, ◌-◌, ℕ, suc, true, Option, Some, None, is_some, List, [], ◌∷◌, ◌++◌, refl, sym, ◌∙◌, ap, subst, arith, ne_eqb, Ret, Do, bind, Did, Waits, Ran, Stops, Machine, OpWithAnswer, PartOf as P, own, onto, oldest_first, placed_with, Grown, Good, Wp, Laws, Lower, Both, joined, LowerLaws, Handover, Handlers, lowered, Lasts, Below, Uses, Budget, Affords, AtomicWithin, Alone, own_one, Wp-weaker, Wp-more, Wp-bind, Wp-others, EndsWith, IsFaithful, IsUnderWay, Notes, StepNote, stepwise}
+use Rattle.run_laws.specs.Faithful.{ActsWithin}
 
 -- ---- a machine with its notes
 

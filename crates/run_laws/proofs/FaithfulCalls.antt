@@ -1,18 +1,5 @@
 -- The calls of a layer below are right with what is noted of them, where each operation acts with the answer that its program ends with.
-use Rattle.std.proofs.Common.{◌≡◌, ◌⊎◌, inl, inr, ◌+◌, ℕ, Bool, false, Option, Some, None, [], refl, sym, ◌∙◌, ap, subst, arith}
-use Rattle.atomic_programs.specs.Prog.{Ret, bind}
-use Rattle.atomic_programs.specs.Logic.{oldest_first, Wp}
-use Rattle.atomic_programs.specs.Calls.{Theory, Began, Begins, Begun, Ends, Lawful}
-use Rattle.atomic_programs.specs.Joined.{Lower, Both, joined, LowerLaws, Handlers, Lasts}
-use Rattle.atomic_programs.specs.Lifting.{BeginsSome, IsStarted, Uses}
-use Rattle.atomic_programs.specs.Lowered.{Starts, StartsBoth, began_to, lowered_calls}
-use Rattle.atomic_programs.specs.Spending.{Budget, Affords, AtomicWithin}
-use Rattle.atomic_programs.proofs.Beginnings.{whole_begins}
-use Rattle.atomic_programs.proofs.Explains.{ends_last}
-use Rattle.atomic_programs.proofs.Lowered.{begun_both}
-use Rattle.atomic_programs.proofs.Noted.{Alone}
-use Rattle.atomic_programs.proofs.Sound.{Wp-weaker, Wp-more, Wp-bind}
-use Rattle.run_laws.specs.Faithful.{IsFaithful, Notes, stepwise}
+use Rattle.run_laws.proofs.Vocabulary.{◌≡◌, ◌⊎◌, inl, inr, ◌+◌, ℕ, Bool, false, Option, Some, None, [], refl, sym, ◌∙◌, ap, subst, arith, Ret, bind, oldest_first, Wp, Theory, Began, Begins, Begun, Ends, Lawful, Lower, Both, joined, LowerLaws, Handlers, Lasts, BeginsSome, IsStarted, Uses, Starts, StartsBoth, began_to, lowered_calls, Budget, Affords, AtomicWithin, whole_begins, ends_last, begun_both, Alone, Wp-weaker, Wp-more, Wp-bind, IsFaithful, Notes, stepwise}
 use Rattle.run_laws.proofs.Faithful.{PlacesItself, handles, none_noted, stepwise_laws}
 
 -- The same calls, with their notes. Each ends with Some of its reply; so what explains a call by None is of one that is under way.

@@ -1,44 +1,6 @@
 -- In each run of a mounted world the calls go on as their operations acted.
-use Rattle.std.proofs.Common.{◌≡◌, ◌<◌, ◌∙◌, ℕ, true, List, refl, sym, subst, Option, None, Some, ap}
-use Rattle.fs_layout.specs.declared.superblock.Super.{Super}
-use Rattle.fs_layout.specs.Recovered.{sizes_of}
-use Rattle.plain_tree.specs.declared.call.Call.{Call}
-use Rattle.plain_tree.specs.Tree.{put}
-use Rattle.plain_tree.specs.Widths.{hart_count}
-use Rattle.atomic_programs.specs.Calls.{Theory, AllHonest, Event as EventOf, Lawful, fresh, run}
-use Rattle.atomic_programs.specs.Explained.{IsExplained, history, steps_of}
-use Rattle.atomic_programs.specs.Joined.{ActOf, Both, placed_at}
-use Rattle.atomic_programs.specs.Lifting.{BeginsSome, IsStarted, Uses}
-use Rattle.atomic_programs.specs.Logic.{own, placed_with}
-use Rattle.atomic_programs.specs.Prog.{Did, Waits, Ran, Stops}
-use Rattle.atomic_programs.proofs.Explains.{explains}
-use Rattle.atomic_programs.proofs.Noted.{Alone}
-use Rattle.atomic_programs.proofs.Operations.{own_one}
-use Rattle.fs_machine.specs.LogPart.{Outside}
-use Rattle.fs_machine.specs.Steps.{Answer as AnswerBelow, Op}
-use Rattle.inode_machine.specs.Budget.{unspent}
-use Rattle.inode_machine.specs.Programs.{program}
+use Rattle.run_laws.proofs.Vocabulary.{◌≡◌, ◌<◌, ◌∙◌, ℕ, true, List, refl, sym, subst, Option, None, Some, ap, Super, sizes_of, Call, put, hart_count, Theory, AllHonest, EventOf, Lawful, fresh, run, IsExplained, history, steps_of, ActOf, Both, placed_at, BeginsSome, IsStarted, Uses, own, placed_with, Did, Waits, Ran, Stops, explains, Alone, own_one, Outside, AnswerBelow, Op, unspent, program, transactions_are_small, nothing, IsMountable, handlers, HasSpent, recorded_blocks, mounts_show_their_trees, affords, first, World, layer, shared_of, begins, block_calls, child_of, serves, first_holds, first_idle, served_is, begun_here, below_count, AllAnswer, IsHistory, WorldOf, all_honest, mountable, rests_erased, AreOf, AreOfFinished, CallsGoOnAsTheyActed, GoOnAsTheyActed, IsOperation, noted_inode_calls, Operation, inode_calls, lowered_inode_calls, operations, told_by, whole_inodes}
 use Rattle.inode_machine.specs.World as above
-use Rattle.inode_machine.proofs.Budgets.{transactions_are_small}
-use Rattle.inodes_on_blocks.specs.Lowering.{nothing}
-use Rattle.inodes_on_blocks.specs.Mounted.{IsMountable}
-use Rattle.inodes_on_blocks.specs.Programs.{handlers}
-use Rattle.inodes_on_blocks.specs.Room.{HasSpent}
-use Rattle.inodes_on_blocks.specs.Spending.{recorded_blocks}
-use Rattle.inodes_on_blocks.proofs.Mounted.{mounts_show_their_trees}
-use Rattle.inodes_on_blocks.proofs.Withins.{affords}
-use Rattle.calls_on_blocks.specs.History.{first}
-use Rattle.calls_on_blocks.specs.Layer.{World, layer, shared_of}
-use Rattle.calls_on_blocks.specs.Theory.{begins, block_calls, child_of, serves}
-use Rattle.calls_on_blocks.proofs.History.{first_holds, first_idle}
-use Rattle.calls_on_blocks.proofs.Lawful.{served_is}
-use Rattle.calls_on_blocks.proofs.Starting.{begun_here, below_count}
-use Rattle.hart_core.specs.Runs.{AllAnswer, IsHistory}
-use Rattle.hart_core.specs.Worlds.{WorldOf}
-use Rattle.hart_core.proofs.Histories.{all_honest}
-use Rattle.hart_core.proofs.Resting.{mountable, rests_erased}
-use Rattle.run_laws.specs.Faithful.{AreOf, AreOfFinished, CallsGoOnAsTheyActed, GoOnAsTheyActed, IsOperation, noted_inode_calls}
-use Rattle.run_laws.specs.WholeInodes.{Operation, inode_calls, lowered_inode_calls, operations, told_by, whole_inodes}
 use Rattle.run_laws.proofs.CallFits.{call_fits, most_written}
 use Rattle.run_laws.proofs.Faithful.{PlacesItself, faithful_shorter}
 use Rattle.run_laws.proofs.FaithfulCalls.{faithful_calls, faithful_lawful, telling}

@@ -1,13 +1,7 @@
 -- What is asked of whole inodes fits: a new one is a file or a directory, a name fits into an entry, and what is written is bytes, and some, and not too many.
 -- And a mark says that there was no room just where the answer says so.
-use Rattle.std.proofs.Common.{◌≡◌, ◌<◌, ◌≤◌, ℕ, length}
-use Rattle.fs_layout.specs.Bytes.{IsBytes}
-use Rattle.atomic_programs.specs.Prog.{Ret, Do}
-use Rattle.inode_machine.specs.Parts.{P}
-use Rattle.inode_machine.specs.World.{Op, Answer}
-use Rattle.inode_machine.specs.World.Op.{Claim, Enter, WriteFile}
-use Rattle.inodes_on_blocks.specs.Making.{IsMade}
-use Rattle.run_laws.specs.Rooms.{says_no_room}
+use Rattle.run_laws.proofs.Vocabulary.{◌≡◌, ◌<◌, ◌≤◌, ℕ, length, IsBytes, Ret, Do, P, Answer, Claim, Enter, WriteFile, IsMade, says_no_room}
+use Rattle.inode_machine.specs.World.{Op}
 use Rattle.run_laws.proofs.Telling.{spoils}
 
 -- no more than so many bytes are written at once

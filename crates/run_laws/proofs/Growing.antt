@@ -1,29 +1,8 @@
 -- The kept list of a run on a mounted disk, at each of the run's beginnings.
-use Rattle.std.proofs.Common.{◌≡◌, ℕ, zero, suc, ◌≤◌, List, [], ◌∷◌, ◌++◌, length, take, drop, refl, sym, ◌∙◌, ap, subst, arith}
-use Rattle.std.proofs.lemmas.List.{length-take-le, take-append-drop, take-take}
-use Rattle.fs_layout.specs.Recovered.{sizes_of}
-use Rattle.image_tree.specs.Trees.{tree_in}
-use Rattle.plain_tree.specs.declared.call.Call.{Call}
-use Rattle.plain_tree.specs.declared.trace.Placed.{Placed}
-use Rattle.plain_tree.specs.Explains.{Chain, Explains, IsNamedPart, Rises, Shown, trace_of}
-use Rattle.plain_tree.specs.Tree.{Tree, tree_of}
-use Rattle.group_log.specs.Stories.{IsMarked, RisesBy}
-use Rattle.group_log.proofs.Stories.{beginning}
-use Rattle.tree_laws.specs.MoveLaws.{before}
+use Rattle.run_laws.proofs.Vocabulary.{◌≡◌, ℕ, zero, suc, ◌≤◌, List, [], ◌∷◌, ◌++◌, length, take, refl, sym, ◌∙◌, ap, subst, arith, length-take-le, take-append-drop, take-take, sizes_of, tree_in, Call, Placed, Explains, IsNamedPart, Rises, Shown, trace_of, Tree, tree_of, IsMarked, RisesBy, beginning, before, Theory, EventOf as Event, Sound, State, AllHonest, fresh, makes, next, run, run-append, sound_run, Outside, MoveMachine, IsMoving, RunsFrom, shown_by, shows, theory_of, IsTheHistory, history_of, clean_before, history_grows, RunsOn, block_moves, first, block_calls, moving, runs_from, disk_after, marks_at, state_after, event_of, first_sound, AllStarted}
+use Rattle.std.proofs.Common.{drop}
+use Rattle.plain_tree.specs.Explains.{Chain}
 use Rattle.tree_laws.proofs.History.{Apart}
-use Rattle.atomic_programs.specs.Calls.{Theory, Event, Sound, State, AllHonest, fresh, makes, next, run}
-use Rattle.atomic_programs.proofs.Reached.{run-append, sound_run}
-use Rattle.fs_machine.specs.LogPart.{Outside}
-use Rattle.inode_machine.specs.MoveCalls.{MoveMachine, IsMoving, RunsFrom, shown_by, shows, theory_of}
-use Rattle.inode_machine.specs.Kept.{IsTheHistory, history_of}
-use Rattle.inode_machine.proofs.Kept.{clean_before, history_grows}
-use Rattle.calls_on_blocks.specs.History.{RunsOn, block_moves, first}
-use Rattle.calls_on_blocks.specs.Theory.{block_calls}
-use Rattle.calls_on_blocks.proofs.History.{moving, runs_from}
-use Rattle.calls_on_blocks.specs.Stops.{disk_after, marks_at, state_after}
-use Rattle.calls_on_blocks.proofs.Following.{event_of}
-use Rattle.calls_on_blocks.proofs.Stops.{first_sound}
-use Rattle.hart_core.proofs.Calming.{AllStarted}
 use Rattle.run_laws.proofs.Left.{HasTreeOf, Leaves, honest_first, left}
 use Rattle.run_laws.proofs.Listed.{kept_explains}
 

@@ -1,35 +1,8 @@
 -- A hart without a call has begun nothing; and where no hart has one nothing is left of any call.
-use Rattle.std.proofs.Common.{◌≡◌, ◌≢◌, ℕ, Bool, true, false, if◌then◌else◌, List, Option, Some, None, get_or, refl, sym, ◌∙◌, ap, subst}
-use Rattle.fs_layout.specs.declared.superblock.Super.{Super}
-use Rattle.fs_layout.specs.Recovered.{sizes_of}
-use Rattle.plain_tree.specs.declared.call.Call.{Call}
-use Rattle.tree_laws.proofs.Maps.{eq_self}
-use Rattle.atomic_programs.specs.Calls.{Theory, AllHonest, Event as EventOf, Run, State, fresh, run}
-use Rattle.atomic_programs.specs.Explained.{Holds, IsExplained}
-use Rattle.atomic_programs.specs.Machines.{program_at}
-use Rattle.atomic_programs.specs.Plain.{Code, Plain, erase, plain_run, prog_of}
-use Rattle.atomic_programs.proofs.Erased.{erase-run}
-use Rattle.atomic_programs.proofs.Explains.{explains}
-use Rattle.fs_machine.specs.LogPart.{Outside}
+use Rattle.run_laws.proofs.Vocabulary.{◌≡◌, ◌≢◌, ℕ, Bool, true, false, if◌then◌else◌, List, Option, Some, None, get_or, refl, sym, ◌∙◌, ap, subst, Super, sizes_of, Call, eq_self, Theory, AllHonest, EventOf, Run, State, fresh, run, Holds, IsExplained, program_at, Code, Plain, erase, plain_run, prog_of, erase-run, explains, Outside, Running, running_of, Held, Idle, Inv, if_kept, view, Shows, loaded, IsMountable, ShowsItsTree, mounts_show_their_trees, quiet_worlds_are_images, first, block_calls, block_code, first_holds, first_idle, is_code, lawful, HartsOf, AllAnswer, IsHistory, WorldOf, calls_of, all_honest, mountable, rests_erased, nones, CountsReferences, HasBegunNothing, IdleHartsAreThrough, IdleHartsHaveBegunNothing, NothingIsLeft}
 use Rattle.fs_machine.specs.Steps as steps
-use Rattle.syscalls.specs.Machines.{Running, running_of}
-use Rattle.inode_machine.specs.Rules.{Held, Idle, Inv, if_kept, view}
 use Rattle.inode_machine.specs.World as above
-use Rattle.inodes_on_blocks.specs.ShownTables.{Shows, loaded}
-use Rattle.inodes_on_blocks.specs.Mounted.{IsMountable, ShowsItsTree}
-use Rattle.inodes_on_blocks.proofs.Mounted.{mounts_show_their_trees}
-use Rattle.inodes_on_blocks.proofs.QuietWorlds.{quiet_worlds_are_images}
-use Rattle.calls_on_blocks.specs.History.{first}
-use Rattle.calls_on_blocks.specs.Theory.{block_calls, block_code}
-use Rattle.calls_on_blocks.proofs.History.{first_holds, first_idle}
-use Rattle.calls_on_blocks.proofs.Lawful.{is_code, lawful}
-use Rattle.hart_core.specs.Harts.{HartsOf, shared_of}
-use Rattle.hart_core.specs.Runs.{AllAnswer, IsHistory}
-use Rattle.hart_core.specs.Worlds.{WorldOf, calls_of}
-use Rattle.hart_core.proofs.Histories.{all_honest}
-use Rattle.hart_core.proofs.Resting.{mountable, rests_erased}
-use Rattle.hart_core.proofs.Stepping.{nones}
-use Rattle.run_laws.specs.Idle.{CountsReferences, HasBegunNothing, IdleHartsAreThrough, IdleHartsHaveBegunNothing, NothingIsLeft}
+use Rattle.hart_core.specs.Harts.{shared_of}
 use Rattle.run_laws.proofs.IdleCounts.{all_counted, no_place_taken, none_more}
 use Rattle.run_laws.proofs.IdleRuns.{idle_runs}
 

@@ -1,22 +1,7 @@
 -- What the tables count of an inode: one for each open file, and what each hart has.
-use Rattle.std.proofs.Common.{◌≡◌, ◌≢◌, ℕ, zero, suc, ◌+◌, ◌<◌, ◌==◌, Bool, true, false, cond, List, [], ◌∷◌, length, Option, Some, None}
-use Rattle.std.proofs.Common.{refl, sym, ◌∙◌, ap, subst, arith}
-use Rattle.std.specs.Prelude.{slice_get, count_by}
-use Rattle.std.proofs.lemmas.Option.{same_Some, slice_get_within}
-use Rattle.std.proofs.lemmas.List.Sums.{sum_by-cons}
-use Rattle.fs_layout.specs.declared.inode.Dinode.{Dinode}
-use Rattle.plain_tree.specs.Widths.{hart_count}
-use Rattle.tree_laws.specs.WellFormed.{sum_below, one_if}
-use Rattle.tree_laws.proofs.Maps.{none_any}
-use Rattle.tree_laws.proofs.Sums.{one_yes, one_no, sum_same}
+use Rattle.run_laws.proofs.Vocabulary.{◌≡◌, ◌≢◌, ℕ, zero, suc, ◌+◌, ◌<◌, ◌==◌, Bool, true, false, cond, List, [], ◌∷◌, length, Option, Some, None, refl, sym, ◌∙◌, ap, subst, arith, slice_get, count_by, same_Some, slice_get_within, sum_by-cons, Dinode, hart_count, sum_below, one_if, none_any, one_yes, one_no, sum_same, FilePlace, Taken, TablesState, owed, references_of, is_file_of, is_directory_of, file_count, is_at, Entry, Inv, number_is, Shows, is_taken, place_with}
 use Rattle.fs_machine.specs.declared.desk.Desk as cards
-use Rattle.fs_machine.specs.declared.files.FilePlace.{FilePlace}
-use Rattle.fs_machine.specs.declared.files.FilePlace.TheVariants.{Taken}
-use Rattle.fs_machine.specs.Tables.{TablesState, owed, references_of, is_file_of, is_directory_of}
-use Rattle.inode_machine.specs.Exec.{file_count, is_at}
-use Rattle.inode_machine.specs.World.{Entry, World}
-use Rattle.inode_machine.specs.Rules.{Inv, number_is}
-use Rattle.inodes_on_blocks.specs.ShownTables.{Shows, is_taken, place_with}
+use Rattle.inode_machine.specs.World.{World}
 
 -- ---- sums
 

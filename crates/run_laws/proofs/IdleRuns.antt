@@ -1,10 +1,5 @@
 -- A world that has stopped has a call under way: that of the hart whose step stopped it.
-use Rattle.std.proofs.Common.{◌≡◌, ℕ, Bool, true, false, Option, Some, None, List, [], ◌∷◌, if◌then◌else◌, refl, sym, ◌∙◌, ap}
-use Rattle.std.specs.Prelude.{nat_eq}
-use Rattle.atomic_programs.specs.Prog.{Ret, Do, Did, Waits, Ran, Stops}
-use Rattle.atomic_programs.specs.Logic.{P, OpWithAnswer}
-use Rattle.atomic_programs.specs.Calls.{Theory, Began, Refuses, Begins, Run, State, Event, Start, Step, changed, fresh, is_some, run}
-use Rattle.atomic_programs.specs.Calls.{moved, tried, step_prog, step_unless, step_run, begun, busy_in, start_run, next}
+use Rattle.run_laws.proofs.Vocabulary.{◌≡◌, ℕ, Bool, true, false, Option, Some, None, List, [], ◌∷◌, if◌then◌else◌, refl, sym, ◌∙◌, ap, nat_eq, Ret, Do, Did, Waits, Ran, Stops, PartOf as P, OpWithAnswer, Theory, Began, Refuses, Begins, Run, State, EventOf as Event, Start, Step, changed, fresh, is_called as is_some, run, moved, tried, step_prog, step_unless, step_run, begun, busy_in, start_run, next}
 
 module _ (L : Theory) where
   record HasCall (s : State L) : Type 0 where

@@ -1,13 +1,6 @@
 -- What inherit asks for fits.
-use Rattle.std.proofs.Common.{ℕ, zero, suc, ◌+◌, true, false, refl}
-use Rattle.plain_tree.specs.declared.answer.Reply.{Reply}
+use Rattle.run_laws.proofs.Vocabulary.{ℕ, zero, suc, ◌+◌, true, false, refl, Reply, descriptor_count, Ret, Do, unmarked, inherit_end, inherit_program, lend_from, lend_on, lent_directory, P, done, LoanResult, Lent, Moved, Leave, Release}
 use Rattle.plain_tree.specs.declared.call.Call.TheVariants as calls
-use Rattle.plain_tree.specs.Widths.{descriptor_count}
-use Rattle.atomic_programs.specs.Prog.{Ret, Do, unmarked}
-use Rattle.inode_machine.specs.Moving.{inherit_end, inherit_program, lend_from, lend_on, lent_directory}
-use Rattle.inode_machine.specs.Parts.{P, done}
-use Rattle.inode_machine.specs.World.{LoanResult, Lent, Moved}
-use Rattle.inode_machine.specs.World.Op.{Leave, Release}
 use Rattle.run_laws.proofs.PathFits.{drop_fits}
 use Rattle.run_laws.proofs.Fits.{AllFit}
 use Rattle.run_laws.proofs.Telling.{lend_tells}

@@ -1,26 +1,7 @@
 -- What a program's operations have changed where it ends for want of room: of a run of it, and of the parts of which calls are made.
-use Rattle.std.proofs.Common.{◌≡◌, ◌⊎◌, inl, inr, ℕ, Bool, true, false, if◌then◌else◌, List, [], ◌∷◌, ◌++◌, Option, Some, None}
-use Rattle.std.proofs.Common.{refl, sym, ◌∙◌, ap, subst, append_assoc, append-nil}
+use Rattle.run_laws.proofs.Vocabulary.{◌≡◌, ◌⊎◌, inl, inr, ℕ, Bool, true, false, if◌then◌else◌, List, [], ◌∷◌, ◌++◌, Option, Some, None, refl, sym, ◌∙◌, ap, subst, append_assoc, append-nil, Full, MemInodes, Reply, Call, Action, Name, elements, is_absolute, eq_self, In, Ret, Do, unmarked, AtName, AtNothing, is_directory_face, NoMemory, NotThere, P, Stop, drop, free_all, full, give_up, leave_directory, say, see_parent, start, start_on, stopped, tail, walk, walk_parent, walk_step, with_last, Answer, Forget, Free, Give, Leave, Take, Up, UpStart, Frees, Change, Freed, Sighting, by_free, changed_by, changes_after, seen_by, Stands, wanted, HasWanted, IsRunOf, Operation}
 use Rattle.plain_tree.specs.declared.answer.Answer.TheVariants as answers
-use Rattle.plain_tree.specs.declared.answer.Full.{Full}
-use Rattle.plain_tree.specs.declared.answer.Full.TheVariants.{MemInodes}
-use Rattle.plain_tree.specs.declared.answer.Reply.{Reply}
-use Rattle.plain_tree.specs.declared.call.Call.{Call}
-use Rattle.plain_tree.specs.declared.step.Action.{Action}
-use Rattle.plain_tree.specs.Tree.{Name, elements, is_absolute}
-use Rattle.tree_laws.proofs.Maps.{eq_self}
-use Rattle.atomic_programs.specs.Explained.{In}
-use Rattle.atomic_programs.specs.Prog.{Ret, Do, unmarked}
-use Rattle.inode_machine.specs.Inodes.{AtName, AtNothing, is_directory_face}
-use Rattle.inode_machine.specs.Parts.{NoMemory, NotThere, P, Stop, drop, free_all, full, give_up, leave_directory, say}
-use Rattle.inode_machine.specs.Parts.{see_parent, start, start_on, stopped, tail, walk, walk_parent, walk_step, with_last}
-use Rattle.inode_machine.specs.World.{Answer, Op}
-use Rattle.inode_machine.specs.World.Op.{Forget, Free, Give, Leave, Take, Up, UpStart}
-use Rattle.inode_machine.specs.World.Mark.{Frees}
-use Rattle.run_laws.specs.Changes.{Change, Freed, Sighting, by_free, changed_by, changes_after, seen_by}
-use Rattle.run_laws.specs.Standing.{Stands}
-use Rattle.run_laws.specs.Wanted.{wanted}
-use Rattle.run_laws.specs.WholeInodes.{HasWanted, IsRunOf, Operation}
+use Rattle.inode_machine.specs.World.{Op}
 
 -- ---- what comes after an operation
 

@@ -1,42 +1,10 @@
 -- What each call's program has changed where it ends for want of room.
-use Rattle.std.proofs.Common.{◌≡◌, inl, inr, ◌+◌, ◌-◌, ◌==◌, ◌||◌, ℕ, zero, suc, Bool, true, false, if◌then◌else◌}
-use Rattle.std.proofs.Common.{List, [], ◌∷◌, ◌++◌, Option, Some, None, length, refl, append_assoc}
+use Rattle.run_laws.proofs.Vocabulary.{◌≡◌, inl, inr, ◌+◌, ◌-◌, ◌==◌, ◌||◌, ℕ, zero, suc, Bool, true, false, if◌then◌else◌, List, [], ◌∷◌, ◌++◌, Option, Some, None, length, refl, append_assoc, Cause, Exists, NoDirectory, DotName, NoEntry, NotDirectory, NotEmpty, BadDescriptor, Full, Blocks, Descriptors, Directory, DiskInodes, MemInodes, OpenFiles, Reply, Call, Action, creates, Name, dot, dotdot, elements, same_name, descriptor_count, Ret, Do, unmarked, close_on, dup_on, read_on, read_reply, stat_on, stat_reply, Face, OfDirectory, OfFile, Sort, face_or, is_directory_face, is_directory_sort, is_live_face, AtEntries, AtName, AtNothing, open_refusal, chdir_at, chdir_program, inherit_end, lend_from, lend_on, bump_refused, clear_name, in_parent, link_at, link_found, link_in, link_name, link_program, link_raise, lower, mkdir_in, mkdir_on, mkdir_other, mkdir_refused, mkdir_with, name_directory, named_on, or_missing, unlink_child, unlink_dots, unlink_found, unlink_in, unlink_named, unlink_other, create_found, create_in, empties, entered_file, file_for, installed_on, installs, make_on, make_other, make_with, open_at, open_end, open_face, open_made, open_new, open_old, opened_reply, take_descriptor, truncates, unmake, P, done, drop, failed, full, give_up, own_step, say, stopped, tail, program, Answer, Lent, LoanResult, LockResult, LocksIt, Moved, New, NotLocked, Claim, Double, Empty, Enter, Fill, Forget, Install, Leave, Lend, LendDirectory, ReadFile, Release, Settle, Shut, Store, Take, Up, Change, Claimed, Cleared, Counted, Entered, Filled, GaveBack, Sighting, TookPlace, seen_by, MadeFileAtMost, Stands, raised, wanted}
 use Rattle.plain_tree.specs.declared.answer.Answer.TheVariants as answers
-use Rattle.plain_tree.specs.declared.answer.Cause.{Cause}
-use Rattle.plain_tree.specs.declared.answer.Cause.TheVariants.{Exists, IsDirectory as NoDirectory, DotName, NoEntry, NotDirectory}
-use Rattle.plain_tree.specs.declared.answer.Cause.TheVariants.{NotEmpty, BadDescriptor}
-use Rattle.plain_tree.specs.declared.answer.Full.{Full}
-use Rattle.plain_tree.specs.declared.answer.Full.TheVariants.{Blocks, Descriptors, Directory, DiskInodes, MemInodes, OpenFiles}
-use Rattle.plain_tree.specs.declared.answer.Reply.{Reply}
-use Rattle.plain_tree.specs.declared.call.Call.{Call}
 use Rattle.plain_tree.specs.declared.call.Call.TheVariants as calls
-use Rattle.plain_tree.specs.declared.step.Action.{Action}
 use Rattle.plain_tree.specs.declared.step.Action.TheVariants as actions
-use Rattle.plain_tree.specs.Steps.{creates}
-use Rattle.plain_tree.specs.Tree.{Name, dot, dotdot, elements, same_name}
-use Rattle.plain_tree.specs.Widths.{descriptor_count}
-use Rattle.atomic_programs.specs.Prog.{Ret, Do, unmarked}
-use Rattle.inode_machine.specs.Descriptors.{close_on, dup_on, read_on, read_reply, stat_on, stat_reply}
-use Rattle.inode_machine.specs.Inodes.{Face, OfDirectory, OfFile, Sort, face_or, is_directory_face, is_directory_sort, is_live_face}
-use Rattle.inode_machine.specs.Inodes.{AtEntries, AtName, AtNothing, open_refusal}
-use Rattle.inode_machine.specs.Moving.{chdir_at, chdir_program, inherit_end, lend_from, lend_on}
-use Rattle.inode_machine.specs.Naming.{bump_refused, clear_name, in_parent, link_at, link_found, link_in, link_name, link_program}
-use Rattle.inode_machine.specs.Naming.{link_raise, lower, mkdir_in, mkdir_on, mkdir_other, mkdir_refused, mkdir_with, name_directory}
-use Rattle.inode_machine.specs.Naming.{named_on, or_missing, unlink_child, unlink_dots, unlink_found, unlink_in, unlink_named}
-use Rattle.inode_machine.specs.Naming.{unlink_other}
-use Rattle.inode_machine.specs.Opening.{create_found, create_in, empties, entered_file, file_for, installed_on, installs, make_on}
-use Rattle.inode_machine.specs.Opening.{make_other, make_with, open_at, open_end, open_face, open_made, open_new, open_old, opened_reply}
-use Rattle.inode_machine.specs.Opening.{take_descriptor, truncates, unmake}
-use Rattle.inode_machine.specs.Parts.{P, done, drop, failed, full, give_up, own_step, say, stopped, tail}
-use Rattle.inode_machine.specs.Programs.{program}
 use Rattle.inode_machine.specs.World as above
-use Rattle.inode_machine.specs.World.{Answer, Lent, LoanResult, LockResult, LocksIt, Moved, New, NotLocked}
-use Rattle.inode_machine.specs.World.Op.{Claim, Double, Empty, Enter, Fill, Forget, Install, Leave}
-use Rattle.inode_machine.specs.World.Op.{Lend, LendDirectory, ReadFile, Release}
-use Rattle.inode_machine.specs.World.Op.{Settle, Shut, Store, Take, Up}
-use Rattle.run_laws.specs.Changes.{Change, Claimed, Cleared, Counted, Entered, Filled, GaveBack, Sighting, TookPlace, seen_by}
-use Rattle.run_laws.specs.Standing.{MadeFileAtMost, Stands, lowered, raised}
-use Rattle.run_laws.specs.Wanted.{wanted}
+use Rattle.run_laws.specs.Standing.{lowered}
 use Rattle.run_laws.proofs.Leaving.{Leaves, LeavesFrom, after, drop_l, ends_full, ends_unwanted, give_up_l, lost_missing}
 use Rattle.run_laws.proofs.Leaving.{lost_placeless, no_place_l, or_wanted, parent_l, path_l, refused_l, tail_l}
 use Rattle.run_laws.proofs.LeavingWrites.{write_l}

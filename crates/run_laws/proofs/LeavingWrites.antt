@@ -1,21 +1,8 @@
 -- What a write has written where it finds no block: the bytes before it.
-use Rattle.std.proofs.Common.{◌≡◌, ◌+◌, ◌-◌, ◌*◌, ℕ, zero, suc, true, false, List, [], ◌∷◌, ◌++◌, drop, take}
-use Rattle.std.proofs.Common.{refl, sym, ◌∙◌, ap, subst, arith, append_assoc}
-use Rattle.std.proofs.lemmas.List.{drop-drop, take-append-drop}
-use Rattle.plain_tree.specs.declared.answer.Full.TheVariants.{Blocks}
-use Rattle.plain_tree.specs.declared.answer.Reply.{Reply}
-use Rattle.plain_tree.specs.declared.call.Call.{Call}
+use Rattle.run_laws.proofs.Vocabulary.{◌≡◌, ◌+◌, ◌-◌, ◌*◌, ℕ, zero, suc, true, false, List, [], ◌∷◌, ◌++◌, take, refl, sym, ◌∙◌, ap, subst, arith, append_assoc, drop-drop, take-append-drop, Blocks, Reply, Call, piece, piece_count, piece_len, Do, unmarked, checked_reply, joined_on, write_from, write_piece, write_program, write_reply, wrote_on, P, failed, say, JoinResult, Joined, NotJoined, Refused, Short, Whole, Wrote as WriteResult, Join, Leave, WriteFile, Change, WroteFrom, wanted}
+use Rattle.std.proofs.Common.{drop}
 use Rattle.plain_tree.specs.declared.call.Call.TheVariants as calls
-use Rattle.plain_tree.specs.Calls.{piece, piece_count}
-use Rattle.plain_tree.specs.Widths.{piece_len}
-use Rattle.atomic_programs.specs.Prog.{Do, unmarked}
-use Rattle.inode_machine.specs.Descriptors.{checked_reply, joined_on, write_from, write_piece, write_program, write_reply, wrote_on}
-use Rattle.inode_machine.specs.Parts.{P, failed, say}
-use Rattle.inode_machine.specs.World.{JoinResult, Joined, NotJoined, Refused, Short, Whole, Wrote as WriteResult}
-use Rattle.inode_machine.specs.World.Op.{Join, Leave, WriteFile}
-use Rattle.run_laws.specs.Changes.{Change, Wrote}
-use Rattle.run_laws.specs.Standing.{WroteFrom}
-use Rattle.run_laws.specs.Wanted.{wanted}
+use Rattle.run_laws.specs.Changes.{Wrote}
 use Rattle.run_laws.proofs.Leaving.{Leaves, after, ends_full, ends_unwanted, or_wanted}
 
 module _ (fd n : ℕ) (bytes : List ℕ) where

@@ -1,31 +1,6 @@
 -- What a stop leaves: the tree of the state after the events that a mark tells.
-use Rattle.std.proofs.Common.{◌≡◌, inl, inr, ℕ, zero, suc, ◌+◌, ◌≤◌, ◌<◌, false, List, [], ◌∷◌, ◌++◌, length}
-use Rattle.std.proofs.Common.{get_or, take, refl, sym, subst, ap, ◌∙◌, arith, add-one}
-use Rattle.std.proofs.lemmas.List.{take_more, take_all}
-use Rattle.fs_layout.specs.declared.superblock.Super.{Super}
-use Rattle.fs_layout.specs.Recovered.{sizes_of}
-use Rattle.plain_tree.specs.declared.call.Call.{Call}
-use Rattle.plain_tree.specs.declared.trace.Placed.{Placed}
-use Rattle.plain_tree.specs.Explains.{IsNamedPart}
-use Rattle.plain_tree.specs.Tree.{tree_of}
-use Rattle.image_tree.specs.Trees.{tree_in}
-use Rattle.inodes_on_blocks.specs.Seen.{IsRecoveredSo}
-use Rattle.group_log.specs.declared.marks.Marks.{Marks}
-use Rattle.group_log.specs.CrashLaw.{Blocks, AgreeOutside}
-use Rattle.group_log.specs.Group.{joined}
-use Rattle.group_log.specs.Moves.{seen_of}
-use Rattle.group_log.specs.Stories.{IsMarked, no_marks}
-use Rattle.tree_laws.specs.MoveLaws.{before}
-use Rattle.atomic_programs.specs.Calls.{Theory, Event, Step, State, IsHonest, AllHonest, next, run, Sound}
-use Rattle.atomic_programs.proofs.Reached.{run-append, sound_run}
-use Rattle.fs_machine.specs.LogPart.{Outside, Passes}
-use Rattle.calls_on_blocks.specs.Theory.{block_calls}
-use Rattle.calls_on_blocks.specs.Marks.{marks_after, marks_next, log_at}
-use Rattle.calls_on_blocks.specs.Stops.{AreEventsOn, disk_after, marks_at, state_after}
-use Rattle.calls_on_blocks.proofs.Moves.{itself, log_in}
-use Rattle.calls_on_blocks.proofs.Events.{next_now}
-use Rattle.calls_on_blocks.proofs.Following.{Followed, followed_on}
-use Rattle.calls_on_blocks.proofs.Stops.{stored_respects, itself_stored, quiet_stored, first_state, first_followed, first_image, next_same}
+use Rattle.run_laws.proofs.Vocabulary.{◌≡◌, inl, inr, ℕ, zero, suc, ◌+◌, ◌≤◌, ◌<◌, false, List, [], ◌∷◌, ◌++◌, length, get_or, take, refl, sym, subst, ap, ◌∙◌, arith, add-one, take_more, take_all, Super, sizes_of, Call, Placed, IsNamedPart, tree_of, tree_in, IsRecoveredSo, Marks, AgreeOutside, joined_count as joined, seen_of, IsMarked, no_marks, before, Theory, EventOf as Event, Step, State, IsHonest, AllHonest, next, run, Sound, run-append, sound_run, Outside, Passes, block_calls, marks_after, marks_next, log_at, AreEventsOn, disk_after, marks_at, state_after, itself, log_in, next_now, Followed, followed_on, stored_respects, itself_stored, quiet_stored, first_state, first_followed, first_image, next_same}
+use Rattle.group_log.specs.CrashLaw.{Blocks}
 use Rattle.run_laws.proofs.Numbered.{before_numbered, entry, long_numbered, numbered}
 
 -- ---- a list's first events

@@ -1,3 +1,5 @@
+pub mod Lemmas
+pub mod Vocabulary
 pub mod IdleCounts
 pub mod IdleRuns
 pub mod Idle

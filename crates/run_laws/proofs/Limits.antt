@@ -1,19 +1,6 @@
 -- No call that may start has a limit above a million steps.
-use Rattle.std.proofs.Common.{◌≡◌, ◌≤◌, ◌+◌, ◌-◌, ◌*◌, ◌/◌, ◌==◌, ℕ, Bool, true, false, not, nat_lt, if◌then◌else◌, cond, List, [], ◌∷◌, ◌++◌, length, filter, take, Some, None, refl, arith, inl, inr, div-mul-le_self}
-use Rattle.std.proofs.lemmas.Bool.Decides.{nat_tests}
-use Rattle.std.proofs.lemmas.List.{length-map}
-use Rattle.plain_tree.specs.declared.call.Call.{Call}
+use Rattle.run_laws.proofs.Vocabulary.{◌≡◌, ◌≤◌, ◌+◌, ◌-◌, ◌*◌, ◌/◌, ◌==◌, ℕ, Bool, true, false, not, nat_lt, if◌then◌else◌, cond, List, [], ◌∷◌, ◌++◌, length, filter, take, Some, None, refl, arith, inl, inr, div-mul-le_self, nat_tests, length-map, Call, piece_count, elements, is_empty, pieces, name_len, either, is_nothing, limit, path_cost, asked_limit, PathTooLong, ZeroInPath, NotCovered, TooLong, are_bytes, asks_wrong, has_zero, is_covered, path_limit, path_wrong, both_paths, most_steps}
 use Rattle.plain_tree.specs.declared.call.Call.TheVariants as calls
-use Rattle.plain_tree.specs.Calls.{piece_count}
-use Rattle.plain_tree.specs.Tree.{elements, is_empty, pieces}
-use Rattle.plain_tree.specs.Widths.{name_len}
-use Rattle.tree_laws.proofs.Maps.{either}
-use Rattle.inode_machine.specs.Exec.{is_nothing}
-use Rattle.inode_machine.specs.Programs.{limit, path_cost}
-use Rattle.inode_machine.specs.Rules.{asked_limit}
-use Rattle.inode_machine.specs.Theory.{PathTooLong, ZeroInPath, NotCovered, TooLong, are_bytes, asks_wrong, has_zero, is_covered, path_limit, path_wrong}
-use Rattle.inode_machine.proofs.Names.{both_paths}
-use Rattle.run_laws.specs.StepBounds.{most_steps}
 
 at_most : (n k : ℕ) → nat_lt k n ≡ false → n ≤ k
 at_most n k e = grind (arith, nat_tests)

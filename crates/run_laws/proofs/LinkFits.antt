@@ -1,15 +1,7 @@
 -- What link asks for fits.
-use Rattle.std.proofs.Common.{ℕ, Bool, true, false, if◌then◌else◌, List, [], ◌∷◌, Option, Some, None, refl}
-use Rattle.plain_tree.specs.declared.answer.Cause.{Cause}
-use Rattle.plain_tree.specs.declared.answer.Cause.TheVariants.{NoEntry, Exists, IsDirectory}
-use Rattle.plain_tree.specs.declared.answer.Full.TheVariants.{Blocks, Directory}
-use Rattle.plain_tree.specs.declared.answer.Reply.{Reply}
+use Rattle.run_laws.proofs.Vocabulary.{ℕ, Bool, true, false, if◌then◌else◌, List, [], ◌∷◌, Option, Some, None, refl, Cause, NoEntry, Exists, NoDirectory as IsDirectory, Blocks, Directory, Reply, Name, elements, Face, face_or, is_directory_sort, is_live_face, lower, named_on, link_found, link_in, link_name, bump_refused, link_raise, link_at, link_program, is_there, failed, full, done, drop, give_up, tail, stopped}
 use Rattle.plain_tree.specs.declared.call.Call.TheVariants as calls
 use Rattle.plain_tree.specs.declared.step.Action.TheVariants as actions
-use Rattle.plain_tree.specs.Tree.{Name, elements}
-use Rattle.inode_machine.specs.Inodes.{Face, face_or, is_directory_sort, is_live_face}
-use Rattle.inode_machine.specs.Naming.{lower, named_on, link_found, link_in, link_name, bump_refused, link_raise, link_at, link_program}
-use Rattle.inode_machine.specs.Parts.{is_there, failed, full, done, drop, give_up, tail, stopped}
 use Rattle.inode_machine.specs.World as above
 use Rattle.run_laws.proofs.PathFits.{drop_fits, give_up_fits, tail_fits, refused_fits, path_fits, parent_fits}
 use Rattle.run_laws.proofs.Fits.{AllFit}

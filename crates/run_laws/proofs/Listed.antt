@@ -1,24 +1,9 @@
 -- The list that is kept beside a run explains it, where each call that was started is one that its hart may make.
-use Rattle.std.proofs.Common.{◌≡◌, ℕ, List, [], ◌∷◌, ◌++◌, map, refl, sym, ◌∙◌, ap, subst, append_assoc}
-use Rattle.plain_tree.specs.declared.call.Call.{Call}
-use Rattle.plain_tree.specs.declared.trace.Placed.{Placed}
-use Rattle.plain_tree.specs.Explains.{Shown, Chain, Explains, trace_of}
-use Rattle.plain_tree.specs.Tree.{Tree, tree_of}
-use Rattle.plain_tree.specs.TreeData.{TreeData}
-use Rattle.tree_laws.specs.History.{History}
-use Rattle.tree_laws.specs.Moves.{Stage}
-use Rattle.tree_laws.specs.Runs.{World as Told, Event as Turn, Runs as Goings, opened, shown_of}
-use Rattle.tree_laws.specs.Runs.Event.{Starts, Steps, Nothing}
-use Rattle.tree_laws.proofs.Appended.{runs_more, runs_none}
-use Rattle.tree_laws.proofs.History.{AllMayStart, Apart, opened_ok, run_explained, run_ok}
-use Rattle.atomic_programs.specs.Calls.{Theory, Event, Sound, State, AllHonest, fresh, makes, next, run}
-use Rattle.atomic_programs.proofs.Beginnings.{append_nil}
-use Rattle.atomic_programs.proofs.Explains.{sound_keeps}
-use Rattle.atomic_programs.proofs.Reached.{sound_fresh, sound_run}
-use Rattle.inode_machine.specs.MoveCalls.{MoveMachine, IsMoving, RunsFrom, shows, theory_of}
-use Rattle.inode_machine.specs.Kept.{IsTheHistory, history_of, kept, kept_by, kept_on, nothing_yet, placed, told_of}
-use Rattle.inode_machine.proofs.Kept.{Beside, clean_before, event_turns}
-use Rattle.hart_core.proofs.Calming.{AllStarted}
+use Rattle.run_laws.proofs.Vocabulary.{◌≡◌, ℕ, List, [], ◌∷◌, ◌++◌, map, refl, sym, ◌∙◌, ap, subst, append_assoc, Call, Placed, Shown, Explains, trace_of, Tree, tree_of, TreeData, History, Stage, Told, Turn, Goings, opened, shown_of, Steps, Nothing, runs_more, runs_none, AllMayStart, opened_ok, run_explained, run_ok, Theory, EventOf as Event, Sound, State, AllHonest, fresh, makes, next, run, append_nil, sound_keeps, sound_fresh, sound_run, MoveMachine, IsMoving, RunsFrom, shows, theory_of, IsTheHistory, history_of, kept, kept_by, kept_on, nothing_yet, told_of, Beside, clean_before, event_turns, AllStarted}
+use Rattle.plain_tree.specs.Explains.{Chain}
+use Rattle.tree_laws.specs.Runs.Event.{Starts}
+use Rattle.tree_laws.proofs.History.{Apart}
+use Rattle.inode_machine.specs.Kept.{placed}
 
 -- no other calls were started
 may_start : (Ok : ℕ → Call → Type 0) (turns : List Turn) → AllStarted Ok (map shown_of turns) → AllMayStart Ok turns

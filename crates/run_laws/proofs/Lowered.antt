@@ -1,33 +1,8 @@
 -- The calls on whole inodes, run on the blocks, are right with that history too.
-use Rattle.std.proofs.Common.{◌≡◌, ◌<◌, ◌∙◌, ℕ, [], subst, arith}
-use Rattle.fs_layout.specs.declared.superblock.Super.{Super}
-use Rattle.plain_tree.specs.declared.call.Call.{Call}
-use Rattle.plain_tree.specs.Tree.{put}
-use Rattle.plain_tree.specs.Widths.{hart_count}
-use Rattle.atomic_programs.specs.Calls.{Lawful}
-use Rattle.atomic_programs.specs.Joined.{Both, LowerLaws}
-use Rattle.atomic_programs.specs.Lifting.{AllLift, IsStarted}
-use Rattle.atomic_programs.specs.Lowered.{StartsBoth}
-use Rattle.atomic_programs.proofs.Joined.{lift_within}
-use Rattle.atomic_programs.proofs.Lowered.{lifted_lawful}
-use Rattle.inode_machine.specs.Budget.{unspent}
-use Rattle.inode_machine.specs.Programs.{program}
+use Rattle.run_laws.proofs.Vocabulary.{◌≡◌, ◌<◌, ◌∙◌, ℕ, [], subst, arith, Super, Call, put, hart_count, Lawful, Both, LowerLaws, AllLift, IsStarted, StartsBoth, lift_within, lifted_lawful, unspent, program, transactions_are_small, start_is, log_of, nothing, HasInodes, handlers, HasSpent, recorded_blocks, affords, none_spent, World, layer, shared_of, begins, child_of, serves, served_is, begun_here, below_count, joined_same, lower_laws, starts_both, inode_calls, lowered_inode_calls, operations, whole_inodes}
 use Rattle.inode_machine.specs.World as above
-use Rattle.inode_machine.proofs.Budgets.{transactions_are_small}
-use Rattle.inode_machine.proofs.Starts.{start_is}
-use Rattle.inodes_on_blocks.specs.Below.{World as Blocks, log_of}
-use Rattle.inodes_on_blocks.specs.Lowering.{nothing}
-use Rattle.inodes_on_blocks.specs.Making.{HasInodes}
-use Rattle.inodes_on_blocks.specs.Programs.{handlers}
-use Rattle.inodes_on_blocks.specs.Room.{HasSpent}
+use Rattle.inodes_on_blocks.specs.Below.{World as Blocks}
 use Rattle.inodes_on_blocks.specs.Shown.{Shows}
-use Rattle.inodes_on_blocks.specs.Spending.{recorded_blocks}
-use Rattle.inodes_on_blocks.proofs.Withins.{affords, none_spent}
-use Rattle.calls_on_blocks.specs.Layer.{World, layer, shared_of}
-use Rattle.calls_on_blocks.specs.Theory.{begins, child_of, serves}
-use Rattle.calls_on_blocks.proofs.Lawful.{served_is}
-use Rattle.calls_on_blocks.proofs.Starting.{begun_here, below_count, joined_same, lower_laws, starts_both}
-use Rattle.run_laws.specs.WholeInodes.{inode_calls, lowered_inode_calls, operations, whole_inodes}
 use Rattle.run_laws.proofs.CallFits.{call_fits, most_written}
 use Rattle.run_laws.proofs.Operations.{all_within}
 use Rattle.run_laws.proofs.Whole.{whole_lawful, whole_laws}

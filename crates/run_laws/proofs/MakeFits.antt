@@ -1,20 +1,8 @@
 -- What open with CREATE and mkdir ask for fits.
-use Rattle.std.proofs.Common.{ℕ, ◌==◌, Bool, true, false, if◌then◌else◌, List, [], ◌∷◌, Option, Some, None, refl}
-use Rattle.plain_tree.specs.declared.answer.Cause.{Cause}
-use Rattle.plain_tree.specs.declared.answer.Cause.TheVariants.{NoEntry}
-use Rattle.plain_tree.specs.declared.answer.Full.TheVariants.{Blocks, Descriptors, Directory, DiskInodes, MemInodes, OpenFiles}
-use Rattle.plain_tree.specs.declared.answer.Reply.{Reply}
+use Rattle.run_laws.proofs.Vocabulary.{ℕ, ◌==◌, Bool, true, false, if◌then◌else◌, List, [], ◌∷◌, Option, Some, None, refl, Cause, NoEntry, Blocks, Descriptors, Directory, DiskInodes, MemInodes, OpenFiles, Reply, Name, elements, Do, unmarked, Sort, Face, face_or, is_live_face, in_parent, is_refused, mkdir_in, mkdir_on, mkdir_other, mkdir_program, mkdir_refused, mkdir_with, name_directory, create_found, create_in, entered_file, file_for, installs, installed_on, make_on, make_other, make_with, open_at, open_end, open_made, open_new, truncates, unmake, P, is_there, failed, full, done, give_up, tail, stopped, Orphans, Enter, Forget, Install}
 use Rattle.plain_tree.specs.declared.call.Call.TheVariants as calls
 use Rattle.plain_tree.specs.declared.step.Action.TheVariants as actions
-use Rattle.plain_tree.specs.Tree.{Name, elements}
-use Rattle.atomic_programs.specs.Prog.{Do, unmarked}
-use Rattle.inode_machine.specs.Inodes.{Sort, Face, face_or, is_live_face}
-use Rattle.inode_machine.specs.Naming.{in_parent, is_refused, mkdir_in, mkdir_on, mkdir_other, mkdir_program, mkdir_refused, mkdir_with, name_directory}
-use Rattle.inode_machine.specs.Opening.{create_found, create_in, entered_file, file_for, installs, installed_on, make_on, make_other, make_with, open_at, open_end, open_made, open_new, truncates, unmake}
-use Rattle.inode_machine.specs.Parts.{P, is_there, failed, full, done, give_up, tail, stopped}
 use Rattle.inode_machine.specs.World as above
-use Rattle.inode_machine.specs.World.Mark.{Orphans}
-use Rattle.inode_machine.specs.World.Op.{Enter, Forget, Install}
 use Rattle.run_laws.proofs.PathFits.{give_up_fits, tail_fits, refused_fits, end_fits, open_at_fits, parent_fits}
 use Rattle.run_laws.proofs.Fits.{AllFit}
 use Rattle.run_laws.proofs.Names.{AllShort, Short14, elements_short}

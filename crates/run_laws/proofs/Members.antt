@@ -1,31 +1,11 @@
 -- A hart's steps open and end its transaction just as the log has it for a member.
-use Rattle.std.proofs.Common.{◌≡◌, ℕ, zero, suc, Bool, true, false, List, [], ◌∷◌, length, is_some, Option, Some, None, refl, sym, ◌∙◌, ap}
-use Rattle.std.proofs.Common.{◌↔◌, IsSome, if◌then◌else◌}
-use Rattle.std.specs.Prelude.{replicate, slice_get, slice_set}
-use Rattle.std.specs.Option.{option_map}
-use Rattle.buffer_cache.specs.Getting.{get_of}
-use Rattle.buffer_cache.specs.Seats.{SeatState}
-use Rattle.buffer_cache.specs.declared.got.Got.{Got}
+use Rattle.run_laws.proofs.Vocabulary.{◌≡◌, ℕ, zero, suc, Bool, true, false, List, [], ◌∷◌, length, is_some, Option, Some, None, refl, sym, ◌∙◌, ap, ◌↔◌, IsSome, if◌then◌else◌, replicate, slice_get, slice_set, option_map, get_of, SeatState, Got, IsMember, has, joined_count, one_more, with_block, limit_of, turn_is_out, join_waits, Did, Waits, Ran, Stops, RefusedState as Refused, TablesState, file_named, refusal_of, lock_inode, lock_file, settle_inode, up_inode, first_free, take_place, open_file, double_descriptor, shut_descriptor, give_next, LogPart, Outside, Passes, Fails, join_if, got_by, read_block, commit_if, AnswerBelow as Answer, ClaimedState as ClaimResult, JoinedState as JoinResult, Op, in_log, in_tables, joins, join_unless, lock_open, claims, claim_first, up_whom, drop_which, is_joined, has_members, member_at, after_join, recorded_after}
 use Rattle.buffer_cache.specs.declared.got.Got.TheVariants as got
-use Rattle.group_log.specs.Group.{IsMember, has, joined as joined_count, one_more, with_block}
-use Rattle.group_log.specs.Soundness.{limit_of}
-use Rattle.group_log.specs.Turns.{turn_is_out}
-use Rattle.group_log.specs.Waiting.{join_waits}
-use Rattle.atomic_programs.specs.Prog.{Did, Waits, Ran, Stops}
 use Rattle.fs_machine.specs.declared.files.OpenFile.{OpenFile}
-use Rattle.fs_machine.specs.declared.files.Refused.{Refused}
 use Rattle.fs_machine.specs.declared.files.Want.TheVariants as want
-use Rattle.fs_machine.specs.Tables.{TablesState, file_named}
-use Rattle.fs_machine.specs.Inodes.{refusal_of, lock_inode, lock_file, settle_inode, up_inode, first_free}
-use Rattle.fs_machine.specs.Files.{take_place, open_file, double_descriptor, shut_descriptor, give_next}
-use Rattle.fs_machine.specs.LogPart.{LogPart, Outside, Passes, Fails, join_if, got_by, read_block, commit_if}
 use Rattle.fs_machine.specs.Premises as premises
 use Rattle.fs_machine.specs.Steps as steps
-use Rattle.fs_machine.specs.Steps.{Answer, ClaimResult, JoinResult, Op, State, in_log, in_tables, joins, join_unless, lock_open, claims, claim_first, up_whom}
-use Rattle.fs_machine.specs.Steps.{drop_which}
-use Rattle.inodes_on_blocks.specs.OnBlocks.{is_joined}
-use Rattle.inodes_on_blocks.proofs.Groups.{has_members, member_at}
-use Rattle.run_laws.specs.Transactions.{after_join, recorded_after}
+use Rattle.fs_machine.specs.Steps.{State}
 use Rattle.run_laws.proofs.Recording.{JoinsApart, Recorded}
 
 -- ---- the log's members

@@ -1,7 +1,5 @@
 -- The names of a path fit into entries.
-use Rattle.std.proofs.Common.{◌≤◌, ℕ, not, List, [], ◌∷◌, length, take, map, filter, arith}
-use Rattle.std.proofs.lemmas.List.{length-take}
-use Rattle.plain_tree.specs.Tree.{Name, elements, is_empty, pieces}
+use Rattle.run_laws.proofs.Vocabulary.{◌≤◌, ℕ, not, List, [], ◌∷◌, length, take, map, filter, arith, length-take, Name, elements, is_empty, pieces}
 
 abbrev pub Short14 : Name → Type 0
 Short14 e = length e ≤ 14

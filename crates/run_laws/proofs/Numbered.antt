@@ -1,12 +1,5 @@
 -- An entry for each event: only its number matters.
-use Rattle.std.proofs.Common.{◌≡◌, ℕ, zero, suc, ◌+◌, min, nat_lt, Bool, true, false, List, [], ◌∷◌, ◌++◌, length}
-use Rattle.std.proofs.Common.{refl, ◌∙◌, ap, arith, length-append}
-use Rattle.std.proofs.lemmas.Bool.{ltb-false, ltb-true}
-use Rattle.std.proofs.lemmas.List.Elements.{filter-append}
-use Rattle.plain_tree.specs.declared.step.Action.TheVariants.{Bump}
-use Rattle.plain_tree.specs.declared.step.StepAnswer.TheVariants.{Done}
-use Rattle.plain_tree.specs.declared.trace.Placed.{Placed}
-use Rattle.tree_laws.specs.MoveLaws.{before}
+use Rattle.run_laws.proofs.Vocabulary.{◌≡◌, ℕ, zero, suc, ◌+◌, min, nat_lt, Bool, true, false, List, [], ◌∷◌, ◌++◌, length, refl, ◌∙◌, ap, arith, length-append, ltb-false, ltb-true, filter-append, Bump, Done, Placed, before}
 
 abbrev pub entry : ℕ → Placed
 entry n = record { event = n; call = 0; step = record { hart = 0; new = 0; action = Bump }; answer = Done }

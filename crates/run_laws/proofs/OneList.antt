@@ -1,39 +1,8 @@
 -- All beginnings of a run of a mounted world agree with one list.
-use Rattle.std.specs.List.{All}
-use Rattle.std.proofs.Common.{◌≡◌, ◌⊎◌, inl, inr, ℕ, zero, suc, ◌≤◌, false, List, [], ◌∷◌, length, take, refl, sym, ◌∙◌, ap, subst, arith}
-use Rattle.fs_layout.specs.declared.superblock.Super.{Super}
-use Rattle.fs_layout.specs.Recovered.{sizes_of}
-use Rattle.image_tree.specs.Trees.{tree_in}
-use Rattle.plain_tree.specs.declared.call.Call.{Call}
-use Rattle.plain_tree.specs.declared.trace.Placed.{Placed}
-use Rattle.plain_tree.specs.declared.trace.Trace.{Trace}
-use Rattle.plain_tree.specs.declared.trace.TracedCall.{TracedCall}
-use Rattle.plain_tree.specs.Calls.{call_climbs}
-use Rattle.plain_tree.specs.Explains.{Chain, Explains, IsNamedPart, Shown, trace_of}
-use Rattle.plain_tree.specs.Tree.{tree_of}
-use Rattle.plain_tree.specs.TreeData.{TreeData}
-use Rattle.tree_laws.specs.MoveLaws.{before}
-use Rattle.tree_laws.proofs.History.{IsHart, NeverClimbs, apart_alone, apart_calm}
-use Rattle.atomic_programs.specs.Calls.{Theory, Event as EventOf, State, fresh, run}
-use Rattle.atomic_programs.specs.Plain.{Code, Plain, plain_run}
-use Rattle.atomic_programs.proofs.Erased.{erase-run}
-use Rattle.fs_machine.specs.LogPart.{Outside}
-use Rattle.inode_machine.specs.MoveCalls.{MoveMachine, shows}
-use Rattle.calls_on_blocks.specs.History.{RunsOn, block_moves, first}
-use Rattle.calls_on_blocks.specs.Theory.{block_calls, block_code}
-use Rattle.calls_on_blocks.proofs.Lawful.{is_code}
-use Rattle.calls_on_blocks.specs.Stops.{disk_after as disk_left}
+use Rattle.run_laws.proofs.Vocabulary.{All, ◌≡◌, ◌⊎◌, inl, inr, ℕ, zero, suc, ◌≤◌, false, List, [], ◌∷◌, length, take, refl, sym, ◌∙◌, ap, subst, arith, Super, sizes_of, tree_in, Call, Placed, Trace, TracedCall, call_climbs, Explains, IsNamedPart, Shown, trace_of, tree_of, TreeData, before, IsHart, NeverClimbs, apart_alone, apart_calm, Theory, EventOf, State, fresh, run, Code, Plain, plain_run, erase-run, Outside, MoveMachine, shows, RunsOn, block_moves, first, block_calls, block_code, is_code, disk_after as disk_left, Event, HartsOf, Rests, IsHistory, NoneClimbs, OneHart, all_shown, shown, trace_in, WorldOf, AllStarted, long_history, one_each, shown_is, started, mountable, rests_erased, honest_run, AgreesWithTheList, RunsHaveOneList}
+use Rattle.plain_tree.specs.Explains.{Chain}
 use Rattle.hart_core.specs.declared.events.Came.{Came}
-use Rattle.hart_core.specs.declared.events.Event.{Event}
-use Rattle.hart_core.specs.Harts.{HartsOf}
-use Rattle.hart_core.specs.Mounting.{Rests}
-use Rattle.hart_core.specs.Runs.{IsHistory, NoneClimbs, OneHart, all_shown, shown, trace_in}
-use Rattle.hart_core.specs.Worlds.{WorldOf}
-use Rattle.hart_core.proofs.Calming.{AllStarted}
-use Rattle.hart_core.proofs.Histories.{long_history, one_each, shown_is, started}
-use Rattle.hart_core.proofs.Resting.{mountable, rests_erased}
-use Rattle.hart_core.proofs.Storing.{honest_run}
-use Rattle.run_laws.specs.OneList.{AgreesWithTheList, RunsHaveOneList, disk_after}
+use Rattle.run_laws.specs.OneList.{disk_after}
 use Rattle.run_laws.proofs.Growing.{IsSoFar, list_on, shows_first, so_it_is}
 
 shown_first : (k : ℕ) (es : List Event) (cs : List Came) → take k (all_shown es cs) ≡ all_shown (take k es) (take k cs)

@@ -1,39 +1,7 @@
 -- Each operation on whole inodes that fits acts at one moment below, within what its call's transactions may record: under the history that is the operations
 -- themselves.
-use Rattle.std.proofs.Common.{◌<◌, ℕ, Option}
-use Rattle.fs_layout.specs.declared.superblock.Super.{Super}
-use Rattle.plain_tree.specs.Widths.{hart_count}
-use Rattle.atomic_programs.specs.Lifting.{Uses}
-use Rattle.atomic_programs.specs.Prog.{Ret, Do}
-use Rattle.atomic_programs.specs.Spending.{AtomicWithin}
-use Rattle.inode_machine.specs.Parts.{P}
+use Rattle.run_laws.proofs.Vocabulary.{◌<◌, ℕ, Option, Super, hart_count, Uses, Ret, Do, AtomicWithin, P, JoinResult, LoanResult, LockResult, Wrote, Take, Give, UpStart, Up, WalkDown, Down, Free, Forget, Claim, Store, Fill, Enter, Clear, Empty, Slot, Install, StatFile, LockFile, ReadFile, LockOpen, CheckFile, JoinFile, WriteFile, Double, Shut, Settle, Lend, LendDirectory, Release, Join, Leave, Say, ActsOnceAt, HasInodes, HasSpent, recorded_blocks, ActsWithin, ProgramsSpend, Spends, up_acts, up_start_acts, walk_down_acts, down_acts, forget_acts, join_file_acts, join_acts, leave_acts, lend_acts, lend_directory_acts, release_acts, claim_within, enter_within, fill_within, file_acts, open_acts, read_acts, slot_acts, install_acts, double_acts, close_acts, check_acts, say_acts, programs_spend, stat_acts, give_acts, settle_acts, take_acts, acts_within, store_within, clear_within, empty_within, free_within, write_within, handlers, layer, operations, whole_inodes}
 use Rattle.inode_machine.specs.World as above
-use Rattle.inode_machine.specs.World.{JoinResult, LoanResult, LockResult, Wrote}
-use Rattle.inode_machine.specs.World.Op.{Take, Give, UpStart, Up, WalkDown, Down, Free, Forget, Claim, Store, Fill, Enter, Clear, Empty, Slot, Install, StatFile, LockFile, ReadFile, LockOpen, CheckFile, JoinFile, WriteFile, Double, Shut, Settle, Lend, LendDirectory, Release, Join, Leave, Say}
-use Rattle.inodes_on_blocks.specs.Acting.{ActsOnceAt}
-use Rattle.inodes_on_blocks.specs.Making.{HasInodes}
-use Rattle.inodes_on_blocks.specs.Room.{HasSpent}
-use Rattle.inodes_on_blocks.specs.Spending.{recorded_blocks, ActsWithin, ProgramsSpend, Spends}
-use Rattle.inodes_on_blocks.proofs.CountSteps.{up_acts, up_start_acts, walk_down_acts, down_acts}
-use Rattle.inodes_on_blocks.proofs.ForgetSteps.{forget_acts}
-use Rattle.inodes_on_blocks.proofs.JoinFileSteps.{join_file_acts}
-use Rattle.inodes_on_blocks.proofs.JoinSteps.{join_acts}
-use Rattle.inodes_on_blocks.proofs.LeaveSteps.{leave_acts}
-use Rattle.inodes_on_blocks.proofs.LendSteps.{lend_acts, lend_directory_acts, release_acts}
-use Rattle.inodes_on_blocks.proofs.ClaimSteps.{claim_within}
-use Rattle.inodes_on_blocks.proofs.NamingWithins.{enter_within, fill_within}
-use Rattle.inodes_on_blocks.proofs.LockSteps.{file_acts, open_acts}
-use Rattle.inodes_on_blocks.proofs.ReadSteps.{read_acts}
-use Rattle.inodes_on_blocks.proofs.SlotSteps.{slot_acts, install_acts, double_acts, close_acts, check_acts, say_acts}
-use Rattle.inodes_on_blocks.proofs.Spends.{programs_spend}
-use Rattle.inodes_on_blocks.proofs.StatSteps.{stat_acts}
-use Rattle.inodes_on_blocks.proofs.TableSteps.{give_acts, settle_acts}
-use Rattle.inodes_on_blocks.proofs.TakeSteps.{take_acts}
-use Rattle.inodes_on_blocks.proofs.Withins.{acts_within, store_within, clear_within, empty_within, free_within}
-use Rattle.inodes_on_blocks.proofs.WriteSteps.{write_within}
-use Rattle.inodes_on_blocks.specs.Programs.{handlers}
-use Rattle.calls_on_blocks.specs.Layer.{layer}
-use Rattle.run_laws.specs.WholeInodes.{operations, whole_inodes}
 use Rattle.run_laws.proofs.Beside.{within_beside}
 use Rattle.run_laws.proofs.Fits.{AllFitUpTo, Fits}
 use Rattle.run_laws.proofs.Whole.{keeps_whole, whole_laws}

@@ -1,20 +1,7 @@
 -- What chdir and open without CREATE ask for fits; and so it is of what calls are made of.
-use Rattle.std.proofs.Common.{ℕ, ◌==◌, Bool, true, false, if◌then◌else◌, List, [], ◌∷◌, Option, Some, None, refl}
-use Rattle.plain_tree.specs.declared.answer.Cause.{Cause}
-use Rattle.plain_tree.specs.declared.answer.Cause.TheVariants.{NotDirectory}
-use Rattle.plain_tree.specs.declared.answer.Full.TheVariants.{OpenFiles, Descriptors}
-use Rattle.plain_tree.specs.declared.answer.Reply.{Reply}
+use Rattle.run_laws.proofs.Vocabulary.{ℕ, ◌==◌, Bool, true, false, if◌then◌else◌, List, [], ◌∷◌, Option, Some, None, refl, Cause, NotDirectory, OpenFiles, Descriptors, Reply, Action, Name, elements, Do, unmarked, Sort, face_or, is_directory_face, open_refusal, chdir_at, chdir_program, file_for, empties, installs, installed_on, open_end, open_face, open_at, open_old, opened_reply, P, Stop, NotThere, NoMemory, with_last, own_step, failed, full, done, say, drop, give_up, free_all, tail, stopped, leave_directory, see_parent, walk_step, walk, walk_parent, start_on, start, Empty, Free, Give, Forget, Install, Settle, Frees}
 use Rattle.plain_tree.specs.declared.call.Call.TheVariants as calls
-use Rattle.plain_tree.specs.declared.step.Action.{Action}
 use Rattle.plain_tree.specs.declared.step.Action.TheVariants as actions
-use Rattle.plain_tree.specs.Tree.{Name, elements}
-use Rattle.atomic_programs.specs.Prog.{Do, unmarked}
-use Rattle.inode_machine.specs.Inodes.{Sort, face_or, is_directory_face, open_refusal}
-use Rattle.inode_machine.specs.Moving.{chdir_at, chdir_program}
-use Rattle.inode_machine.specs.Opening.{file_for, empties, installs, installed_on, open_end, open_face, open_at, open_old, opened_reply}
-use Rattle.inode_machine.specs.Parts.{P, Stop, NotThere, NoMemory, with_last, own_step, failed, full, done, say, drop, give_up, free_all, tail, stopped, leave_directory, see_parent, walk_step, walk, walk_parent, start_on, start}
-use Rattle.inode_machine.specs.World.Op.{Empty, Free, Give, Forget, Install, Settle}
-use Rattle.inode_machine.specs.World.Mark.{Frees}
 use Rattle.run_laws.proofs.Fits.{AllFit}
 use Rattle.run_laws.proofs.Names.{AllShort, Short14}
 use Rattle.run_laws.proofs.Telling.{install_tells, looks_tell, mends_tell, quits_tell, starts_tell}

@@ -1,23 +1,7 @@
 -- What a program records in its hart's transaction, by its text: the blocks that it names, and so many more.
-use Rattle.std.proofs.Common.{◌≡◌, ◌≤◌, ◌&&◌, ℕ, Bool, true, false, List, [], ◌∷◌, ◌++◌, length, Option, Some, None}
-use Rattle.std.proofs.Common.{if◌then◌else◌, refl, sym, ap, subst, arith, length-append}
-use Rattle.std.specs.Prelude.{slice_get}
-use Rattle.fs_layout.specs.declared.superblock.Super.{Super}
-use Rattle.tree_laws.specs.WellFormed.{one_if}
-use Rattle.group_log.specs.declared.phase.Phase.TheVariants.{Open}
-use Rattle.group_log.specs.Group.{has, members_with, one_more, with_block}
-use Rattle.group_log.proofs.Seats.{pick}
-use Rattle.atomic_programs.specs.Prog.{Ret, Do, bind}
-use Rattle.fs_machine.specs.LogPart.{LogPart}
-use Rattle.fs_machine.specs.Steps.{Answer, Join, JoinToWrite, Op, Put}
-use Rattle.inode_table.specs.Programs.{inode_block}
-use Rattle.inode_machine.specs.Budget.{Spent, size, with_contents}
-use Rattle.inodes_on_blocks.specs.Accounts.{Accounts, IsSpent, recorded_in, used}
-use Rattle.inodes_on_blocks.specs.Handlers.{Acts, P}
-use Rattle.inodes_on_blocks.specs.Spending.{NoMore}
-use Rattle.inodes_on_blocks.proofs.Accounts.{other_put, spent_put}
-use Rattle.inodes_on_blocks.proofs.Groups.{has_last, put_grows}
-use Rattle.run_laws.specs.Transactions.{AreAtMostTen, recorded_after}
+use Rattle.run_laws.proofs.Vocabulary.{◌≡◌, ◌≤◌, ◌&&◌, ℕ, Bool, true, false, List, [], ◌∷◌, ◌++◌, length, Option, Some, None, if◌then◌else◌, refl, sym, ap, subst, arith, length-append, slice_get, Super, one_if, Open, has, members_with, one_more, with_block, pick, Ret, Do, bind, LogPart, AnswerBelow as Answer, JoinToWrite, Op, Put, inode_block, Spent, size, with_contents, Accounts, IsSpent, recorded_in, used, Acts, NoMore, other_put, spent_put, has_last, put_grows, AreAtMostTen, recorded_after}
+use Rattle.fs_machine.specs.Steps.{Join}
+use Rattle.inodes_on_blocks.specs.Handlers.{P}
 
 abbrev pub Recorded : Type 0
 Recorded = Option (List ℕ)

@@ -1,36 +1,9 @@
 -- What a call records in its transactions: at most ten blocks in each.
-use Rattle.std.proofs.Common.{◌≡◌, ◌≤◌, ◌+◌, ◌-◌, ℕ, zero, suc, true, List, [], ◌∷◌, Option, None, refl, sym, subst, arith}
-use Rattle.fs_layout.specs.declared.superblock.Super.{Super}
-use Rattle.plain_tree.specs.declared.answer.Full.TheVariants.{Blocks}
-use Rattle.plain_tree.specs.declared.answer.Reply.{Reply}
-use Rattle.plain_tree.specs.declared.call.Call.{Call}
+use Rattle.run_laws.proofs.Vocabulary.{◌≡◌, ◌≤◌, ◌+◌, ◌-◌, ℕ, zero, suc, true, List, [], ◌∷◌, Option, None, refl, sym, subst, arith, Super, Blocks, Reply, Call, Cause, piece, piece_count, one_if, Left, Ret, Do, unmarked, holding, lowered, after_leave, HasRoom, Spent, size, spent_after, unspent, with_bitmap, with_contents, with_record, checked_reply, joined_on, refused_to, write_from, write_piece, write_program, write_reply, writes, wrote_on, P as Above, failed, full, own_step, say, program, machine, JoinResult, Joined, NotJoined, Refused, Short, Whole, Wrote, Take, Give, UpStart, Up, WalkDown, Down, Free, Forget, Claim, Store, Fill, Enter, Clear, Empty, Slot, Install, StatFile, LockFile, ReadFile, CheckFile, JoinFile, LockOpen, WriteFile, Double, Shut, Settle, Lend, LendDirectory, Release, Join, Leave, Say, transactions_are_small, join, join_file, leave, Carry, nothing, handlers, layer, is_served, AreAtMostTen, recorded_after}
 use Rattle.plain_tree.specs.declared.call.Call.TheVariants as calls
-use Rattle.plain_tree.specs.declared.answer.Cause.{Cause}
 use Rattle.plain_tree.specs.declared.step.Action.TheVariants as actions
-use Rattle.plain_tree.specs.Calls.{piece, piece_count}
-use Rattle.tree_laws.specs.WellFormed.{one_if}
-use Rattle.group_log.specs.declared.log.Left.{Left}
-use Rattle.atomic_programs.specs.Prog.{Ret, Do, unmarked}
-use Rattle.atomic_programs.specs.Joined.{holding, lowered}
-use Rattle.fs_machine.specs.Programs.{after_leave}
 use Rattle.fs_machine.specs.Steps as steps
-use Rattle.inode_machine.specs.Budget.{HasRoom, Spent, size, spent_after, unspent, with_bitmap, with_contents, with_record}
-use Rattle.inode_machine.specs.Descriptors.{checked_reply, joined_on, refused_to, write_from, write_piece, write_program, write_reply, writes, wrote_on}
-use Rattle.inode_machine.specs.Parts.{P as Above, failed, full, own_step, say}
-use Rattle.inode_machine.specs.Programs.{program}
-use Rattle.inode_machine.specs.Rules.{machine}
 use Rattle.inode_machine.specs.World as above
-use Rattle.inode_machine.specs.World.{JoinResult, Joined, NotJoined, Refused, Short, Whole, Wrote}
-use Rattle.inode_machine.specs.World.Op.{Take, Give, UpStart, Up, WalkDown, Down, Free, Forget, Claim, Store, Fill, Enter, Clear, Empty, Slot, Install}
-use Rattle.inode_machine.specs.World.Op.{StatFile, LockFile, ReadFile, CheckFile, JoinFile, LockOpen, WriteFile, Double, Shut, Settle, Lend}
-use Rattle.inode_machine.specs.World.Op.{LendDirectory, Release, Join, Leave, Say}
-use Rattle.inode_machine.proofs.Budgets.{transactions_are_small}
-use Rattle.inodes_on_blocks.specs.Handlers.{join, join_file, leave}
-use Rattle.inodes_on_blocks.specs.Lowering.{Carry, nothing}
-use Rattle.inodes_on_blocks.specs.Programs.{handlers}
-use Rattle.calls_on_blocks.specs.Layer.{layer}
-use Rattle.calls_on_blocks.specs.Theory.{is_served}
-use Rattle.run_laws.specs.Transactions.{AreAtMostTen, recorded_after}
 use Rattle.run_laws.proofs.CallFits.{call_fits, most_written}
 use Rattle.run_laws.proofs.Fits.{AllFit, AllFitUpTo, Fits}
 use Rattle.run_laws.proofs.Recording.{Covers, Recorded, StaysSmall, Within, ended, quiet, small_bind, small_of, then_}

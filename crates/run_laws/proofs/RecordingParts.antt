@@ -1,48 +1,12 @@
 -- What the programs of most operations record: what the operations spend.
-use Rattle.std.proofs.Common.{◌≤◌, inr, ℕ, zero, suc, ◌+◌, ◌/◌, ◌==◌, Bool, true, false, not, pos, List, [], ◌∷◌, Option, Some, None}
-use Rattle.std.proofs.Common.{refl, arith}
-use Rattle.std.specs.Prelude.{is_some, slice_index, take}
-use Rattle.fs_layout.specs.declared.inode.Dinode.{Dinode}
-use Rattle.fs_layout.specs.declared.superblock.Super.{Super}
-use Rattle.fs_layout.specs.Indirect.{numbers_in}
-use Rattle.fs_layout.specs.Widths.{block_len, dirents_per_block}
-use Rattle.plain_tree.specs.Tree.{Name, same_name}
-use Rattle.group_log.specs.declared.log.Left.{Left}
-use Rattle.group_log.specs.declared.log.Left.TheVariants.{Free, Commits}
-use Rattle.atomic_programs.specs.Prog.{Ret, bind}
-use Rattle.atomic_programs.specs.Joined.{Handover}
-use Rattle.fs_machine.specs.Inodes.{LockedState, Refuses, Locks}
-use Rattle.fs_machine.specs.Steps.{ClaimResult, Claims, NoPlace, NoInode}
-use Rattle.fs_machine.specs.Programs.{fetch, read_unless, commit_unless, commits, most_writes, after_leave}
-use Rattle.bitmap_alloc.specs.Programs.{free_block, clear_bit}
-use Rattle.inode_table.specs.NewInodes.{inode_blocks}
-use Rattle.inode_table.specs.Programs.{give_back, inode_block, load_unless, put_inode, store as store_inode}
-use Rattle.inode_data.specs.Addresses.{address, table_of}
-use Rattle.inode_data.specs.Freeing.{free_numbers, free_table, free_in_table, free_indirect, freed, without_content}
-use Rattle.inode_data.specs.Programs.{FilledMemory, blocks_between, end_of, fetch_at, fetch_block, fetch_named, fetch_number, filled_with}
-use Rattle.inode_data.specs.Programs.{give_fetched, next_block, part_of, read_blocks, read_from, read_part}
-use Rattle.inode_data.specs.Widths.{direct}
-use Rattle.inode_data.specs.declared.addresses.Address.{Address}
-use Rattle.inode_data.specs.declared.addresses.Address.TheVariants.{Direct, InTable}
-use Rattle.directory.specs.Programs.{Aim, Entry, Named, block_count, found_in, is_directory, is_live_directory, look_at, lookup, or_next, search}
-use Rattle.directory.specs.Programs.{search_from, with_slot}
-use Rattle.directory.specs.declared.found.Found.{Found}
-use Rattle.inode_machine.specs.Budget.{Spent, size, with_bitmap, with_contents, with_record}
-use Rattle.inode_machine.specs.Inodes.{AtEntries, AtName, AtNothing, Query, Sight, Sort}
+use Rattle.run_laws.proofs.Vocabulary.{◌≤◌, inr, ℕ, zero, suc, ◌+◌, ◌/◌, ◌==◌, Bool, true, false, not, pos, List, [], ◌∷◌, Option, Some, None, refl, arith, is_some, slice_index, take, Dinode, Super, numbers_in, block_len, dirents_per_block, Name, same_name, Left, Commits, Ret, bind, Handover, LockedState, Locks, ClaimedState as ClaimResult, Claims, HasNoPlace as NoPlace, NoInode, fetch, read_unless, commit_unless, commits, most_writes, after_leave, free_block, clear_bit, inode_blocks, give_back, inode_block, load_unless, put_inode, store as store_inode, address, table_of, free_numbers, free_table, free_in_table, free_indirect, freed, without_content, FilledMemory, blocks_between, end_of, fetch_at, fetch_block, fetch_named, fetch_number, filled_with, give_fetched, next_block, part_of, read_blocks, read_from, read_part, direct, Address, Direct, InTable, Aim, Named, block_count, found_in, is_directory, is_live_directory, look_at, lookup, or_next, search, search_from, with_slot, Found, Spent, size, with_bitmap, with_contents, with_record, AtEntries, AtName, AtNothing, Query, Sight, Sort, IsSpent, empty, free, give_content, file_locked, give_read, read_file, with_file, Apart, Carry, Emptied, Finds, Had, Has, NothingMore, Opened, claim_at, claim_from, claim_in, clear, clear_in, clear_slot, put_named, slot_found, slot_of, learned, looked, number_found, search_entries, seen_record, stat_file, stat_loaded, stat_locked, take_inode, put_record, record_in, NoMore, bitmap_no_more, record_no_more, record_spent, kind_of}
+use Rattle.group_log.specs.declared.log.Left.TheVariants.{Free}
+use Rattle.fs_machine.specs.Inodes.{Refuses}
+use Rattle.directory.specs.Programs.{Entry}
 use Rattle.inode_machine.specs.World as above
-use Rattle.inodes_on_blocks.specs.Accounts.{IsSpent}
-use Rattle.inodes_on_blocks.specs.Emptying.{empty, free, give_content}
-use Rattle.inodes_on_blocks.specs.Files.{file_locked, give_read, lock_file, lock_open, read_file, with_file}
+use Rattle.inodes_on_blocks.specs.Files.{lock_file, lock_open}
 use Rattle.inodes_on_blocks.specs.Handlers.{P}
-use Rattle.inodes_on_blocks.specs.Lowering.{Apart, Carry, Emptied, Finds, Had, Has, NothingMore, Opened}
-use Rattle.inodes_on_blocks.specs.Making.{claim_at, claim_from, claim_in}
-use Rattle.inodes_on_blocks.specs.Naming.{clear, clear_in, clear_slot, put_named, slot_found, slot_of}
-use Rattle.inodes_on_blocks.specs.Reading.{learned, looked, number_found, search_entries, seen_record, stat_file, stat_loaded, stat_locked, take as take_inode}
-use Rattle.inodes_on_blocks.specs.Storing.{put_record, record_in, store}
-use Rattle.inodes_on_blocks.specs.Spending.{NoMore}
-use Rattle.inodes_on_blocks.proofs.Spends.{bitmap_no_more, record_no_more}
-use Rattle.inodes_on_blocks.proofs.SpentRoom.{record_spent}
-use Rattle.inodes_on_blocks.specs.ShownTables.{kind_of}
+use Rattle.inodes_on_blocks.specs.Storing.{store}
 use Rattle.run_laws.proofs.Recording.{Within, either_way, ended, ended_with, from, quiet, records, records_one, then_}
 
 one_more : (s : Spent) → NoMore s (with_contents 1 s)

@@ -1,47 +1,8 @@
 -- What the programs record that write: two blocks for each block that they write to, beside the bitmap and the inode's record.
-use Rattle.std.proofs.Common.{◌≡◌, ◌⊎◌, ⊎_elim, inl, inr, ◌<◌, ◌≤◌, ◌+◌, ◌-◌, ◌*◌, ◌/◌, ℕ, zero, suc, ◌==◌, nat_lt, Bool, true, false}
-use Rattle.std.proofs.Common.{if◌then◌else◌, List, drop, length, Option, Some, None, refl, sym, subst, arith}
-use Rattle.std.specs.Prelude.{slice_index}
-use Rattle.std.proofs.lemmas.Bool.{cases_lt}
-use Rattle.fs_layout.specs.declared.entry.Dirent.TheVariants.{Used}
-use Rattle.fs_layout.specs.declared.inode.Dinode.{Dinode}
-use Rattle.fs_layout.specs.declared.superblock.Super.{Super}
-use Rattle.fs_layout.specs.Entry.{spell_dirent}
-use Rattle.fs_layout.specs.Indirect.{numbers_in}
-use Rattle.fs_layout.specs.Widths.{block_len}
-use Rattle.plain_tree.specs.declared.answer.Cause.{Cause}
-use Rattle.plain_tree.specs.Tree.{Name}
-use Rattle.atomic_programs.specs.Prog.{Ret, Do, bind, unmarked}
-use Rattle.bitmap_alloc.specs.Bytes.{marked_by}
-use Rattle.bitmap_alloc.specs.First.{first_clear_below}
-use Rattle.bitmap_alloc.specs.Programs.{give_zeros, take_first, zero_found}
-use Rattle.directory.specs.Entering.{slot_for}
-use Rattle.directory.specs.Programs.{Unused, block_count, found_in, look_at, most_slots, search, slot_count}
-use Rattle.fs_machine.specs.Programs.{fetch, read_unless}
-use Rattle.fs_machine.specs.Steps.{Put}
-use Rattle.inode_data.specs.declared.addresses.Address.{Address}
-use Rattle.inode_data.specs.declared.addresses.Address.TheVariants.{Direct, InTable}
-use Rattle.inode_data.specs.declared.locate.Located.{Located}
-use Rattle.inode_data.specs.Addresses.{address, table_of}
-use Rattle.inode_data.specs.Programs.{blocks_between, fetch_block}
-use Rattle.inode_data.specs.Widths.{direct, most_blocks}
-use Rattle.inode_data.specs.Writing.{WriteResult, front_of, grown, locate, locate_at, located, look_up, name_direct, name_in_table, put_part}
-use Rattle.inode_data.specs.Writing.{store_written, take_one, with_address, with_table, write_blocks, write_in, write_located, write_part}
-use Rattle.inode_table.specs.Programs.{store}
-use Rattle.inode_machine.specs.Budget.{Spent, size, with_bitmap, with_contents, with_record}
+use Rattle.run_laws.proofs.Vocabulary.{◌≡◌, ◌⊎◌, ⊎_elim, inl, inr, ◌<◌, ◌≤◌, ◌+◌, ◌-◌, ◌*◌, ◌/◌, ℕ, zero, suc, ◌==◌, nat_lt, Bool, true, false, if◌then◌else◌, List, length, Option, Some, None, refl, sym, subst, arith, slice_index, cases_lt, Used, Dinode, Super, spell_dirent, numbers_in, block_len, Cause, Name, Ret, Do, bind, unmarked, marked_by, first_clear_below, give_zeros, take_first, zero_found, slot_for, Unused, block_count, found_in, look_at, most_slots, search, slot_count, fetch, read_unless, Put, Address, Direct, InTable, Located, address, table_of, blocks_between, fetch_block, direct, most_blocks, WriteResult, front_of, grown, locate, locate_at, located, look_up, name_direct, name_in_table, put_part, store_written, take_one, with_address, with_table, write_blocks, write_in, write_located, write_part, store, Spent, size, with_bitmap, with_contents, with_record, EntryResult, Wrote, Enter, Fill, IsSpent, dots, enter, enter_in, entered_to, fill, filled_to, look_last, put_grown, search_full, seek_free, Acts, acts, Carry, NoMore, record_in, give_written, refused_in, write_file, write_unless, many_between, none_there, record_spent, AreAtMostTen}
+use Rattle.std.proofs.Common.{drop}
 use Rattle.inode_machine.specs.World as above
-use Rattle.inode_machine.specs.World.{EntryResult, Wrote}
-use Rattle.inode_machine.specs.World.Op.{Enter, Fill}
-use Rattle.inodes_on_blocks.specs.Accounts.{IsSpent}
-use Rattle.inodes_on_blocks.specs.Entering.{dots, enter, enter_in, entered_to, fill, filled_to, look_last, put_grown, search_full, seek_free}
-use Rattle.inodes_on_blocks.specs.Handlers.{Acts, P, acts}
-use Rattle.inodes_on_blocks.specs.Lowering.{Carry}
-use Rattle.inodes_on_blocks.specs.Spending.{NoMore}
-use Rattle.inodes_on_blocks.specs.Storing.{record_in}
-use Rattle.inodes_on_blocks.specs.Writing.{give_written, refused_in, write_file, write_unless}
-use Rattle.inodes_on_blocks.proofs.ReadParts.{many_between, none_there}
-use Rattle.inodes_on_blocks.proofs.SpentRoom.{record_spent}
-use Rattle.run_laws.specs.Transactions.{AreAtMostTen}
+use Rattle.inodes_on_blocks.specs.Handlers.{P}
 use Rattle.run_laws.proofs.Recording.{Covers, Has, Recorded, StaysSmall, Within, covers_again, covers_more, covers_named, covers_other}
 use Rattle.run_laws.proofs.Recording.{either_way, ended, ended_with, from, has_still, put_has, put_on, quiet, small_bind, small_of, small_to, then_, upto}
 use Rattle.run_laws.proofs.RecordingParts.{emptied, no_block, no_next, no_search, puts_named, stores_inode}

@@ -1,20 +1,6 @@
 -- Runs on a mounted disk are runs of the machine of whole inodes.
-use Rattle.std.proofs.Common.{◌≡◌, refl, subst}
-use Rattle.fs_layout.specs.declared.superblock.Super.{Super}
-use Rattle.fs_layout.specs.Recovered.{sizes_of}
-use Rattle.plain_tree.specs.Tree.{tree_of}
-use Rattle.image_tree.specs.Trees.{tree_in}
-use Rattle.atomic_programs.specs.Calls.{State, fresh, run}
-use Rattle.atomic_programs.specs.Explained.{Chain, IsExplained, history}
-use Rattle.atomic_programs.proofs.Explains.{explains, inv_of}
+use Rattle.run_laws.proofs.Vocabulary.{◌≡◌, refl, subst, Super, sizes_of, tree_of, tree_in, State, fresh, run, Chain, IsExplained, history, explains, inv_of, first_world, mounts_show_their_trees, first, block_calls, first_holds, first_idle, IsRunFrom, RunsRefineWholeInodes, lowered_inode_calls, unreserved}
 use Rattle.inode_machine.specs.World as above
-use Rattle.inodes_on_blocks.specs.Mounted.{first_world}
-use Rattle.inodes_on_blocks.proofs.Mounted.{mounts_show_their_trees}
-use Rattle.calls_on_blocks.specs.History.{first}
-use Rattle.calls_on_blocks.specs.Theory.{block_calls}
-use Rattle.calls_on_blocks.proofs.History.{first_holds, first_idle}
-use Rattle.run_laws.specs.Laws.{IsRunFrom, RunsRefineWholeInodes}
-use Rattle.run_laws.specs.WholeInodes.{lowered_inode_calls, unreserved}
 use Rattle.run_laws.proofs.Lowered.{lowered_lawful}
 use Rattle.run_laws.proofs.Reserved.{rests_unreserved}
 use Rattle.run_laws.proofs.SameRuns.{honest_same, outcomes_same, run_same}

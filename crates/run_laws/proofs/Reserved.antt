@@ -1,19 +1,7 @@
 -- A start changes nothing but what it reserves.
-use Rattle.std.proofs.Common.{◌≡◌, ◌≢◌, ◌⊎◌, inl, inr, ℕ, ◌+◌, ◌<◌, ◌≤◌, Bool, true, false, nat_lt, if◌then◌else◌, Option, Some, None, refl, sym, ◌∙◌, ap, arith}
-use Rattle.std.proofs.lemmas.Bool.Decides.{nat_tests}
-use Rattle.plain_tree.specs.declared.call.Call.{Call}
+use Rattle.run_laws.proofs.Vocabulary.{◌≡◌, ◌≢◌, ◌⊎◌, inl, inr, ℕ, ◌+◌, ◌<◌, ◌≤◌, Bool, true, false, nat_lt, if◌then◌else◌, Option, Some, None, refl, sym, ◌∙◌, ap, arith, nat_tests, Call, Tree, put, descriptor_count, put_is, put_other, Began, Begins, serving, Idle, Refusal, at_rest, begin_call, serving_world, Desk, begun_same, inherit_begins, start_is, serves, served_calls, on_the_way, unreserved, unreserved_desk}
 use Rattle.plain_tree.specs.declared.call.Call.TheVariants as calls
-use Rattle.plain_tree.specs.Tree.{Tree, put}
-use Rattle.plain_tree.specs.Widths.{descriptor_count}
-use Rattle.tree_laws.proofs.Maps.{put_is, put_other}
-use Rattle.atomic_programs.specs.Calls.{Began, Begins}
-use Rattle.inode_machine.specs.Exec.{serving}
-use Rattle.inode_machine.specs.Rules.{Idle}
-use Rattle.inode_machine.specs.Theory.{Refusal, at_rest, begin_call, serving_world}
-use Rattle.inode_machine.specs.World.{Desk, World}
-use Rattle.inode_machine.proofs.Starts.{begun_same, inherit_begins, start_is}
-use Rattle.calls_on_blocks.specs.Theory.{serves, served_calls}
-use Rattle.run_laws.specs.WholeInodes.{on_the_way, unreserved, unreserved_desk}
+use Rattle.inode_machine.specs.World.{World}
 
 not_at : (i k : ℕ) → i < descriptor_count → descriptor_count ≤ k → i ≢ k
 not_at i k below above e = absurd (omega (arith, below, above, e))

@@ -1,11 +1,5 @@
 -- Runs of calls with their notes come to the same where each call ends with Some of its reply.
-use Rattle.std.proofs.Common.{◌≡◌, inl, inr, ℕ, suc, Option, Some, None, Bool, true, false, List, [], ◌∷◌, refl, sym, ◌∙◌, ap, subst}
-use Rattle.std.specs.Prelude.{nat_eq, if◌then◌else◌}
-use Rattle.atomic_programs.specs.Prog.{Ret, Do, bind, Did, Waits, Ran, Stops, asks, OfNext}
-use Rattle.atomic_programs.specs.Logic.{P, OpWithAnswer, own, onto}
-use Rattle.atomic_programs.specs.Calls.{Theory, Began, Refuses, Begins, IsBeginning, Run, PlacedStep, FinishedCall, State, Event, Start, Step, changed, is_some, start_of, placed, told, all_told, moved, tried, step_prog, step_unless, step_run, begun, busy_in, start_run, HonestStep, IsHonest, AllHonest, next, run, fresh}
-use Rattle.atomic_programs.specs.Explained.{In, IsExplained, history, steps_of}
-use Rattle.run_laws.specs.Faithful.{Notes, with_steps}
+use Rattle.run_laws.proofs.Vocabulary.{◌≡◌, inl, inr, ℕ, suc, Option, Some, None, Bool, true, false, List, [], ◌∷◌, refl, sym, ◌∙◌, ap, subst, nat_eq, if◌then◌else◌, Ret, Do, bind, Did, Waits, Ran, Stops, asks, OfNext, PartOf as P, OpWithAnswer, own, onto, Theory, Began, Refuses, Begins, IsBeginning, Run, PlacedStep, FinishedCall, State, EventOf as Event, Start, Step, changed, is_called as is_some, start_of, placed, told, all_told, moved, tried, step_prog, step_unless, step_run, begun, busy_in, start_run, HonestStep, IsHonest, AllHonest, next, run, fresh, In, IsExplained, history, steps_of, Notes, with_steps}
 use Rattle.run_laws.proofs.FaithfulCalls.{telling}
 
 module _ (L : Theory) (Written : L.Call → Notes L.M → L.Reply → Type 0) (AreOf : L.Call → Option L.Reply → Notes L.M → Type 0) where

@@ -1,39 +1,6 @@
 -- A run found room at each step just where none of its operations found none.
-use Rattle.std.proofs.Common.{◌≡◌, inl, inr, ℕ, ◌+◌, Bool, true, false, ◌&&◌, ◌||◌, not, nat_eq, if◌then◌else◌, Option, Some, None, List, [], ◌∷◌, ◌++◌, refl, sym, ◌∙◌, ap, subst}
-use Rattle.std.proofs.lemmas.Bool.{eq-eqb}
-use Rattle.fs_layout.specs.declared.superblock.Super.{Super}
-use Rattle.fs_layout.specs.Recovered.{sizes_of}
-use Rattle.plain_tree.specs.declared.call.Call.{Call}
-use Rattle.plain_tree.specs.Tree.{put}
-use Rattle.tree_laws.proofs.Maps.{and_true}
-use Rattle.atomic_programs.specs.Calls.{Theory, Began, Refuses, Begins, Event as EventOf, FinishedCall, PlacedStep, Run, Start, Started, State, begun, busy_in, fresh, makes, next, run, start_run}
-use Rattle.atomic_programs.specs.Explained.{Chain, In, IsOfCall, history, steps_of}
-use Rattle.atomic_programs.specs.Joined.{Both, ran_to}
-use Rattle.atomic_programs.specs.Logic.{P}
-use Rattle.atomic_programs.specs.Lowered.{began_to}
-use Rattle.atomic_programs.specs.Prog.{Ret, Do, Did, Waits, Ran, Stops}
-use Rattle.atomic_programs.specs.Trace.{EventReport, IsTraced, happened}
-use Rattle.atomic_programs.proofs.Lowered.{begun_both}
-use Rattle.atomic_programs.proofs.Tracing.{traced}
-use Rattle.fs_machine.specs.LogPart.{Outside}
-use Rattle.inode_machine.specs.Exec.{exec, first_from, is_nothing, or_zero}
-use Rattle.inode_machine.specs.Marks.{made_by, marked, roomy, with_mark}
-use Rattle.inode_machine.specs.Programs.{program}
-use Rattle.inode_machine.specs.Rules.{machine}
-use Rattle.inode_machine.specs.Theory.{Refusal}
+use Rattle.run_laws.proofs.Vocabulary.{◌≡◌, inl, inr, ℕ, ◌+◌, Bool, true, false, ◌&&◌, ◌||◌, not, nat_eq, if◌then◌else◌, Option, Some, None, List, [], ◌∷◌, ◌++◌, refl, sym, ◌∙◌, ap, subst, eq-eqb, Super, sizes_of, Call, put, and_true, Theory, Began, Refuses, Begins, EventOf, FinishedCall, PlacedStep, Run, Start, Started, State, begun, busy_in, fresh, makes, next, run, start_run, Chain, In, IsOfCall, history, steps_of, Both, ran_to, PartOf as P, began_to, Ret, Do, Did, Waits, Ran, Stops, EventReport, IsTraced, happened, begun_both, traced, Outside, exec, first_from, is_nothing, or_zero, made_by, marked, roomy, with_mark, program, machine, Refusal, Mark, Fills, Frees, Makes, Mends, Orphans, Spoils, first_world, first, World, shared_of, begins, block_calls, child_of, served_calls, serves, served_is, begun_here, WorldOf, IsRunFrom, RefinesWholeInodes, operations_made, operations_of, RoomIsToldByAnswers, finds_no_room, says_no_room, IsRunOf, IsStep, Operation, lowered_inode_calls, told_by, unreserved}
 use Rattle.inode_machine.specs.World as above
-use Rattle.inode_machine.specs.World.{Mark}
-use Rattle.inode_machine.specs.World.Mark.{Fills, Frees, Makes, Mends, Orphans, Spoils}
-use Rattle.inodes_on_blocks.specs.Mounted.{first_world}
-use Rattle.calls_on_blocks.specs.History.{first}
-use Rattle.calls_on_blocks.specs.Layer.{World, shared_of}
-use Rattle.calls_on_blocks.specs.Theory.{begins, block_calls, child_of, served_calls, serves}
-use Rattle.calls_on_blocks.proofs.Lawful.{served_is}
-use Rattle.calls_on_blocks.proofs.Starting.{begun_here}
-use Rattle.hart_core.specs.Worlds.{WorldOf}
-use Rattle.run_laws.specs.Laws.{IsRunFrom, RefinesWholeInodes, operations_made, operations_of}
-use Rattle.run_laws.specs.Rooms.{RoomIsToldByAnswers, finds_no_room, says_no_room}
-use Rattle.run_laws.specs.WholeInodes.{IsRunOf, IsStep, Operation, lowered_inode_calls, told_by, unreserved}
 use Rattle.run_laws.proofs.CallFits.{call_fits, most_written}
 use Rattle.run_laws.proofs.Fits.{AllFitUpTo}
 use Rattle.run_laws.proofs.Running.{Goes, goes_on, kept_of}

@@ -1,17 +1,7 @@
 -- No operation on whole inodes stops the world, and what its mark is to change it leaves alone. And each has some answer.
-use Rattle.std.proofs.Common.{◌≢◌, ◌⊎◌, inl, inr, ◌+◌, ◌-◌, length, take, ◌≡◌, ℕ, ◌==◌, Bool, true, false, nat_lt, if◌then◌else◌, List, [], Option, Some, None, refl, sym, ◌∙◌, ap}
-use Rattle.plain_tree.specs.declared.answer.Cause.{Cause}
-use Rattle.plain_tree.specs.declared.tree.OpenFile.{OpenFile}
-use Rattle.plain_tree.specs.Steps.{has_room, node_or, write_kind}
-use Rattle.plain_tree.specs.Tree.{Name, Tree, put}
-use Rattle.tree_laws.proofs.Maps.{put_is}
-use Rattle.tree_laws.specs.Moves.{Walk}
-use Rattle.atomic_programs.specs.Prog.{Did, Waits, Ran, Stops}
-use Rattle.inode_machine.specs.Exec.{changed_record, claim_if, claimed, close_at, close_if, counted_down, counted_up, double_at, double_if, down_if, enter_if, enter_in, entry_of, exec, file_count, fill_if, first_from, has_place, install_if, is_empty_slot, is_full_directory, is_last, join_at, lend_if, lend_last, lock_at, lock_if, locked, moved_in, next_used, offset_of, part_of, place_count, read_at, read_refused, referenced, slot_at, slot_if, start_if, start_number, stat_at, unlocked, up_if, walk_down_if, with_bytes, with_found, with_lent, with_offset, with_refs, write_at, write_if, write_in, write_refused, wrote_in}
-use Rattle.inode_machine.specs.Inodes.{Sort, face_of, face_or, seen_in}
-use Rattle.inode_machine.specs.Marks.{go, with_mark}
-use Rattle.inode_machine.specs.World.{Answer, ClaimResult, Entry, Mine, InPlace, Joined, LocksIt, Mark, Moved, New, NoInode, NoPlace, Op, Outside, Picks, Room, RoomFor, Whole, World}
-use Rattle.inode_machine.specs.World.Op.{Take, Give, UpStart, Up, WalkDown, Down, Free, Forget, Claim, Store, Fill, Enter, Clear, Empty, Slot, Install, StatFile, LockFile, ReadFile, CheckFile, JoinFile, LockOpen, WriteFile, Double, Shut, Settle, Lend, LendDirectory, Release, Join, Leave, Say}
+use Rattle.run_laws.proofs.Vocabulary.{◌≢◌, ◌⊎◌, inl, inr, ◌+◌, ◌-◌, length, take, ◌≡◌, ℕ, ◌==◌, Bool, true, false, nat_lt, if◌then◌else◌, List, [], Option, Some, None, refl, sym, ◌∙◌, ap, Cause, OpenFile, has_room, node_or, write_kind, Name, Tree, put, put_is, Walk, Did, Waits, Ran, Stops, changed_record, claim_if, claimed, close_at, close_if, counted_down, counted_up, double_at, double_if, down_if, enter_if, entry_of, exec, file_count, fill_if, first_from, has_place, install_if, is_empty_slot, is_full_directory, is_last, join_at, lend_if, lend_last, lock_at, lock_if, locked, moved_in, next_used, offset_of, place_count, read_at, read_refused, referenced, slot_at, slot_if, start_if, start_number, stat_at, unlocked, up_if, walk_down_if, with_bytes, with_found, with_lent, with_offset, with_refs, write_at, write_if, write_refused, wrote_in, Sort, face_of, face_or, seen_in, go, with_mark, Answer, ClaimResult, Entry, Mine, InPlace, Joined, LocksIt, Mark, Moved, New, NoPlace, Picks, Room, RoomFor, Whole, Take, Give, UpStart, Up, WalkDown, Down, Free, Forget, Claim, Store, Fill, Enter, Clear, Empty, Slot, Install, StatFile, LockFile, ReadFile, CheckFile, JoinFile, LockOpen, WriteFile, Double, Shut, Settle, Lend, LendDirectory, Release, Join, Leave, Say}
+use Rattle.inode_machine.specs.Exec.{enter_in, part_of, write_in}
+use Rattle.inode_machine.specs.World.{NoInode, Op, Outside, World}
 
 pub some_answer : (op : Op) → Answer op
 some_answer (Take n looking) = record { face = None; found = None; empty = true }

@@ -1,26 +1,6 @@
 -- A run of a mounted world takes few steps.
-use Rattle.std.proofs.Common.{◌≡◌, ℕ, nat_eq, if◌then◌else◌, List, [], ◌∷◌, refl, sym, ◌∙◌, ap, subst}
-use Rattle.fs_layout.specs.declared.superblock.Super.{Super}
-use Rattle.fs_layout.specs.Recovered.{sizes_of}
-use Rattle.plain_tree.specs.declared.answer.Reply.{Reply}
-use Rattle.plain_tree.specs.declared.call.Call.{Call}
-use Rattle.atomic_programs.specs.Calls.{Theory, State, Event as EventOf, Start, Step, Outcome as OutcomeOf, Started, Refused, WasIdle, DidWait, DidRun, DidEnd, DidStop, WasStopped, Came as CameOf, hart_of, AllHonest, asked, all_asked, fresh, next, outcomes}
-use Rattle.atomic_programs.specs.Plain.{Code, PlainMade, by_kind, all_by_kind, erase, plain_outcomes}
-use Rattle.atomic_programs.proofs.Erased.{erase-makes, erase-outcomes}
-use Rattle.atomic_programs.proofs.Reached.{honest_event}
-use Rattle.fs_machine.specs.LogPart.{Outside}
-use Rattle.calls_on_blocks.specs.History.{first}
-use Rattle.calls_on_blocks.specs.Theory.{block_calls, block_code}
-use Rattle.calls_on_blocks.proofs.Lawful.{is_code}
+use Rattle.run_laws.proofs.Vocabulary.{◌≡◌, ℕ, nat_eq, if◌then◌else◌, List, [], ◌∷◌, refl, sym, ◌∙◌, ap, subst, Super, sizes_of, Reply, Call, Theory, State, EventOf, Start, Step, OutcomeOf, Started, WasRefused as Refused, WasIdle, DidWait, DidRun, DidEnd, DidStop, WasStopped, Came as CameOf, hart_of, AllHonest, asked, all_asked, fresh, next, outcomes, Code, PlainMade, by_kind, all_by_kind, erase, plain_outcomes, erase-makes, erase-outcomes, honest_event, Outside, first, block_calls, block_code, is_code, Event, HartsOf, Rests, events_of, outcomes_of, AllAnswer, IsHistory, WorldOf, mountable, rests_erased, AreFew, RunsTakeFewSteps, with_outcome, steps_ran, OfBegun, OfEachCall}
 use Rattle.hart_core.specs.declared.events.Came.{Came}
-use Rattle.hart_core.specs.declared.events.Event.{Event}
-use Rattle.hart_core.specs.Harts.{HartsOf}
-use Rattle.hart_core.specs.Mounting.{Rests}
-use Rattle.hart_core.specs.Runs.{events_of, outcomes_of, AllAnswer, IsHistory}
-use Rattle.hart_core.specs.Worlds.{WorldOf}
-use Rattle.hart_core.proofs.Resting.{mountable, rests_erased}
-use Rattle.run_laws.specs.StepBounds.{AreFew, RunsTakeFewSteps}
-use Rattle.run_laws.specs.Steps.{with_outcome, steps_ran, OfBegun, OfEachCall}
 use Rattle.run_laws.proofs.Bounds.{calls_few}
 
 -- ---- the device's answers, and what an operation was, aren't shown

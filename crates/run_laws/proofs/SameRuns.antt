@@ -1,22 +1,7 @@
 -- The calls on blocks come to the same with either history beside them: the moves on the tree, or the operations on whole inodes.
-use Rattle.std.proofs.Common.{◌≡◌, ℕ, Option, Some, None, List, [], ◌∷◌, refl, sym, ◌∙◌, ap, subst}
-use Rattle.fs_layout.specs.declared.superblock.Super.{Super}
-use Rattle.plain_tree.specs.declared.answer.Reply.{Reply}
-use Rattle.plain_tree.specs.declared.call.Call.{Call}
-use Rattle.atomic_programs.specs.Prog.{Prog, Ret, Do, bind, Did, Waits, Ran, Stops}
-use Rattle.atomic_programs.specs.Logic.{P}
-use Rattle.atomic_programs.specs.Calls.{Theory, State, Event, AllHonest, Came, makes, next, outcomes, run}
-use Rattle.atomic_programs.specs.Joined.{ActOf, Both, both, lowered, seen_after}
-use Rattle.fs_machine.specs.LogPart.{Outside}
-use Rattle.fs_machine.specs.Steps.{Answer, Op}
-use Rattle.inode_machine.specs.Programs.{program}
-use Rattle.inode_machine.specs.Rules.{machine}
+use Rattle.run_laws.proofs.Vocabulary.{◌≡◌, ℕ, Option, Some, None, List, [], ◌∷◌, refl, sym, ◌∙◌, ap, subst, Super, Reply, Call, Prog, Ret, Do, bind, Did, Waits, Ran, Stops, PartOf as P, Theory, State, EventOf as Event, AllHonest, Came, makes, next, outcomes, run, ActOf, Both, both, lowered, seen_after, Outside, AnswerBelow as Answer, Op, program, machine, Carry, nothing, handlers, World, layer, block_calls, lowered_inode_calls, whole_inodes}
 use Rattle.inode_machine.specs.World as above
-use Rattle.inodes_on_blocks.specs.Lowering.{Carry, nothing}
-use Rattle.inodes_on_blocks.specs.Programs.{handlers}
-use Rattle.calls_on_blocks.specs.Layer.{World, exec, layer}
-use Rattle.calls_on_blocks.specs.Theory.{block_calls}
-use Rattle.run_laws.specs.WholeInodes.{lowered_inode_calls, whole_inodes}
+use Rattle.calls_on_blocks.specs.Layer.{exec}
 use Rattle.run_laws.proofs.Bare.{Bare, HonestBare, bare, bare_honest, bare_made, bare_makes, honest_bare, makes_bare}
 
 seen_same : (h : ℕ) (t : Option (ActOf machine)) (g : above.World) → seen_after whole_inodes h t g ≡ seen_after machine h t g

@@ -1,52 +1,9 @@
 -- What each operation on whole inodes has seen whose program ends without room.
-use Rattle.std.proofs.Common.{◌≡◌, ◌⊎◌, inl, inr, ◌<◌, ◌≤◌, ◌+◌, ◌-◌, ◌*◌, ◌/◌, ◌%◌, ℕ, zero, suc, ◌==◌, Bool, true, false, ◌&&◌, nat_lt}
-use Rattle.std.proofs.Common.{if◌then◌else◌, List, [], ◌∷◌, ◌++◌, length, Option, Some, None, IsSome, is_some, is_none, find}
-use Rattle.std.proofs.Common.{refl, sym, ◌∙◌, ap, subst, arith, length-append}
-use Rattle.std.proofs.lemmas.Bool.Decides.{nat_tests}
-use Rattle.std.proofs.lemmas.List.{length-replicate}
-use Rattle.fs_layout.specs.declared.entry.Dirent.TheVariants.{Used}
-use Rattle.fs_layout.specs.declared.inode.Dinode.{Dinode}
-use Rattle.fs_layout.specs.declared.superblock.Super.{Super}
-use Rattle.fs_layout.specs.Entry.{spell_dirent}
-use Rattle.fs_layout.specs.Inode.{dinode_at}
-use Rattle.fs_layout.proofs.Numbers.{length-u16_bytes}
-use Rattle.plain_tree.specs.declared.answer.Cause.{Cause}
-use Rattle.plain_tree.specs.declared.answer.Full.{Full}
-use Rattle.plain_tree.specs.declared.answer.Full.TheVariants.{Blocks, Descriptors, Directory, DiskInodes, MemInodes, OpenFiles}
-use Rattle.plain_tree.specs.Tree.{Name, dot, dotdot}
-use Rattle.tree_laws.proofs.Maps.{eq_self, same_or}
-use Rattle.atomic_programs.specs.Explained.{In}
-use Rattle.atomic_programs.specs.Joined.{Handover}
-use Rattle.atomic_programs.specs.Prog.{Ret, Did, Ran, Stops, Waits, bind}
-use Rattle.fs_machine.specs.Inodes.{first_free, is_unreferenced, up_inode}
-use Rattle.fs_machine.specs.Tables.{place_of as place_in_memory}
-use Rattle.fs_machine.specs.Programs.{fetch}
+use Rattle.run_laws.proofs.Vocabulary.{◌≡◌, ◌⊎◌, inl, inr, ◌<◌, ◌≤◌, ◌+◌, ◌-◌, ◌*◌, ◌/◌, ◌%◌, ℕ, zero, suc, ◌==◌, Bool, true, false, ◌&&◌, nat_lt, if◌then◌else◌, List, [], ◌∷◌, ◌++◌, length, Option, Some, None, IsSome, is_some, is_none, find, refl, sym, ◌∙◌, ap, subst, arith, length-append, nat_tests, length-replicate, Used, Dinode, Super, spell_dirent, dinode_at, length-u16_bytes, Cause, Full, Blocks, Descriptors, Directory, DiskInodes, MemInodes, OpenFiles, Name, dot, dotdot, eq_self, same_or, In, Handover, Ret, Did, Ran, Stops, Waits, bind, first_free, is_unreferenced, up_inode, place_in_memory, fetch, AnswerBelow as Answer, Op, claim_first, claims, in_tables, blocks_between, WriteResult, grown, store_written, write_blocks, write_part, free_among, free_in, inode_blocks, is_free_in, is_zero, inode_block, place_of, store, Sort, ClaimResult, EntryResult, Wrote, Take, Give, UpStart, Up, WalkDown, Down, Free, Forget, Claim, Store, Fill, Enter, Clear, Empty, Slot, Install, StatFile, LockFile, ReadFile, CheckFile, JoinFile, LockOpen, WriteFile, Double, Shut, Settle, Lend, LendDirectory, Release, Join, Leave, Say, dots, enter_in, entered_to, filled_to, put_grown, seek_free, Acts, acts, Carry, claim_at, claim_from, claim_in, put_named, handlers, record_in, give_written, refused_in, write_unless, kind_of, slot_for, most_slots, AnsweredStep, ClaimsFindReferences, ComesTo, HasRead, SawInUse, SawNoBlock, SawNoInode, SawNone, SearchesSeeAll, wanted_to_claim, wanted_to_double, wanted_to_enter, wanted_to_write, wanted_unless, wanted_without}
 use Rattle.fs_machine.specs.Steps as steps
-use Rattle.fs_machine.specs.Steps.{Answer, Op, State, claim_first, claims, exec, in_tables}
-use Rattle.inode_data.specs.Programs.{blocks_between}
-use Rattle.inode_data.specs.Writing.{WriteResult, grown, store_written, write_blocks, write_part}
-use Rattle.inode_table.specs.NewInodes.{free_among, free_in, inode_blocks, is_free_in, is_zero}
-use Rattle.inode_table.specs.Programs.{inode_block, place_of, store}
-use Rattle.inode_machine.specs.Inodes.{Sort}
+use Rattle.fs_machine.specs.Steps.{State, exec}
 use Rattle.inode_machine.specs.World as above
-use Rattle.inode_machine.specs.World.{ClaimResult, EntryResult, Wrote}
-use Rattle.inode_machine.specs.World.Op.{Take, Give, UpStart, Up, WalkDown, Down, Free, Forget, Claim, Store, Fill, Enter, Clear, Empty}
-use Rattle.inode_machine.specs.World.Op.{Slot, Install, StatFile, LockFile, ReadFile, CheckFile, JoinFile, LockOpen, WriteFile, Double}
-use Rattle.inode_machine.specs.World.Op.{Shut, Settle, Lend, LendDirectory, Release, Join, Leave, Say}
-use Rattle.inodes_on_blocks.specs.Entering.{dots, enter_in, entered_to, filled_to, put_grown, seek_free}
-use Rattle.inodes_on_blocks.specs.Handlers.{Acts, P, acts}
-use Rattle.inodes_on_blocks.specs.Lowering.{Carry}
-use Rattle.inodes_on_blocks.specs.Making.{claim_at, claim_from, claim_in}
-use Rattle.inodes_on_blocks.specs.Naming.{put_named}
-use Rattle.inodes_on_blocks.specs.Programs.{handlers}
-use Rattle.inodes_on_blocks.specs.Storing.{record_in}
-use Rattle.inodes_on_blocks.specs.Writing.{give_written, refused_in, write_unless}
-use Rattle.inodes_on_blocks.specs.ShownTables.{kind_of}
-use Rattle.directory.specs.Entering.{slot_for}
-use Rattle.directory.specs.Programs.{most_slots}
-use Rattle.run_laws.specs.Searches.{AnsweredStep, ClaimsFindReferences, ComesTo, HasRead, SawInUse, SawNoBlock, SawNoInode, SawNone}
-use Rattle.run_laws.specs.Searches.{SearchesSeeAll}
-use Rattle.run_laws.specs.Wanted.{wanted_to_claim, wanted_to_double, wanted_to_enter, wanted_to_write, wanted_unless, wanted_without}
+use Rattle.inodes_on_blocks.specs.Handlers.{P}
 use Rattle.run_laws.proofs.Searches.{fetched, in_back, in_front, read_back, read_front, saw_back, saw_front, split, written}
 
 -- ---- names

@@ -1,34 +1,6 @@
 -- What the search for a block saw that ends without one.
-use Rattle.std.proofs.Common.{◌≡◌, ◌⊎◌, inl, inr, ◌<◌, ◌≤◌, ◌+◌, ◌-◌, ◌/◌, ◌%◌, min, ℕ, zero, suc, ◌==◌, Bool, true, false, not}
-use Rattle.std.proofs.Common.{if◌then◌else◌, List, [], ◌∷◌, ◌++◌, length, drop, Option, Some, None, refl, sym, ◌∙◌, ap, subst, arith}
-use Rattle.std.proofs.Common.{slice_index}
-use Rattle.std.proofs.Common.{⊎_elim}
-use Rattle.std.proofs.lemmas.Bool.{cases_lt}
-use Rattle.std.proofs.lemmas.List.{length-drop, length-take}
-use Rattle.fs_layout.specs.declared.inode.Dinode.{Dinode}
-use Rattle.fs_layout.specs.declared.superblock.Super.{Super}
-use Rattle.fs_layout.specs.Bits.{bit_of}
-use Rattle.fs_layout.specs.Indirect.{numbers_in}
-use Rattle.atomic_programs.specs.Explained.{In}
-use Rattle.atomic_programs.specs.Prog.{Prog, Ret, Do, bind, unmarked}
-use Rattle.bitmap_alloc.specs.First.{first_below, first_clear_below}
-use Rattle.bitmap_alloc.specs.Programs.{give_zeros, take_first, zero_found}
-use Rattle.bitmap_alloc.proofs.First.{FirstIs, first_is}
-use Rattle.fs_machine.specs.Programs.{fetch, read_unless}
-use Rattle.fs_machine.specs.Steps.{Answer, Get, Op, Put, Read}
-use Rattle.inode_data.specs.declared.addresses.Address.{Address}
-use Rattle.inode_data.specs.declared.addresses.Address.TheVariants.{Direct, InTable}
-use Rattle.inode_data.specs.declared.locate.Located.{Located}
-use Rattle.inode_data.specs.Addresses.{address, table_of}
-use Rattle.inode_data.specs.Programs.{blocks_between}
-use Rattle.inode_data.specs.Widths.{direct}
-use Rattle.inode_data.specs.Writing.{WriteResult, front_of, locate, locate_at, located, look_up, name_direct, name_in_table, put_part}
-use Rattle.inode_data.specs.Writing.{take_one}
-use Rattle.inode_data.specs.Writing.{with_address, with_table, write_blocks, write_in, write_located}
-use Rattle.inodes_on_blocks.specs.Handlers.{Acts}
-use Rattle.inode_data.proofs.ReadLaw.{none_between, some_between}
-use Rattle.inodes_on_blocks.proofs.ReadParts.{many_between, none_there}
-use Rattle.run_laws.specs.Searches.{AnsweredStep, ComesTo, HasRead, SawNoBlock}
+use Rattle.run_laws.proofs.Vocabulary.{◌≡◌, ◌⊎◌, inl, inr, ◌<◌, ◌≤◌, ◌+◌, ◌-◌, ◌/◌, ◌%◌, min, ℕ, zero, suc, ◌==◌, Bool, true, false, not, if◌then◌else◌, List, [], ◌∷◌, ◌++◌, length, Option, Some, None, refl, sym, ◌∙◌, ap, subst, arith, slice_index, ⊎_elim, cases_lt, length-drop, length-take, Dinode, Super, bit_of, numbers_in, In, Prog, Ret, Do, bind, unmarked, first_below, first_clear_below, give_zeros, take_first, zero_found, FirstIs, first_is, fetch, read_unless, AnswerBelow as Answer, Get, Op, Put, Read, Address, Direct, InTable, Located, address, table_of, blocks_between, direct, WriteResult, front_of, locate, locate_at, located, look_up, name_direct, name_in_table, put_part, take_one, with_address, with_table, write_blocks, write_in, write_located, Acts, none_between, some_between, many_between, none_there, AnsweredStep, ComesTo, HasRead, SawNoBlock}
+use Rattle.std.proofs.Common.{drop}
 
 -- ---- one program after the other
 

@@ -1,45 +1,10 @@
 -- Each call's steps on the blocks are a run of its program; so a call that ends for want of a block or of an inode has looked everywhere.
-use Rattle.std.proofs.Common.{◌≡◌, ◌≢◌, ◌⊎◌, inl, inr, ◌<◌, ◌≤◌, ℕ, suc, Bool, true, false, List, [], ◌∷◌, ◌++◌, Option, Some, None}
-use Rattle.std.proofs.Common.{IsSome, refl, sym, ◌∙◌, ap, subst, arith}
-use Rattle.fs_layout.specs.declared.superblock.Super.{Super}
+use Rattle.run_laws.proofs.Vocabulary.{◌≡◌, ◌≢◌, ◌⊎◌, inl, inr, ◌<◌, ◌≤◌, ℕ, suc, Bool, true, false, List, [], ◌∷◌, ◌++◌, Option, Some, None, IsSome, refl, sym, ◌∙◌, ap, subst, arith, Super, Full, Blocks, DiskInodes, MemInodes, Reply, Call, Theory, Began, Begins, Refuses, EventOf, FinishedCall, Run, Start, State, Step, all_told, begun, busy_in, fresh, moved, next, run, start_run, step_prog, step_run, step_unless as step_of, told, tried, unchanged, In, Both, Handover, both, lowered, OpWithAnswer, PartOf as P, onto, own, Ret, Do, Did, Ran, Stops, Waits, did_in, Some-inj, changed_tells, Outside, AnswerBelow as Answer, NoInode, Op, dinode_at, place_in_memory, is_zero, inode_block, place_of, program, machine, nothing, P as Above, Mark, Acts, came_to, Carry, handlers, first, World, layer, block_calls, WorldOf, AnsweredStep, ComesTo, SawInUse, SawNone, AreItsOwn, CallsLookEverywhere, IsInUse, IsReferredTo, MadeStep, SeesNoBlock, SeesNoInode, answered, if_ran, step_of_call, step_of_event, step_of_program, steps_made}
 use Rattle.plain_tree.specs.declared.answer.Answer.TheVariants as answers
-use Rattle.plain_tree.specs.declared.answer.Full.{Full}
-use Rattle.plain_tree.specs.declared.answer.Full.TheVariants.{Blocks, DiskInodes, MemInodes}
-use Rattle.plain_tree.specs.declared.answer.Reply.{Reply}
-use Rattle.plain_tree.specs.declared.call.Call.{Call}
-use Rattle.atomic_programs.specs.Calls.{Theory, Began, Begins, Refuses, Event as EventOf, FinishedCall, Run, Start, State, Step, all_told}
-use Rattle.atomic_programs.specs.Calls.{begun, busy_in}
-use Rattle.atomic_programs.specs.Calls.{fresh, moved, next, run, start_run, step_prog, step_run, step_unless as step_of, told, tried}
-use Rattle.atomic_programs.specs.Calls.{unchanged}
-use Rattle.atomic_programs.specs.Explained.{In}
-use Rattle.atomic_programs.specs.Joined.{Both, Handover, both, lowered}
-use Rattle.atomic_programs.specs.Logic.{OpWithAnswer, P, onto, own}
-use Rattle.atomic_programs.specs.Prog.{Ret, Do, Did, Ran, Stops, Waits, did_in}
-use Rattle.atomic_programs.proofs.Explains.{Some-inj, changed_tells}
-use Rattle.fs_machine.specs.LogPart.{Outside}
 use Rattle.fs_machine.specs.Steps as steps
-use Rattle.fs_machine.specs.Steps.{Answer, Claim, NoInode, Op}
-use Rattle.fs_layout.specs.Inode.{dinode_at}
-use Rattle.fs_machine.specs.Tables.{place_of as place_in_memory}
-use Rattle.inode_table.specs.NewInodes.{is_zero}
-use Rattle.inode_table.specs.Programs.{inode_block, place_of}
-use Rattle.inode_machine.specs.Programs.{program}
-use Rattle.inode_machine.specs.Rules.{machine}
-use Rattle.inodes_on_blocks.specs.Lowering.{nothing}
-use Rattle.inode_machine.specs.Parts.{P as Above}
+use Rattle.fs_machine.specs.Steps.{Claim}
 use Rattle.inode_machine.specs.World as above
-use Rattle.inode_machine.specs.World.{Mark}
-use Rattle.inodes_on_blocks.specs.Handlers.{Acts}
-use Rattle.inodes_on_blocks.specs.Below.{came_to}
-use Rattle.inodes_on_blocks.specs.Lowering.{Carry}
-use Rattle.inodes_on_blocks.specs.Programs.{handlers}
-use Rattle.calls_on_blocks.specs.History.{first}
-use Rattle.calls_on_blocks.specs.Layer.{World, layer}
-use Rattle.calls_on_blocks.specs.Theory.{block_calls}
-use Rattle.hart_core.specs.Worlds.{WorldOf}
-use Rattle.run_laws.specs.Searches.{AnsweredStep, ComesTo, SawInUse, SawNone}
-use Rattle.run_laws.specs.Seen.{AreItsOwn, CallsLookEverywhere, IsInUse, IsReferredTo, MadeStep, SeesNoBlock, SeesNoInode, answered}
-use Rattle.run_laws.specs.Seen.{if_ran, step_of_call, step_of_event, step_of_program, step_unless, steps_made}
+use Rattle.run_laws.specs.Seen.{step_unless}
 use Rattle.run_laws.proofs.Searches.{in_back, in_front, split}
 use Rattle.run_laws.proofs.SearchEnds.{all_see, claims_find, seen_behind, seen_front}
 use Rattle.run_laws.proofs.WantsCalls.{Blames, call_b, goes_or}

@@ -1,27 +1,11 @@
 -- What a run's events show of calls is what those of its history do.
-use Rattle.std.proofs.Common.{◌≡◌, ℕ, List, [], ◌∷◌, refl, ◌∙◌}
-use Rattle.fs_layout.specs.declared.superblock.Super.{Super}
-use Rattle.plain_tree.specs.declared.answer.Reply.{Reply}
-use Rattle.plain_tree.specs.declared.call.Call.{Call}
-use Rattle.plain_tree.specs.Explains.{Shown}
-use Rattle.plain_tree.specs.Explains.Shown.{Other}
-use Rattle.atomic_programs.specs.Calls.{Event as EventOf, Start, Step, Outcome as OutcomeOf, Started, Refused, WasIdle, DidWait, DidRun, DidEnd, DidStop, WasStopped, Came as CameOf, all_asked, asked}
-use Rattle.atomic_programs.specs.Plain.{all_by_kind, by_kind}
-use Rattle.fs_machine.specs.declared.kind.Kind.{Kind}
-use Rattle.fs_machine.specs.LogPart.{Outside}
-use Rattle.inode_machine.specs.MoveCalls.{shown_by}
-use Rattle.inode_machine.specs.Theory.{Refusal}
-use Rattle.calls_on_blocks.specs.Theory.{block_calls, block_code}
+use Rattle.run_laws.proofs.Vocabulary.{◌≡◌, ℕ, List, [], ◌∷◌, refl, ◌∙◌, Super, Reply, Call, Shown, Other, EventOf, Start, Step, OutcomeOf, Started, WasRefused as Refused, WasIdle, DidWait, DidRun, DidEnd, DidStop, WasStopped, Came as CameOf, all_asked, asked, all_by_kind, by_kind, Kind, Outside, shown_by, Refusal, block_calls, block_code, Event, Outcome, came_of, outcome_of, all_shown, events_of, outcomes_of, shown, shown_outcome}
 use Rattle.hart_core.specs.declared.events.Came.{Came}
 use Rattle.hart_core.specs.declared.events.Came.TheVariants as came
-use Rattle.hart_core.specs.declared.events.Event.{Event}
 use Rattle.hart_core.specs.declared.events.Event.TheVariants as event
-use Rattle.hart_core.specs.declared.outcome.Outcome.{Outcome}
 use Rattle.hart_core.specs.declared.outcome.Outcome.TheVariants as outcome
 use Rattle.hart_core.specs.declared.outcome.Stop.TheVariants as stop
-use Rattle.hart_core.specs.Events.{came_of, event_of}
-use Rattle.hart_core.specs.Harts.{outcome_of}
-use Rattle.hart_core.specs.Runs.{all_shown, events_of, outcomes_of, shown, shown_outcome}
+use Rattle.hart_core.specs.Events.{event_of}
 use Rattle.run_laws.proofs.Traced.{all_shown_by}
 
 abbrev zipped : List (EventOf Call (Unit {0})) → List (OutcomeOf Kind Reply Refusal) → List Shown

@@ -1,22 +1,6 @@
 -- A call that found no room leaves what stands.
-use Rattle.std.proofs.Common.{◌≡◌, inr, ℕ, false, List, [], Option, None, subst}
-use Rattle.fs_layout.specs.declared.superblock.Super.{Super}
-use Rattle.fs_layout.specs.Recovered.{sizes_of}
+use Rattle.run_laws.proofs.Vocabulary.{◌≡◌, inr, ℕ, false, List, [], Option, None, subst, Super, sizes_of, Full, Reply, Call, TracedCall, fresh, run, program, first, trace_in, WorldOf, changes_of, operations_of, CallsWithoutRoomTakeBack, LeavesThat, Stands, IsRunOfCall, Operation, lowered_inode_calls, IsRun, RunsTo}
 use Rattle.plain_tree.specs.declared.answer.Answer.TheVariants as answers
-use Rattle.plain_tree.specs.declared.answer.Full.{Full}
-use Rattle.plain_tree.specs.declared.answer.Reply.{Reply}
-use Rattle.plain_tree.specs.declared.call.Call.{Call}
-use Rattle.plain_tree.specs.declared.trace.TracedCall.{TracedCall}
-use Rattle.atomic_programs.specs.Calls.{fresh, run}
-use Rattle.inode_machine.specs.Programs.{program}
-use Rattle.calls_on_blocks.specs.History.{first}
-use Rattle.hart_core.specs.Runs.{trace_in}
-use Rattle.hart_core.specs.Worlds.{WorldOf}
-use Rattle.run_laws.specs.Changes.{changes_of}
-use Rattle.run_laws.specs.Laws.{operations_of}
-use Rattle.run_laws.specs.Standing.{CallsWithoutRoomTakeBack, LeavesThat, Stands}
-use Rattle.run_laws.specs.WholeInodes.{IsRunOfCall, Operation, lowered_inode_calls}
-use Rattle.run_laws.specs.Worlds.{IsRun, RunsTo}
 use Rattle.run_laws.proofs.Answered.{both_of}
 use Rattle.run_laws.proofs.Leaving.{run_leaves}
 use Rattle.run_laws.proofs.LeavingCalls.{call_l}

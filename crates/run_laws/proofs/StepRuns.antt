@@ -1,10 +1,5 @@
 -- What is noted of a run changes nothing of it.
-use Rattle.std.proofs.Common.{◌≡◌, ℕ, suc, Option, Some, None, Bool, true, false, List, [], ◌∷◌, refl, sym, ◌∙◌, ap, subst}
-use Rattle.std.specs.Prelude.{nat_eq, if◌then◌else◌}
-use Rattle.atomic_programs.specs.Prog.{Ret, Do, Did, Waits, Ran, Stops}
-use Rattle.atomic_programs.specs.Logic.{P, OpWithAnswer, own, onto}
-use Rattle.atomic_programs.specs.Calls.{Theory, Began, Refuses, Begins, Run, PlacedStep, FinishedCall, State, Event, Start, Step, Came, Started, DidRun, DidEnd, Made, changed, is_some, start_of, placed, told, all_told, moved, tried, step_prog, step_unless, step_run, begun, busy_in, start_run, HonestStep, IsHonest, AllHonest, makes, next, run, outcomes, fresh}
-use Rattle.run_laws.specs.Faithful.{Notes, StepNote, entries_of, with_entries, with_steps}
+use Rattle.run_laws.proofs.Vocabulary.{◌≡◌, ℕ, suc, Option, Some, None, Bool, true, false, List, [], ◌∷◌, refl, sym, ◌∙◌, ap, subst, nat_eq, if◌then◌else◌, Ret, Do, Did, Waits, Ran, Stops, PartOf as P, OpWithAnswer, own, onto, Theory, Began, Refuses, Begins, Run, PlacedStep, FinishedCall, State, EventOf as Event, Start, Step, Came, Started, DidRun, DidEnd, Made, changed, is_called as is_some, start_of, placed, told, all_told, moved, tried, step_prog, step_unless, step_run, begun, busy_in, start_run, HonestStep, IsHonest, AllHonest, makes, next, run, outcomes, fresh, Notes, StepNote, entries_of, with_entries, with_steps}
 
 -- steps that are all of this hart
 abbrev pub all_by : {A : Type 0} → ℕ → List A → List (ℕ × A)

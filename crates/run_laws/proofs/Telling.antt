@@ -1,20 +1,9 @@
 -- An operation's mark says that there was no room just where its answer says so.
-use Rattle.std.proofs.Common.{◌≡◌, ℕ, Bool, true, false, not, if◌then◌else◌, List, Option, Some, None, refl}
-use Rattle.plain_tree.specs.declared.step.Action.{Action}
+use Rattle.run_laws.proofs.Vocabulary.{◌≡◌, ℕ, Bool, true, false, not, if◌then◌else◌, List, Option, Some, None, refl, Action, empty_it, dups, refused_read, refused_to, writes, is_nothing, Face, Sight, is_directory_sort, is_live_face, lends, bump_refused, bumps_if, enters, is_refused, entered_file, installs, mends_unless_new, truncates, begins_unless_full, looks_if, looks_or_quits, looks_where, mends_if_full, own_step, quits_unless, ClaimResult, EntryResult, InPlace, JoinResult, Joined, Lent, LoanResult, LockResult, LocksIt, Mark, Moved, New, NoBlock, NoPlace, NoSlot, NotJoined, NotLocked, Refused, Short, Whole, Wrote, Fills, Frees, Makes, Mends, Orphans, Spoils, Move, Look, Quit, is_no_descriptor, is_no_entry, is_no_inode, is_short}
 use Rattle.plain_tree.specs.declared.step.Action.TheVariants as actions
-use Rattle.plain_tree.specs.Steps.{empty_it, has}
-use Rattle.inode_machine.specs.Descriptors.{dups, refused_read, refused_to, writes}
-use Rattle.inode_machine.specs.Exec.{is_nothing}
-use Rattle.inode_machine.specs.Inodes.{Face, Sight, is_directory_sort, is_live_face}
-use Rattle.inode_machine.specs.Moving.{lends}
-use Rattle.inode_machine.specs.Naming.{bump_refused, bumps_if, enters, is_refused}
-use Rattle.inode_machine.specs.Opening.{entered_file, installs, mends_unless_new, truncates}
-use Rattle.inode_machine.specs.Parts.{begins_unless_full, looks_if, looks_or_quits, looks_where, makes, mends_if_full, own_step, quits_unless}
-use Rattle.inode_machine.specs.World.{ClaimResult, EntryResult, InPlace, JoinResult, Joined, Lent, LoanResult, LockResult, LocksIt, Mark, Moved, New, NoBlock, NoInode, NoPlace, NoSlot, NotJoined, NotLocked, Refused, Short, Whole, Wrote}
-use Rattle.inode_machine.specs.World.Mark.{Fills, Frees, Makes, Mends, Orphans, Spoils}
-use Rattle.tree_laws.specs.Moves.{Move}
-use Rattle.tree_laws.specs.Moves.Move.{Look, Quit}
-use Rattle.run_laws.specs.Rooms.{is_no_descriptor, is_no_entry, is_no_inode, is_short}
+use Rattle.plain_tree.specs.Steps.{has}
+use Rattle.inode_machine.specs.Parts.{makes}
+use Rattle.inode_machine.specs.World.{NoInode}
 
 -- no room was found, by the mark
 abbrev pub spoils : Option Mark → Bool

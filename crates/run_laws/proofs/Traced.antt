@@ -1,27 +1,6 @@
 -- What a run shows of its calls, event by event, matches the calls that its state has.
-use Rattle.std.proofs.Common.{◌≡◌, ◌≢◌, ◌⊎◌, inl, inr, ℕ, suc, ◌&&◌, ◌==◌, if◌then◌else◌, Bool, true, false, Option, Some, None, List, [], ◌∷◌, ◌++◌, map, refl, sym, ◌∙◌, ap, subst, arith}
-use Rattle.fs_layout.specs.declared.superblock.Super.{Super}
-use Rattle.plain_tree.specs.declared.answer.Reply.{Reply}
-use Rattle.plain_tree.specs.declared.call.Call.{Call}
-use Rattle.plain_tree.specs.declared.trace.Trace.{Trace}
-use Rattle.plain_tree.specs.declared.trace.TracedCall.{TracedCall}
-use Rattle.plain_tree.specs.Explains.{Shown, ends_at, no_calls, noted, trace_from}
-use Rattle.plain_tree.specs.Explains.Shown.{Other}
-use Rattle.plain_tree.specs.Steps.{is_nothing}
-use Rattle.tree_laws.proofs.Maps.{eq_is, eq_isnt, same_or}
-use Rattle.atomic_programs.specs.Calls.{Theory, Began, Refuses, Begins, Event as EventOf, FinishedCall, Run, Start, Step, State, all_told, begun, busy_in, fresh, makes, moved, next, outcomes, run, start_run, step_prog, step_run, step_unless, told, tried, unchanged, Came}
-use Rattle.atomic_programs.specs.Explained.{In}
-use Rattle.atomic_programs.specs.Joined.{Both}
-use Rattle.atomic_programs.specs.Logic.{P, OpWithAnswer, own, onto}
-use Rattle.atomic_programs.specs.Prog.{Ret, Do, Did, Waits, Ran, Stops}
-use Rattle.atomic_programs.proofs.Explains.{Some-inj, changed_other, changed_same}
-use Rattle.fs_machine.specs.LogPart.{Outside}
-use Rattle.inode_machine.specs.MoveCalls.{shown_by}
-use Rattle.inode_machine.specs.Theory.{Refusal}
+use Rattle.run_laws.proofs.Vocabulary.{◌≡◌, ◌≢◌, ◌⊎◌, inl, inr, ℕ, suc, ◌&&◌, ◌==◌, if◌then◌else◌, Bool, true, false, Option, Some, None, List, [], ◌∷◌, ◌++◌, map, refl, sym, ◌∙◌, ap, subst, arith, Super, Reply, Call, Trace, TracedCall, Shown, ends_at, no_calls, noted, trace_from, Other, no_fd as is_nothing, eq_is, eq_isnt, same_or, Theory, Began, Refuses, Begins, EventOf, FinishedCall, Run, Start, Step, State, all_told, begun, busy_in, fresh, makes, moved, next, outcomes, run, start_run, step_prog, step_run, step_unless, told, tried, unchanged, Came, In, Both, PartOf as P, OpWithAnswer, own, onto, Ret, Do, Did, Waits, Ran, Stops, Some-inj, changed_other, changed_same, Outside, shown_by, Refusal, World, block_calls, lowered_inode_calls}
 use Rattle.inode_machine.specs.World as above
-use Rattle.calls_on_blocks.specs.Layer.{World}
-use Rattle.calls_on_blocks.specs.Theory.{block_calls}
-use Rattle.run_laws.specs.WholeInodes.{lowered_inode_calls}
 
 in_append : {A : Type 0} (c x : A) (xs : List A) → In c (xs ++ x ∷ []) → In c xs ⊎ (c ≡ x)
 in_append c x [] (inl e) = inr e

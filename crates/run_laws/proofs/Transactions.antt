@@ -1,53 +1,10 @@
 -- In each run a transaction records at most ten different blocks.
-use Rattle.std.proofs.Common.{◌≡◌, ◌≢◌, ◌⊎◌, inl, inr, ◌<◌, ℕ, suc, ◌==◌, Bool, true, false, List, [], ◌∷◌, ◌++◌, Option, Some, None}
-use Rattle.std.proofs.Common.{if◌then◌else◌, refl, sym, ◌∙◌, ap, subst}
-use Rattle.std.specs.Prelude.{slice_get}
-use Rattle.fs_layout.specs.declared.superblock.Super.{Super}
-use Rattle.fs_layout.specs.Recovered.{sizes_of}
-use Rattle.plain_tree.specs.declared.answer.Reply.{Reply}
-use Rattle.plain_tree.specs.declared.call.Call.{Call}
-use Rattle.plain_tree.specs.Tree.{put}
-use Rattle.plain_tree.specs.Widths.{hart_count}
-use Rattle.tree_laws.proofs.Maps.{either, eq_is, eq_self}
-use Rattle.atomic_programs.specs.Calls.{Theory, AllHonest, Began, Begins, Refuses, Event as EventOf, HonestStep, IsHonest, Run, Sound, Start, State, Step}
-use Rattle.atomic_programs.specs.Calls.{all_told, begun, busy_in, changed, fresh, moved, next, start_run, step_prog, step_run}
-use Rattle.atomic_programs.specs.Calls.{step_unless as step_of, told, tried, unchanged}
-use Rattle.atomic_programs.specs.Explained.{Holds, IsExplained}
-use Rattle.atomic_programs.specs.Joined.{Both, both}
-use Rattle.atomic_programs.specs.Logic.{OpWithAnswer, P, onto, own}
-use Rattle.atomic_programs.specs.Lowered.{began_to}
-use Rattle.atomic_programs.specs.Prog.{Ret, Do, Did, OfNext, Ran, Stops, Waits, asks, did_in}
-use Rattle.atomic_programs.proofs.Explains.{Some-inj, changed_tells}
-use Rattle.atomic_programs.proofs.Lowered.{begun_both}
-use Rattle.atomic_programs.proofs.Reached.{sound_explained, sound_fresh, sound_run}
-use Rattle.fs_machine.specs.LogPart.{Outside}
-use Rattle.fs_machine.specs.Own.{Own, own_of}
+use Rattle.run_laws.proofs.Vocabulary.{◌≡◌, ◌≢◌, ◌⊎◌, inl, inr, ◌<◌, ℕ, suc, ◌==◌, Bool, true, false, List, [], ◌∷◌, ◌++◌, Option, Some, None, if◌then◌else◌, refl, sym, ◌∙◌, ap, subst, slice_get, Super, sizes_of, Reply, Call, put, hart_count, either, eq_is, eq_self, Theory, AllHonest, Began, Begins, Refuses, EventOf, HonestStep, IsHonest, Run, Sound, Start, State, Step, all_told, begun, busy_in, changed, fresh, moved, next, start_run, step_prog, step_run, step_unless as step_of, told, tried, unchanged, Holds, IsExplained, Both, both, OpWithAnswer, PartOf as P, onto, own, began_to, Ret, Do, Did, OfNext, Ran, Stops, Waits, asks, did_in, Some-inj, changed_tells, begun_both, sound_explained, sound_fresh, sound_run, Outside, Own, own_of, AnswerBelow as Answer, Op, After, leaves_own, machine, Refusal, came_to, Acts, IsMountable, ShowsItsTree, mounts_show_their_trees, first, World, shared_of, begins, block_calls, child_of, served_calls, first_holds, first_idle, lawful, served_is, BeginsHere, begun_here, below_count, AllAnswer, IsHistory, WorldOf, all_honest, mountable, rests_erased, MadeStep, if_ran, step_of_call, step_of_event, step_of_program, steps_made, AreAtMostTen, JoinAndLeaveInTheLog, RecordAtMostTen, RecordInTransactions, TransactionsRecordAtMostTen, recorded_after, recorded_from, recorded_with}
 use Rattle.fs_machine.specs.Premises as premises
 use Rattle.fs_machine.specs.Steps as steps
-use Rattle.fs_machine.specs.Steps.{Answer, Op}
-use Rattle.fs_machine.specs.Whole.{After}
-use Rattle.fs_machine.proofs.Owned.{leaves_own}
-use Rattle.inode_machine.specs.Rules.{machine}
-use Rattle.inode_machine.specs.Theory.{Refusal}
 use Rattle.inode_machine.specs.World as above
-use Rattle.inodes_on_blocks.specs.Below.{came_to}
-use Rattle.inodes_on_blocks.specs.Handlers.{Acts}
-use Rattle.inodes_on_blocks.specs.Mounted.{IsMountable, ShowsItsTree}
-use Rattle.inodes_on_blocks.proofs.Mounted.{mounts_show_their_trees}
-use Rattle.calls_on_blocks.specs.History.{first}
-use Rattle.calls_on_blocks.specs.Layer.{World, shared_of}
-use Rattle.calls_on_blocks.specs.Theory.{begins, block_calls, child_of, served_calls}
-use Rattle.calls_on_blocks.proofs.History.{first_holds, first_idle}
-use Rattle.calls_on_blocks.proofs.Lawful.{lawful, served_is}
-use Rattle.calls_on_blocks.proofs.Starting.{BeginsHere, begun_here, below_count}
-use Rattle.hart_core.specs.Runs.{AllAnswer, IsHistory}
-use Rattle.hart_core.specs.Worlds.{WorldOf}
-use Rattle.hart_core.proofs.Histories.{all_honest}
-use Rattle.hart_core.proofs.Resting.{mountable, rests_erased}
-use Rattle.run_laws.specs.Seen.{MadeStep, if_ran, step_of_call, step_of_event, step_of_program, step_unless, steps_made}
-use Rattle.run_laws.specs.Transactions.{AreAtMostTen, JoinAndLeaveInTheLog, RecordAtMostTen, RecordInTransactions}
-use Rattle.run_laws.specs.Transactions.{TransactionsRecordAtMostTen}
-use Rattle.run_laws.specs.Transactions.{recorded_after, recorded_from, recorded_in, recorded_with}
+use Rattle.run_laws.specs.Seen.{step_unless}
+use Rattle.run_laws.specs.Transactions.{recorded_in}
 use Rattle.run_laws.proofs.Members.{Agrees, AgreesAfter, apart, is_in, joined_in, member_records, nobody_in, none_open, open_iff, own_agrees}
 use Rattle.run_laws.proofs.Recording.{Recorded, StaysSmall}
 use Rattle.run_laws.proofs.RecordingCalls.{call_small}

@@ -1,16 +1,7 @@
 -- What unlink asks for fits.
-use Rattle.std.proofs.Common.{ℕ, ◌-◌, ◌==◌, ◌||◌, Bool, true, false, not, if◌then◌else◌, List, [], ◌∷◌, Option, Some, None, refl}
-use Rattle.plain_tree.specs.declared.answer.Cause.TheVariants.{NoEntry, NotEmpty, DotName}
-use Rattle.plain_tree.specs.declared.answer.Full.TheVariants.{MemInodes}
-use Rattle.plain_tree.specs.declared.answer.Reply.{Reply}
+use Rattle.run_laws.proofs.Vocabulary.{ℕ, ◌-◌, ◌==◌, ◌||◌, Bool, true, false, not, if◌then◌else◌, List, [], ◌∷◌, Option, Some, None, refl, NoEntry, NotEmpty, DotName, MemInodes, Reply, Name, elements, same_name, dot, dotdot, Do, unmarked, Face, face_or, is_directory_sort, is_live_face, always, clear_name, in_parent, is_missing, or_missing, unlink_child, unlink_dots, unlink_found, unlink_in, unlink_named, unlink_other, unlink_program, P, failed, full, done, give_up, tail, stopped, Store}
 use Rattle.plain_tree.specs.declared.call.Call.TheVariants as calls
 use Rattle.plain_tree.specs.declared.step.Action.TheVariants as actions
-use Rattle.plain_tree.specs.Tree.{Name, elements, same_name, dot, dotdot}
-use Rattle.atomic_programs.specs.Prog.{Do, unmarked}
-use Rattle.inode_machine.specs.Inodes.{Face, face_or, is_directory_sort, is_live_face}
-use Rattle.inode_machine.specs.Naming.{always, clear_name, in_parent, is_missing, or_missing, unlink_child, unlink_dots, unlink_found, unlink_in, unlink_named, unlink_other, unlink_program}
-use Rattle.inode_machine.specs.Parts.{P, failed, full, done, give_up, tail, stopped}
-use Rattle.inode_machine.specs.World.Op.{Store}
 use Rattle.run_laws.proofs.PathFits.{give_up_fits, tail_fits, refused_fits, parent_fits}
 use Rattle.run_laws.proofs.Fits.{AllFit}
 use Rattle.run_laws.proofs.Names.{AllShort, elements_short}

@@ -1,37 +1,11 @@
 -- An operation of which no change is told leaves inodes that have a name, open files and what harts have of them.
-use Rattle.std.proofs.Common.{◌≡◌, ◌≢◌, ◌⊎◌, inl, inr, ℕ, ◌==◌, Bool, true, false, nat_lt, if◌then◌else◌, List, [], ◌∷◌, take}
-use Rattle.std.proofs.Common.{Option, Some, None, refl, sym, ◌∙◌, ap, subst, append-nil}
-use Rattle.plain_tree.specs.declared.answer.Cause.{Cause}
-use Rattle.plain_tree.specs.declared.node.Node.{Node}
-use Rattle.plain_tree.specs.declared.tree.OpenFile.{OpenFile}
-use Rattle.plain_tree.specs.Steps.{has_room, lowest, node_or, write_kind}
-use Rattle.plain_tree.specs.Tree.{Name, Tree, all_slots, first_slot, is_live, live_directory, look, put}
-use Rattle.tree_laws.specs.WellFormed.{IsWellFormed}
-use Rattle.tree_laws.proofs.Facts.{look_live}
-use Rattle.tree_laws.proofs.Maps.{eq_is, put_is, put_other, put_same}
-use Rattle.atomic_programs.specs.Joined.{ran_to}
-use Rattle.atomic_programs.specs.Prog.{Did, Waits, Ran, Stops}
-use Rattle.inode_machine.specs.Exec.{claim_if, claimed, close_at, close_if, double_at, double_if, down_if, entry_of, enter_if, exec}
-use Rattle.inode_machine.specs.Exec.{file_count, fill_if, first_from, has_place, install_if, is_empty_slot}
-use Rattle.inode_machine.specs.Exec.{is_full_directory, is_last, join_at}
-use Rattle.inode_machine.specs.Exec.{lend_if, lock_at, lock_if, locked, next_used, offset_of, place_count, read_at, read_refused}
-use Rattle.inode_machine.specs.Exec.{referenced, released, slot_at, slot_if, start_if, start_number}
-use Rattle.inode_machine.specs.Exec.{stat_at, unlocked, up_if, walk_down_if}
-use Rattle.inode_machine.specs.Exec.{with_record, write_at, write_if, write_in, write_refused}
-use Rattle.inode_machine.specs.Inodes.{Sort, face_of, face_or, seen_in, sort_of}
-use Rattle.inode_machine.specs.Marks.{Made, go, made_by, marked, mended, new_id, spoiled, with_left}
-use Rattle.inode_machine.specs.Marks.{with_made, with_mark, with_noted, with_opened}
-use Rattle.inode_machine.specs.World.{Answer, ClaimResult, Desk, Entry, LocksIt, Mark, New, NoPlace, Op}
-use Rattle.inode_machine.specs.World.{Outside, Picks, Room, RoomFor, World}
-use Rattle.inode_machine.specs.Rules.{Inv}
-use Rattle.inode_machine.specs.World.Mark.{Fills, Frees, Makes, Mends, Orphans, Spoils}
-use Rattle.inode_machine.specs.World.Op.{CheckFile, Claim, Clear, Double, Down, Empty, Enter, Fill, Forget, Free, Give, Install, Join}
-use Rattle.inode_machine.specs.World.Op.{JoinFile, Leave, Lend, LendDirectory, LockFile, LockOpen, ReadFile, Release}
-use Rattle.inode_machine.specs.World.Op.{Say, Settle, Shut, Slot}
-use Rattle.inode_machine.specs.World.Op.{StatFile, Store, Take, Up, UpStart, WalkDown, WriteFile}
-use Rattle.tree_laws.specs.Moves.Move.{Own}
-use Rattle.run_laws.specs.Changes.{Change, ChangesAreTold, Claimed, Cleared, Emptied, Entered, Filled, Freed, GaveBack, HasNoName}
-use Rattle.run_laws.specs.Changes.{Moved, TookPlace, Wrote, by_count, by_free, changed_by}
+use Rattle.run_laws.proofs.Vocabulary.{◌≡◌, ◌≢◌, ◌⊎◌, inl, inr, ℕ, ◌==◌, Bool, true, false, nat_lt, if◌then◌else◌, List, [], ◌∷◌, take, Option, Some, None, refl, sym, ◌∙◌, ap, subst, append-nil, Cause, Node, OpenFile, has_room, lowest, node_or, write_kind, Name, Tree, all_slots, first_slot, is_live, live_directory, look, put, IsWellFormed, look_live, eq_is, put_is, put_other, put_same, ran_to, Did, Waits, Ran, Stops, claim_if, claimed, close_at, close_if, double_at, double_if, down_if, entry_of, enter_if, exec, file_count, fill_if, first_from, has_place, install_if, is_empty_slot, is_full_directory, is_last, join_at, lend_if, lock_at, lock_if, locked, next_used, offset_of, place_count, read_at, read_refused, referenced, released, slot_at, slot_if, start_if, start_number, stat_at, unlocked, up_if, walk_down_if, write_at, write_if, write_refused, Sort, face_of, face_or, seen_in, sort_of, go, made_by, marked, mended, new_id, spoiled, with_left, with_made, with_mark, with_noted, with_opened, Answer, ClaimResult, Desk, Entry, LocksIt, Mark, New, NoPlace, Picks, Room, RoomFor, Inv, Fills, Frees, Makes, Mends, Orphans, Spoils, CheckFile, Claim, Clear, Double, Down, Empty, Enter, Fill, Forget, Free, Give, Install, Join, JoinFile, Leave, Lend, LendDirectory, LockFile, LockOpen, ReadFile, Release, Say, Settle, Shut, Slot, StatFile, Store, Take, Up, UpStart, WalkDown, WriteFile, OwnMove as Own, Change, ChangesAreTold, Claimed, Cleared, Entered, Filled, Freed, GaveBack, HasNoName, TookPlace, by_count, by_free, changed_by}
+use Rattle.inode_machine.specs.Exec.{with_record, write_in}
+use Rattle.inode_machine.specs.Marks.{Made}
+use Rattle.inode_machine.specs.World.{Op}
+use Rattle.inode_machine.specs.World.{Outside, World}
+use Rattle.run_laws.specs.Changes.{Emptied}
+use Rattle.run_laws.specs.Changes.{Moved, Wrote}
 
 -- ---- what is looked at
 

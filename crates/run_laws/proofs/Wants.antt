@@ -1,40 +1,8 @@
 -- What an operation on whole inodes wants and doesn't find, the world doesn't have in which it is made.
-use Rattle.std.proofs.Common.{◌≡◌, ◌≢◌, inl, inr, ◌<◌, ◌≤◌, ◌+◌, ℕ, zero, suc, ◌==◌, Bool, true, false, ◌&&◌, ◌||◌, not, nat_lt}
-use Rattle.std.proofs.Common.{if◌then◌else◌, List, [], ◌∷◌, length, Option, Some, None, IsSome, refl, sym, ◌∙◌, ap, subst, arith}
-use Rattle.std.specs.List.{All}
-use Rattle.std.proofs.lemmas.Bool.Decides.{nat_tests}
-use Rattle.std.proofs.lemmas.List.Elements.{All-cons, All-nil}
-use Rattle.plain_tree.specs.declared.answer.Cause.{Cause}
-use Rattle.plain_tree.specs.declared.answer.Full.{Full}
-use Rattle.plain_tree.specs.declared.node.Slot.{Slot as DirectorySlot}
-use Rattle.plain_tree.specs.declared.tree.OpenFile.{OpenFile}
-use Rattle.plain_tree.specs.Steps.{has_room, lowest, lowest_from, node_or, write_kind}
-use Rattle.plain_tree.specs.Tree.{Name, all_slots, any_below}
-use Rattle.plain_tree.specs.Widths.{descriptor_count, hart_count}
-use Rattle.tree_laws.proofs.Maps.{and_true, eq_is, or_none, same_or}
-use Rattle.atomic_programs.specs.Calls.{PlacedStep}
-use Rattle.atomic_programs.specs.Explained.{Chain}
-use Rattle.atomic_programs.specs.Prog.{Did, Ran, Stops, Waits}
-use Rattle.fs_layout.specs.declared.superblock.Super.{Super}
-use Rattle.plain_tree.specs.declared.answer.Full.TheVariants.{Blocks, Descriptors, Directory, DiskInodes, MemInodes, OpenFiles}
-use Rattle.fs_layout.specs.Recovered.{sizes_of}
-use Rattle.hart_core.specs.Worlds.{WorldOf}
-use Rattle.inode_machine.specs.Exec.{all_used, claim_if, claimed, double_at, double_if, enter_if, enter_in, entry_of, exec, file_count}
-use Rattle.inode_machine.specs.Exec.{fill_if, first_from, has_place, install_if, is_at, is_empty_slot, is_full_directory, is_nothing}
-use Rattle.inode_machine.specs.Exec.{place_count, referenced, slot_at, slot_if, slot_limit, start_if, start_number, up_if, write_at}
-use Rattle.inode_machine.specs.Exec.{write_if, write_in}
-use Rattle.inode_machine.specs.Inodes.{Sort}
-use Rattle.inode_machine.specs.Marks.{with_mark}
-use Rattle.inode_machine.specs.Rules.{Honest, HonestClaim, May}
-use Rattle.inode_machine.specs.World.{Answer, Entry, Mark, New, NoPlace, Op, Outside, Picks, Room, RoomFor, World}
-use Rattle.inode_machine.specs.World.Op.{Take, Give, UpStart, Up, WalkDown, Down, Free, Forget, Claim, Store, Fill, Enter, Clear, Empty}
-use Rattle.inode_machine.specs.World.Op.{Slot, Install, StatFile, LockFile, ReadFile, CheckFile, JoinFile, LockOpen, WriteFile, Double}
-use Rattle.inode_machine.specs.World.Op.{Shut, Settle, Lend, LendDirectory, Release, Join, Leave, Say}
-use Rattle.inode_machine.proofs.Openings.{first_some}
-use Rattle.run_laws.specs.Wants.{AllDescriptorsAreTaken, AllOpenFilesAreTaken, AllPlacesAreTaken, HasNone, IsFullDirectory, IsTaken}
-use Rattle.run_laws.specs.Wants.{LeadsThroughWants, NoRoomOnlyWhereThereIsNone, WantsWhatIsnt}
-use Rattle.run_laws.specs.Wanted.{wanted}
-use Rattle.run_laws.specs.WholeInodes.{IsStep, Operation, lowered_inode_calls, unreserved}
+use Rattle.run_laws.proofs.Vocabulary.{◌≡◌, ◌≢◌, inl, inr, ◌<◌, ◌≤◌, ◌+◌, ℕ, zero, suc, ◌==◌, Bool, true, false, ◌&&◌, ◌||◌, not, nat_lt, if◌then◌else◌, List, [], ◌∷◌, length, Option, Some, None, IsSome, refl, sym, ◌∙◌, ap, subst, arith, All, nat_tests, All-cons, All-nil, Cause, Full, DirectorySlot, OpenFile, has_room, lowest, lowest_from, node_or, write_kind, Name, all_slots, any_below, descriptor_count, hart_count, and_true, eq_is, or_none, same_or, PlacedStep, Chain, Did, Ran, Stops, Waits, Super, Blocks, Descriptors, Directory, DiskInodes, MemInodes, OpenFiles, sizes_of, WorldOf, all_used, claim_if, claimed, double_at, double_if, enter_if, entry_of, exec, file_count, fill_if, first_from, has_place, install_if, is_at, is_empty_slot, is_full_directory, is_nothing, place_count, referenced, slot_at, slot_if, slot_limit, start_if, start_number, up_if, write_at, write_if, Sort, with_mark, Honest, HonestClaim, May, Answer, Entry, Mark, New, NoPlace, Picks, Room, RoomFor, Take, Give, UpStart, Up, WalkDown, Down, Free, Forget, Claim, Store, Fill, Enter, Clear, Empty, Slot, Install, StatFile, LockFile, ReadFile, CheckFile, JoinFile, LockOpen, WriteFile, Double, Shut, Settle, Lend, LendDirectory, Release, Join, Leave, Say, first_some, AllDescriptorsAreTaken, AllOpenFilesAreTaken, AllPlacesAreTaken, HasNone, IsFullDirectory, IsTaken, LeadsThroughWants, NoRoomOnlyWhereThereIsNone, WantsWhatIsnt, wanted, IsStep, Operation, lowered_inode_calls, unreserved}
+use Rattle.inode_machine.specs.Exec.{enter_in}
+use Rattle.inode_machine.specs.Exec.{write_in}
+use Rattle.inode_machine.specs.World.{Op, Outside, World}
 use Rattle.run_laws.proofs.Worlds.{worlds_refine}
 
 -- ---- where there is none

@@ -1,49 +1,11 @@
 -- A call's program ends for want of a room only where one of its operations wanted it, or where a claim gave it an inode that it had
 -- locked; and each name that it enters fits.
-use Rattle.std.proofs.Common.{◌≡◌, ◌≢◌, ◌⊎◌, inl, inr, ◌≤◌, ◌+◌, ◌-◌, ◌==◌, ◌||◌, ℕ, zero, suc, Bool, true, false, not, if◌then◌else◌}
-use Rattle.std.proofs.Common.{List, [], ◌∷◌}
-use Rattle.std.proofs.Common.{Option, Some, None, length, take, map, filter, refl, sym, ap, arith}
-use Rattle.std.proofs.lemmas.List.{length-take}
+use Rattle.run_laws.proofs.Vocabulary.{◌≡◌, ◌≢◌, ◌⊎◌, inl, inr, ◌≤◌, ◌+◌, ◌-◌, ◌==◌, ◌||◌, ℕ, zero, suc, Bool, true, false, not, if◌then◌else◌, List, [], ◌∷◌, Option, Some, None, length, take, map, filter, refl, sym, ap, arith, length-take, Cause, Exists, NoDirectory, DotName, NoEntry, NotDirectory, NotEmpty, BadDescriptor, Full, Blocks, Descriptors, Directory, DiskInodes, MemInodes, OpenFiles, Reply, Call, Action, piece, piece_count, creates, Name, dot, dotdot, elements, is_absolute, is_empty, pieces, same_name, descriptor_count, eq_is, Ret, Do, unmarked, checked_reply, close_on, dup_on, joined_on, read_on, read_reply, stat_on, stat_reply, write_from, write_piece, write_program, write_reply, wrote_on, Face, OfDirectory, OfFile, Sort, face_or, is_directory_face, is_directory_sort, is_live_face, open_refusal, chdir_at, chdir_program, inherit_end, lend_from, lend_on, bump_refused, clear_name, in_parent, link_at, link_found, link_in, link_name, link_program, link_raise, lower, mkdir_in, mkdir_on, mkdir_other, mkdir_refused, mkdir_with, name_directory, named_on, or_missing, unlink_child, unlink_dots, unlink_found, unlink_in, unlink_named, unlink_other, create_found, create_in, empties, entered_file, file_for, installed_on, installs, make_on, make_other, make_with, open_at, open_end, open_face, open_made, open_new, open_old, opened_reply, take_descriptor, truncates, unmake, NoMemory, NotThere, P, Stop, done, drop, failed, free_all, full, give_up, leave_directory, own_step, say, see_parent, start, start_on, stopped, tail, walk, walk_parent, walk_step, with_last, program, Answer, JoinResult, Joined, Lent, LoanResult, LockResult, LocksIt, Moved, New, NotJoined, NotLocked, Refused, Short, Whole, Wrote, Claim, Double, Empty, Enter, Fill, Forget, Free, Give, Install, Join, Leave, Release, Settle, Store, Up, UpStart, WriteFile, Frees, NameFits, wanted}
 use Rattle.plain_tree.specs.declared.answer.Answer.TheVariants as answers
-use Rattle.plain_tree.specs.declared.answer.Cause.{Cause}
-use Rattle.plain_tree.specs.declared.answer.Cause.TheVariants.{Exists, IsDirectory as NoDirectory, DotName, NoEntry, NotDirectory}
-use Rattle.plain_tree.specs.declared.answer.Cause.TheVariants.{NotEmpty, BadDescriptor}
-use Rattle.plain_tree.specs.declared.answer.Full.{Full}
-use Rattle.plain_tree.specs.declared.answer.Full.TheVariants.{Blocks, Descriptors, Directory, DiskInodes, MemInodes, OpenFiles}
-use Rattle.plain_tree.specs.declared.answer.Reply.{Reply}
-use Rattle.plain_tree.specs.declared.call.Call.{Call}
 use Rattle.plain_tree.specs.declared.call.Call.TheVariants as calls
-use Rattle.plain_tree.specs.declared.step.Action.{Action}
 use Rattle.plain_tree.specs.declared.step.Action.TheVariants as actions
-use Rattle.plain_tree.specs.Calls.{piece, piece_count}
-use Rattle.plain_tree.specs.Steps.{creates}
-use Rattle.plain_tree.specs.Tree.{Name, dot, dotdot, elements, is_absolute, is_empty, pieces, same_name}
-use Rattle.plain_tree.specs.Widths.{descriptor_count}
-use Rattle.tree_laws.proofs.Maps.{eq_is}
-use Rattle.atomic_programs.specs.Prog.{Ret, Do, unmarked}
-use Rattle.inode_machine.specs.Descriptors.{checked_reply, close_on, dup_on, joined_on, read_on, read_reply, stat_on, stat_reply}
-use Rattle.inode_machine.specs.Descriptors.{write_from, write_piece, write_program, write_reply, wrote_on}
-use Rattle.inode_machine.specs.Inodes.{Face, OfDirectory, OfFile, Sort, face_or, is_directory_face, is_directory_sort, is_live_face}
-use Rattle.inode_machine.specs.Inodes.{open_refusal}
-use Rattle.inode_machine.specs.Moving.{chdir_at, chdir_program, inherit_end, lend_from, lend_on}
-use Rattle.inode_machine.specs.Naming.{bump_refused, clear_name, in_parent, link_at, link_found, link_in, link_name, link_program}
-use Rattle.inode_machine.specs.Naming.{link_raise, lower, mkdir_in, mkdir_on, mkdir_other, mkdir_refused, mkdir_with, name_directory}
-use Rattle.inode_machine.specs.Naming.{named_on, or_missing, unlink_child, unlink_dots, unlink_found, unlink_in, unlink_named}
-use Rattle.inode_machine.specs.Naming.{unlink_other}
-use Rattle.inode_machine.specs.Opening.{create_found, create_in, empties, entered_file, file_for, installed_on, installs, make_on}
-use Rattle.inode_machine.specs.Opening.{make_other, make_with, open_at, open_end, open_face, open_made, open_new, open_old, opened_reply}
-use Rattle.inode_machine.specs.Opening.{take_descriptor, truncates, unmake}
-use Rattle.inode_machine.specs.Parts.{NoMemory, NotThere, P, Stop, done, drop, failed, free_all, full, give_up, leave_directory, own_step}
-use Rattle.inode_machine.specs.Parts.{say, see_parent, start, start_on, stopped, tail, walk, walk_parent, walk_step, with_last}
-use Rattle.inode_machine.specs.Programs.{program}
 use Rattle.inode_machine.specs.World as above
-use Rattle.inode_machine.specs.World.{Answer, JoinResult, Joined, Lent, LoanResult, LockResult, LocksIt, Moved, New, NotJoined, NotLocked}
-use Rattle.inode_machine.specs.World.{Op, Refused, Short, Whole, Wrote}
-use Rattle.inode_machine.specs.World.Op.{Claim, Double, Empty, Enter, Fill, Forget, Free, Give, Install, Join, Leave, Release, Settle}
-use Rattle.inode_machine.specs.World.Op.{Store, Up, UpStart, WriteFile}
-use Rattle.inode_machine.specs.World.Mark.{Frees}
-use Rattle.run_laws.specs.Searches.{NameFits}
-use Rattle.run_laws.specs.Wanted.{wanted}
+use Rattle.inode_machine.specs.World.{Op}
 use Rattle.run_laws.proofs.Running.{none_claimed, some_answer}
 use Rattle.run_laws.proofs.Names.{AllShort, Short14, elements_short}
 

@@ -1,26 +1,7 @@
 -- The calls on whole inodes are right, with the history that is their own operations.
-use Rattle.std.proofs.Common.{◌≡◌, ◌≢◌, ℕ, Option, List, [], ◌∷◌, ◌++◌, refl, sym, ◌∙◌, ap, subst, inl, inr}
-use Rattle.std.proofs.lemmas.Bool.{ne_eqb}
-use Rattle.plain_tree.specs.declared.answer.Full.{Full}
-use Rattle.plain_tree.specs.declared.answer.Reply.{Reply}
-use Rattle.plain_tree.specs.declared.call.Call.{Call}
-use Rattle.atomic_programs.specs.Prog.{Ret, Do, Did, Waits, Ran, Stops}
-use Rattle.atomic_programs.specs.Logic.{P, own, onto, oldest_first, placed_with, Good, Wp, Laws}
-use Rattle.atomic_programs.specs.Calls.{Begun, Ends, Lawful}
-use Rattle.atomic_programs.proofs.Operations.{onto_rest, own_one}
-use Rattle.atomic_programs.proofs.Sound.{Wp-weaker}
-use Rattle.tree_laws.specs.Moves.{Step as MoveStep}
-use Rattle.inode_machine.specs.Exec.{exec}
-use Rattle.inode_machine.specs.Marks.{go, marked, places, with_mark}
-use Rattle.inode_machine.specs.Programs.{limit, program}
-use Rattle.inode_machine.specs.Rules.{Honest, Idle, Inv, May, MayWait, Others, machine, more}
-use Rattle.inode_machine.specs.World.{Answer, Mark, Op, Outside, World}
-use Rattle.inode_machine.proofs.Calls.{laws}
+use Rattle.run_laws.proofs.Vocabulary.{◌≡◌, ◌≢◌, ℕ, Option, List, [], ◌∷◌, ◌++◌, refl, sym, ◌∙◌, ap, subst, inl, inr, ne_eqb, Full, Reply, Call, Ret, Do, Did, Waits, Ran, Stops, PartOf as P, own, onto, oldest_first, placed_with, Good, Wp, Laws, Begun, Ends, Lawful, onto_rest, own_one, Wp-weaker, MoveStep, exec, go, marked, places, with_mark, limit, program, Honest, Idle, Inv, May, MayWait, Others, machine, more, Answer, Mark, laws, served_calls, served_lawful, keeps, IsRunOf, IsRunOfCall, Operation, inode_calls, operations, told_by, unreserved, whole_inodes}
+use Rattle.inode_machine.specs.World.{Op, Outside, World}
 use Rattle.inodes_on_blocks.specs.Lowering.{Keeps}
-use Rattle.calls_on_blocks.specs.Theory.{served_calls}
-use Rattle.calls_on_blocks.proofs.Lawful.{served_lawful}
-use Rattle.calls_on_blocks.proofs.Operations.{keeps}
-use Rattle.run_laws.specs.WholeInodes.{IsRunOf, IsRunOfCall, Operation, inode_calls, operations, told_by, unreserved, whole_inodes}
 use Rattle.run_laws.proofs.Blamed.{IsBlamed, begun_wanted, blamed_on, ends_wanted, some_run}
 use Rattle.run_laws.proofs.Reserved.{start_same}
 use Rattle.run_laws.proofs.Running.{never_stops}

@@ -1,34 +1,7 @@
 -- Runs of a mounted world are runs of the machine of whole inodes.
-use Rattle.std.proofs.Common.{inl, inr, Option, Some, None, ◌≡◌, ℕ, List, [], ◌∷◌, refl, sym, ◌∙◌, ap, subst}
-use Rattle.fs_layout.specs.declared.superblock.Super.{Super}
-use Rattle.fs_layout.specs.Recovered.{sizes_of}
-use Rattle.plain_tree.specs.declared.call.Call.{Call}
-use Rattle.atomic_programs.specs.Calls.{Theory, Event as EventOf, State, fresh, outcomes, run}
-use Rattle.atomic_programs.specs.Explained.{history}
-use Rattle.atomic_programs.specs.Plain.{all_by_kind, plain_outcomes}
-use Rattle.atomic_programs.proofs.Erased.{erase-outcomes}
-use Rattle.fs_machine.specs.LogPart.{Outside}
-use Rattle.calls_on_blocks.specs.History.{first}
-use Rattle.calls_on_blocks.specs.Theory.{block_calls, block_code}
-use Rattle.calls_on_blocks.proofs.Lawful.{is_code}
+use Rattle.run_laws.proofs.Vocabulary.{inl, inr, Option, Some, None, ◌≡◌, ℕ, List, [], ◌∷◌, refl, sym, ◌∙◌, ap, subst, Super, sizes_of, Call, Theory, EventOf, State, fresh, outcomes, run, history, all_by_kind, plain_outcomes, erase-outcomes, Outside, first, block_calls, block_code, is_code, Event, HartsOf, Rests, AllAnswer, IsHistory, all_shown, outcomes_of, trace_in, WorldOf, mountable, rests_erased, BeginsRun, RefinesWholeInodes, operations_of, IsRun, RunsTo, WorldsRefineWholeInodes, All, All-cons, All-nil, Reply, TracedCall, Shown, trace_of, In, all_honest, IsRunOfCall, lowered_inode_calls}
 use Rattle.hart_core.specs.declared.events.Came.{Came}
-use Rattle.hart_core.specs.declared.events.Event.{Event}
-use Rattle.hart_core.specs.Harts.{HartsOf}
-use Rattle.hart_core.specs.Mounting.{Rests}
-use Rattle.hart_core.specs.Runs.{AllAnswer, IsHistory, all_shown, outcomes_of, trace_in}
-use Rattle.hart_core.specs.Worlds.{WorldOf}
-use Rattle.hart_core.proofs.Resting.{mountable, rests_erased}
-use Rattle.run_laws.specs.Laws.{BeginsRun, RefinesWholeInodes, operations_of}
-use Rattle.run_laws.specs.Worlds.{IsRun, RunsTo, WorldsRefineWholeInodes}
 use Rattle.run_laws.proofs.Refined.{runs_refine}
-use Rattle.std.specs.List.{All}
-use Rattle.std.proofs.lemmas.List.Elements.{All-cons, All-nil}
-use Rattle.plain_tree.specs.declared.answer.Reply.{Reply}
-use Rattle.plain_tree.specs.declared.trace.TracedCall.{TracedCall}
-use Rattle.plain_tree.specs.Explains.{Shown, trace_of}
-use Rattle.atomic_programs.specs.Explained.{In}
-use Rattle.hart_core.proofs.Histories.{all_honest}
-use Rattle.run_laws.specs.WholeInodes.{IsRunOfCall, lowered_inode_calls}
 use Rattle.run_laws.proofs.Shown.{shown_same}
 use Rattle.run_laws.proofs.Traced.{Matched, Matches, all_shown_by, traced_matches}
 

@@ -1,22 +1,7 @@
 -- What write asks for fits.
-use Rattle.std.proofs.Common.{◌≡◌, ◌<◌, ◌≤◌, ℕ, zero, suc, ◌+◌, ◌-◌, ◌*◌, ◌/◌, ◌==◌, if◌then◌else◌, refl, nat_lt, Bool, true, false, List, [], ◌∷◌, drop, length, arith}
-use Rattle.std.proofs.lemmas.Bool.Decides.{nat_tests}
-use Rattle.std.proofs.lemmas.List.{length-take, length-drop}
-use Rattle.std.proofs.Math.Nat.{le-div_iff_mul-le}
-use Rattle.fs_layout.specs.Bytes.{IsBytes}
-use Rattle.plain_tree.specs.declared.answer.Full.TheVariants.{Blocks}
-use Rattle.plain_tree.specs.declared.answer.Reply.{Reply}
+use Rattle.run_laws.proofs.Vocabulary.{◌≡◌, ◌<◌, ◌≤◌, ℕ, zero, suc, ◌+◌, ◌-◌, ◌*◌, ◌/◌, ◌==◌, if◌then◌else◌, refl, nat_lt, Bool, true, false, List, [], ◌∷◌, length, arith, nat_tests, length-take, length-drop, le-div_iff_mul-le, IsBytes, Blocks, Reply, piece, piece_count, piece_len, and_true, eq_is, Do, unmarked, joined_on, write_from, write_piece, write_program, write_reply, wrote_on, P, failed, full, say, are_bytes, JoinResult, NotJoined, Joined, Wrote, Whole, Refused, Short, Join, drop_bytes, take_bytes}
+use Rattle.std.proofs.Common.{drop}
 use Rattle.plain_tree.specs.declared.call.Call.TheVariants as calls
-use Rattle.plain_tree.specs.Calls.{piece, piece_count}
-use Rattle.plain_tree.specs.Widths.{piece_len}
-use Rattle.tree_laws.proofs.Maps.{and_true, eq_is}
-use Rattle.atomic_programs.specs.Prog.{Do, unmarked}
-use Rattle.inode_machine.specs.Descriptors.{joined_on, write_from, write_piece, write_program, write_reply, wrote_on}
-use Rattle.inode_machine.specs.Parts.{P, failed, full, say}
-use Rattle.inode_machine.specs.Theory.{are_bytes}
-use Rattle.inode_machine.specs.World.{JoinResult, NotJoined, Joined, Wrote, Whole, Refused, Short}
-use Rattle.inode_machine.specs.World.Op.{Join}
-use Rattle.inodes_on_blocks.proofs.Records.{drop_bytes, take_bytes}
 use Rattle.run_laws.proofs.Fits.{AllFitUpTo}
 use Rattle.run_laws.proofs.Telling.{join_tells, piece_tells}
 

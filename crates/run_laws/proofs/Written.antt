@@ -1,22 +1,7 @@
 -- What a write is told to have written it has written.
-use Rattle.std.proofs.Common.{◌≡◌, ◌<◌, ℕ, Bool, true, false, nat_lt, if◌then◌else◌, List, [], ◌∷◌, length, take, Option, Some, None}
-use Rattle.std.proofs.Common.{refl, sym, ◌∙◌, ap, subst}
-use Rattle.plain_tree.specs.declared.answer.Cause.{Cause}
-use Rattle.plain_tree.specs.declared.answer.Cause.TheVariants.{BadDescriptor}
-use Rattle.plain_tree.specs.declared.node.Node.{Node}
-use Rattle.plain_tree.specs.Steps.{node_or, write_kind}
-use Rattle.plain_tree.specs.Tree.{put}
-use Rattle.plain_tree.specs.Widths.{descriptor_count}
-use Rattle.tree_laws.proofs.Maps.{put_same}
-use Rattle.atomic_programs.specs.Joined.{ran_to}
-use Rattle.atomic_programs.specs.Prog.{Did, Ran}
-use Rattle.inode_machine.specs.Exec.{changed_record, entry_at, entry_moved, entry_of, slot_at, unlocked}
-use Rattle.inode_machine.specs.Exec.{with_bytes, with_offset, write_at}
-use Rattle.inode_machine.specs.Exec.{write_if, wrote_in}
-use Rattle.inode_machine.specs.Marks.{with_mark}
-use Rattle.inode_machine.specs.Rules.{HonestPiece, Writes}
-use Rattle.inode_machine.specs.World.{Entry, Mark, Outside, Picks, Refused, Room, RoomFor, Short, Whole, World, Wrote as WriteResult}
-use Rattle.run_laws.specs.Changes.{Change, HasWritten, ShortWritesAreShort, WritesAreMade, Wrote, by_write}
+use Rattle.run_laws.proofs.Vocabulary.{◌≡◌, ◌<◌, ℕ, Bool, true, false, nat_lt, if◌then◌else◌, List, [], ◌∷◌, length, take, Option, Some, None, refl, sym, ◌∙◌, ap, subst, Cause, BadDescriptor, Node, node_or, write_kind, put, descriptor_count, put_same, ran_to, Did, Ran, changed_record, entry_at, entry_moved, entry_of, slot_at, unlocked, with_bytes, with_offset, write_at, write_if, wrote_in, with_mark, HonestPiece, Writes, Entry, Mark, Picks, Refused, Room, RoomFor, Short, Whole, Wrote as WriteResult, Change, HasWritten, ShortWritesAreShort, WritesAreMade, by_write}
+use Rattle.inode_machine.specs.World.{Outside, World}
+use Rattle.run_laws.specs.Changes.{Wrote}
 use Rattle.run_laws.proofs.Untold.{Kept, answer_or, kept_of, marked_kept}
 
 abbrev entry_in : Kept → ℕ → ℕ → Option Entry

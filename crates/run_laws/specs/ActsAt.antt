@@ -1,14 +1,9 @@
 -- At which of its program's steps on the blocks an operation on whole inodes acts.
 use Rattle.std.specs.Prelude.{◌≡◌, ◌⊎◌, true, Option, None, is_some}
-use Rattle.fs_layout.specs.declared.superblock.Super.{Super}
-use Rattle.atomic_programs.specs.Joined.{Handover}
-use Rattle.atomic_programs.specs.Prog.{Prog, Ret, Do}
+use Rattle.run_laws.specs.Vocabulary.{Super, Handover, Prog, Ret, Do, Claim, LockFile, LockOpen, StatFile, Take, Carry, HasInodes, handlers}
 use Rattle.inode_machine.specs.World as above
-use Rattle.inode_machine.specs.World.Op.{Claim, Leave, LockFile, LockOpen, StatFile, Take}
+use Rattle.inode_machine.specs.World.Op.{Leave}
 use Rattle.inodes_on_blocks.specs.Handlers.{P}
-use Rattle.inodes_on_blocks.specs.Lowering.{Carry}
-use Rattle.inodes_on_blocks.specs.Making.{HasInodes}
-use Rattle.inodes_on_blocks.specs.Programs.{handlers}
 
 -- ---- marks
 

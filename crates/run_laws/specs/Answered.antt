@@ -1,24 +1,8 @@
 -- What a call is answered that there is none of, one of its operations has not found, where there was none.
 use Rattle.std.specs.Prelude.{◌≡◌, ℕ, List, ◌∷◌, ◌++◌, Some}
 use Rattle.std.specs.List.{All}
-use Rattle.fs_layout.specs.declared.superblock.Super.{Super}
-use Rattle.fs_layout.specs.Recovered.{sizes_of}
+use Rattle.run_laws.specs.Vocabulary.{Super, sizes_of, Full, Reply, Call, TracedCall, Theory, EventOf, PlacedStep, State, fresh, run, Chain, Outside, World, first_world, first, Came, Event, HartsOf, IsHistory, IsMounted, trace_in, WorldOf}
 use Rattle.plain_tree.specs.declared.answer.Answer.TheVariants as answers
-use Rattle.plain_tree.specs.declared.answer.Full.{Full}
-use Rattle.plain_tree.specs.declared.answer.Reply.{Reply}
-use Rattle.plain_tree.specs.declared.call.Call.{Call}
-use Rattle.plain_tree.specs.declared.trace.TracedCall.{TracedCall}
-use Rattle.atomic_programs.specs.Calls.{Theory, Event as EventOf, PlacedStep, State, fresh, run}
-use Rattle.atomic_programs.specs.Explained.{Chain}
-use Rattle.fs_machine.specs.LogPart.{Outside}
-use Rattle.inode_machine.specs.World.{World}
-use Rattle.inodes_on_blocks.specs.Mounted.{first_world}
-use Rattle.calls_on_blocks.specs.History.{first}
-use Rattle.hart_core.specs.declared.events.Came.{Came}
-use Rattle.hart_core.specs.declared.events.Event.{Event}
-use Rattle.hart_core.specs.Harts.{HartsOf}
-use Rattle.hart_core.specs.Runs.{IsHistory, IsMounted, trace_in}
-use Rattle.hart_core.specs.Worlds.{WorldOf}
 use Rattle.run_laws.specs.Laws.{operations_made}
 use Rattle.run_laws.specs.Wanted.{wanted}
 use Rattle.run_laws.specs.Wants.{HasNone}

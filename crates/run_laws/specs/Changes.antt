@@ -1,18 +1,7 @@
 -- What an operation on whole inodes changes that outlasts its call: inodes on the disk, and open files.
 use Rattle.std.specs.Prelude.{◌≡◌, ◌≢◌, ◌⊎◌, ◌==◌, ◌<◌, if◌then◌else◌, ℕ, Bool, true, false, List, [], ◌∷◌, ◌++◌, take, length}
 use Rattle.std.specs.Prelude.{Option, Some, None}
-use Rattle.plain_tree.specs.declared.step.Action.TheVariants.{Bump, Unbump}
-use Rattle.plain_tree.specs.Steps.{node_or}
-use Rattle.plain_tree.specs.Tree.{Name, look}
-use Rattle.tree_laws.specs.Moves.{Deed}
-use Rattle.tree_laws.specs.Moves.Move.{Own}
-use Rattle.inode_machine.specs.Exec.{entry_moved, entry_of, with_bytes}
-use Rattle.inode_machine.specs.Inodes.{face_or}
-use Rattle.inode_machine.specs.World.{Answer, ClaimResult, Entry, EntryResult, InPlace, Mark, New, NoBlock, NoInode, NoPlace, NoSlot, Op}
-use Rattle.inode_machine.specs.World.{Refused, Short, Whole, World, Wrote as WriteResult}
-use Rattle.inode_machine.specs.World.Mark.{Frees, Makes}
-use Rattle.inode_machine.specs.World.Op.{Claim, Clear, Double, Empty, Enter, Fill, Free, Install, Lend, LendDirectory, ReadFile, Settle}
-use Rattle.inode_machine.specs.World.Op.{Shut, Slot, Store, Take, WriteFile}
+use Rattle.run_laws.specs.Vocabulary.{Bump, Unbump, node_or, Name, look, Deed, Own, entry_moved, entry_of, with_bytes, face_or, Answer, ClaimResult, Entry, EntryResult, InPlace, Mark, New, NoBlock, NoInode, NoPlace, NoSlot, Op, Refused, Short, Whole, World, Wrote as WriteResult, Frees, Makes, Claim, Clear, Double, Empty, Enter, Fill, Free, Install, Lend, LendDirectory, ReadFile, Settle, Shut, Slot, Store, Take, WriteFile}
 use Rattle.run_laws.specs.WholeInodes.{IsStep, Operation}
 
 -- an inode that was locked, with the count that it had then

@@ -1,28 +1,7 @@
 -- Each operation on whole inodes acts once within its own program on the blocks, with the answer that this program ends with; by that
 -- answer the call goes on.
 use Rattle.std.specs.Prelude.{◌≡◌, ◌⊎◌, ℕ, true, List, [], ◌∷◌, Option, Some, None, is_some}
-use Rattle.fs_layout.specs.declared.superblock.Super.{Super}
-use Rattle.fs_layout.specs.Recovered.{sizes_of}
-use Rattle.plain_tree.specs.declared.answer.Reply.{Reply}
-use Rattle.plain_tree.specs.declared.call.Call.{Call}
-use Rattle.atomic_programs.specs.Calls.{Theory, Event as EventOf, FinishedCall, PlacedStep, Run, State, fresh, outcomes, run}
-use Rattle.atomic_programs.specs.Explained.{In, history, steps_of}
-use Rattle.atomic_programs.specs.Joined.{Handlers, Handover, Lower, joined}
-use Rattle.atomic_programs.specs.Logic.{Machine, OpWithAnswer, P, own}
-use Rattle.atomic_programs.specs.Prog.{Ret, Do}
-use Rattle.fs_machine.specs.LogPart.{Outside}
-use Rattle.inode_machine.specs.Programs.{program}
-use Rattle.inode_machine.specs.World.{Answer, Mark, Op}
-use Rattle.inodes_on_blocks.specs.Lowering.{nothing}
-use Rattle.inodes_on_blocks.specs.Programs.{handlers}
-use Rattle.tree_laws.specs.Moves.{Deed}
-use Rattle.calls_on_blocks.specs.History.{first}
-use Rattle.calls_on_blocks.specs.Layer.{layer}
-use Rattle.hart_core.specs.declared.events.Came.{Came}
-use Rattle.hart_core.specs.declared.events.Event.{Event}
-use Rattle.hart_core.specs.Harts.{HartsOf}
-use Rattle.hart_core.specs.Runs.{IsHistory, IsMounted}
-use Rattle.hart_core.specs.Worlds.{WorldOf}
+use Rattle.run_laws.specs.Vocabulary.{Super, sizes_of, Reply, Call, Theory, EventOf, FinishedCall, PlacedStep, Run, State, fresh, outcomes, run, In, history, steps_of, Handlers, Handover, Lower, joined, Machine, OpWithAnswer, P, own, Ret, Do, Outside, program, Answer, Mark, Op, nothing, handlers, Deed, first, layer, Came, Event, HartsOf, IsHistory, IsMounted, WorldOf}
 use Rattle.run_laws.specs.WholeInodes.{Operation, lowered_inode_calls, whole_inodes}
 
 -- ---- what is noted

@@ -1,24 +1,7 @@
 -- What a hart without a call has: its open files and its current directory, and nothing that a call has begun.
 use Rattle.std.specs.Prelude.{◌≡◌, ◌≢◌, ℕ, ◌+◌, ◌<◌, ◌≤◌, ◌==◌, false, List, Some, None, count_by, get_or, slice_get}
-use Rattle.plain_tree.specs.declared.call.Call.{Call}
-use Rattle.plain_tree.specs.Widths.{hart_count}
-use Rattle.tree_laws.specs.WellFormed.{one_if, sum_below}
-use Rattle.atomic_programs.specs.Calls.{Event as EventOf, fresh, run}
-use Rattle.fs_machine.specs.declared.files.FilePlace.TheVariants.{Taken}
-use Rattle.fs_machine.specs.Tables.{TablesState, is_file_of, owed, references_of}
-use Rattle.fs_machine.specs.LogPart.{Outside}
+use Rattle.run_laws.specs.Vocabulary.{Call, hart_count, one_if, sum_below, EventOf, fresh, run, Taken, TablesState, is_file_of, owed, references_of, Outside, reference_limit, World, Shows, loaded, first, block_calls, Came, Event, AreIdle, HartsOf, shared_of, ShowsImage, IsHistory, IsMounted, WorldOf}
 use Rattle.fs_machine.specs.Steps.{State}
-use Rattle.inode_machine.specs.Rules.{reference_limit}
-use Rattle.inode_machine.specs.World.{World}
-use Rattle.inodes_on_blocks.specs.ShownTables.{Shows, loaded}
-use Rattle.calls_on_blocks.specs.History.{first}
-use Rattle.calls_on_blocks.specs.Theory.{block_calls}
-use Rattle.hart_core.specs.declared.events.Came.{Came}
-use Rattle.hart_core.specs.declared.events.Event.{Event}
-use Rattle.hart_core.specs.Harts.{AreIdle, HartsOf, shared_of}
-use Rattle.hart_core.specs.Promised.{ShowsImage}
-use Rattle.hart_core.specs.Runs.{IsHistory, IsMounted}
-use Rattle.hart_core.specs.Worlds.{WorldOf}
 
 -- ---- one hart
 

@@ -1,18 +1,8 @@
 -- Every run of the calls on blocks is one of the machine of whole inodes, with the same replies.
 use Rattle.std.specs.Prelude.{◌≡◌, ◌<◌, ◌≤◌, ℕ, false, List, ◌++◌, Some}
-use Rattle.fs_layout.specs.declared.superblock.Super.{Super}
-use Rattle.fs_layout.specs.Recovered.{sizes_of}
-use Rattle.plain_tree.specs.declared.answer.Reply.{Reply}
-use Rattle.plain_tree.specs.declared.call.Call.{Call}
-use Rattle.atomic_programs.specs.Calls.{Theory, AllHonest, Event as EventOf, FinishedCall, PlacedStep, Run, State, fresh, outcomes, run}
-use Rattle.atomic_programs.specs.Explained.{Chain, In, IsOfCall, IsRising, history, steps_of}
-use Rattle.atomic_programs.specs.Joined.{Both}
-use Rattle.fs_machine.specs.LogPart.{Outside}
+use Rattle.run_laws.specs.Vocabulary.{Super, sizes_of, Reply, Call, Theory, AllHonest, EventOf, FinishedCall, PlacedStep, Run, State, fresh, outcomes, run, Chain, In, IsOfCall, IsRising, history, steps_of, Both, Outside, IsMountable, first_world, first, layer, block_calls}
 use Rattle.inode_machine.specs.World as above
-use Rattle.inodes_on_blocks.specs.Mounted.{IsMountable, first_world}
-use Rattle.calls_on_blocks.specs.History.{first}
-use Rattle.calls_on_blocks.specs.Layer.{World, layer}
-use Rattle.calls_on_blocks.specs.Theory.{block_calls}
+use Rattle.calls_on_blocks.specs.Layer.{World}
 use Rattle.run_laws.specs.WholeInodes.{IsRunOfCall, Operation, lowered_inode_calls, unreserved}
 
 -- these operations begin a run of the call's program

@@ -1,3 +1,4 @@
+pub mod Vocabulary
 pub mod Idle
 pub mod Wanted
 pub mod WholeInodes

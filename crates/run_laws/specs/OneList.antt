@@ -1,23 +1,7 @@
 -- A run has one list of tree steps, and it only grows: each beginning of the run agrees with it.
 use Rattle.std.specs.Prelude.{◌≡◌, ◌⊎◌, ℕ, ◌≤◌, List, ◌++◌, length, take}
-use Rattle.image_tree.specs.Trees.{tree_in}
-use Rattle.plain_tree.specs.declared.call.Call.{Call}
-use Rattle.plain_tree.specs.declared.trace.Placed.{Placed}
-use Rattle.plain_tree.specs.Explains.{Chain, Explains, IsNamedPart}
-use Rattle.plain_tree.specs.Tree.{Tree, tree_of}
-use Rattle.plain_tree.specs.TreeData.{TreeData}
-use Rattle.group_log.specs.Stories.{IsMarked}
-use Rattle.tree_laws.specs.MoveLaws.{before}
-use Rattle.atomic_programs.specs.Calls.{Event as EventOf}
-use Rattle.fs_machine.specs.LogPart.{Outside}
-use Rattle.inode_machine.specs.Kept.{history_of}
-use Rattle.calls_on_blocks.specs.History.{block_moves, first}
-use Rattle.hart_core.specs.declared.events.Came.{Came}
-use Rattle.hart_core.specs.declared.events.Event.{Event}
-use Rattle.hart_core.specs.Harts.{HartsOf}
-use Rattle.hart_core.specs.Runs.{FoundRoom, IsHistory, IsMounted, NoneClimbs, OneHart, trace_in}
-use Rattle.hart_core.specs.Stops.{after_first, marks_of}
-use Rattle.hart_core.specs.Worlds.{WorldOf}
+use Rattle.run_laws.specs.Vocabulary.{tree_in, Call, Placed, Explains, IsNamedPart, Tree, tree_of, TreeData, IsMarked, before, EventOf, Outside, history_of, block_moves, first, Came, Event, HartsOf, FoundRoom, IsHistory, IsMounted, NoneClimbs, OneHart, trace_in, after_first, marks_of, WorldOf}
+use Rattle.plain_tree.specs.Explains.{Chain}
 
 -- the list has these entries first
 abbrev pub IsBeginningOf : List Placed → List Placed → Type 0

@@ -1,20 +1,6 @@
 -- Where a run found no room: what the answers of its operations say.
 use Rattle.std.specs.Prelude.{◌≡◌, ◌↔◌, ℕ, Bool, true, false, not, ◌||◌, List, Option, Some, None}
-use Rattle.fs_layout.specs.Recovered.{sizes_of}
-use Rattle.plain_tree.specs.declared.call.Call.{Call}
-use Rattle.atomic_programs.specs.Calls.{Theory, Event as EventOf, PlacedStep, fresh, run}
-use Rattle.atomic_programs.specs.Explained.{In}
-use Rattle.fs_machine.specs.LogPart.{Outside}
-use Rattle.inode_machine.specs.Exec.{is_nothing}
-use Rattle.inode_machine.specs.Marks.{roomy}
-use Rattle.inode_machine.specs.World.{Answer, ClaimResult, EntryResult, InPlace, New, NoBlock, NoInode, NoPlace, NoSlot, Op, Refused, Short, Whole, Wrote}
-use Rattle.inode_machine.specs.World.Op.{Claim, Double, Enter, Fill, Install, Slot, Up, UpStart, WriteFile}
-use Rattle.calls_on_blocks.specs.History.{first}
-use Rattle.hart_core.specs.declared.events.Came.{Came}
-use Rattle.hart_core.specs.declared.events.Event.{Event}
-use Rattle.hart_core.specs.Harts.{HartsOf}
-use Rattle.hart_core.specs.Runs.{FoundRoom, IsHistory, IsMounted}
-use Rattle.hart_core.specs.Worlds.{WorldOf}
+use Rattle.run_laws.specs.Vocabulary.{sizes_of, Call, Theory, EventOf, PlacedStep, fresh, run, In, Outside, is_nothing, roomy, Answer, ClaimResult, EntryResult, InPlace, New, NoBlock, NoInode, NoPlace, NoSlot, Op, Refused, Short, Whole, Wrote, Claim, Double, Enter, Fill, Install, Slot, Up, UpStart, WriteFile, first, Came, Event, HartsOf, FoundRoom, IsHistory, IsMounted, WorldOf}
 use Rattle.run_laws.specs.Laws.{operations_made}
 use Rattle.run_laws.specs.WholeInodes.{Operation, lowered_inode_calls}
 

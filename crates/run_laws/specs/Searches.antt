@@ -1,23 +1,8 @@
 -- The search for a block or for an inode ends without one only where it has looked everywhere: whatever its steps are answered.
 use Rattle.std.specs.Prelude.{◌≡◌, ◌⊎◌, ℕ, ◌<◌, ◌≤◌, true, false, List, [], ◌∷◌, length, Option, Some, IsSome}
-use Rattle.fs_layout.specs.declared.superblock.Super.{Super}
-use Rattle.fs_layout.specs.Bits.{bit_of}
-use Rattle.fs_layout.specs.Inode.{dinode_at}
-use Rattle.plain_tree.specs.declared.answer.Full.{Full}
-use Rattle.plain_tree.specs.declared.answer.Full.TheVariants.{Blocks, Descriptors, Directory, DiskInodes, MemInodes, OpenFiles}
-use Rattle.plain_tree.specs.Widths.{name_len}
-use Rattle.atomic_programs.specs.Explained.{In}
-use Rattle.atomic_programs.specs.Joined.{Handover}
-use Rattle.atomic_programs.specs.Prog.{Prog, Ret, Do, Ran}
-use Rattle.fs_machine.specs.Tables.{place_of as place_in_memory}
-use Rattle.fs_machine.specs.LogPart.{Outside}
-use Rattle.fs_machine.specs.Steps.{Answer, Claim, Get, NoInode, Op, Read, State, exec}
-use Rattle.inode_table.specs.NewInodes.{is_zero}
-use Rattle.inode_table.specs.Programs.{inode_block, place_of}
+use Rattle.run_laws.specs.Vocabulary.{Super, bit_of, dinode_at, Full, Blocks, Descriptors, Directory, DiskInodes, MemInodes, OpenFiles, name_len, In, Handover, Prog, Ret, Do, Ran, place_in_memory, Outside, AnswerBelow as Answer, Get, HasNoInode as NoInode, Read, exec, is_zero, inode_block, place_of, Enter, Carry, handlers}
+use Rattle.fs_machine.specs.Steps.{Claim, Op, State}
 use Rattle.inode_machine.specs.World as above
-use Rattle.inode_machine.specs.World.Op.{Enter}
-use Rattle.inodes_on_blocks.specs.Lowering.{Carry}
-use Rattle.inodes_on_blocks.specs.Programs.{handlers}
 use Rattle.run_laws.specs.Wanted.{wanted}
 
 -- an operation on the blocks with its answer

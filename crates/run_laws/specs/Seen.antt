@@ -1,30 +1,11 @@
 -- A call that ends for want of a block or of an inode has looked everywhere, in each run.
 use Rattle.std.specs.Prelude.{◌≡◌, ◌⊎◌, ℕ, ◌<◌, ◌≤◌, Bool, true, false, List, [], ◌∷◌, ◌++◌, Option, Some, None, IsSome}
-use Rattle.fs_layout.specs.declared.superblock.Super.{Super}
-use Rattle.fs_layout.specs.Inode.{dinode_at}
+use Rattle.run_laws.specs.Vocabulary.{Super, dinode_at, Blocks, DiskInodes, Call, Theory, EventOf, FinishedCall, Run, Start, State, Step, fresh, next, run, In, Both, P, Ret, Do, Did, Ran, Stops, Waits, place_in_memory, Outside, AnswerBelow as Answer, HasNoInode as NoInode, is_zero, inode_block, place_of, first, block_calls, Came, Event, HartsOf, IsHistory, IsMounted, WorldOf}
 use Rattle.plain_tree.specs.declared.answer.Answer.TheVariants as answers
-use Rattle.plain_tree.specs.declared.answer.Full.TheVariants.{Blocks, DiskInodes}
-use Rattle.plain_tree.specs.declared.call.Call.{Call}
-use Rattle.atomic_programs.specs.Calls.{Theory, Event as EventOf, FinishedCall, Run, Start, State, Step, fresh, next, run}
-use Rattle.atomic_programs.specs.Explained.{In}
-use Rattle.atomic_programs.specs.Joined.{Both}
-use Rattle.atomic_programs.specs.Logic.{P}
-use Rattle.atomic_programs.specs.Prog.{Ret, Do, Did, Ran, Stops, Waits}
-use Rattle.fs_machine.specs.Tables.{place_of as place_in_memory}
-use Rattle.fs_machine.specs.LogPart.{Outside}
 use Rattle.fs_machine.specs.Steps as steps
-use Rattle.fs_machine.specs.Steps.{Answer, Claim, NoInode, Op}
-use Rattle.inode_table.specs.NewInodes.{is_zero}
-use Rattle.inode_table.specs.Programs.{inode_block, place_of}
+use Rattle.fs_machine.specs.Steps.{Claim, Op}
 use Rattle.inode_machine.specs.World as above
-use Rattle.calls_on_blocks.specs.History.{first}
 use Rattle.calls_on_blocks.specs.Layer.{World}
-use Rattle.calls_on_blocks.specs.Theory.{block_calls}
-use Rattle.hart_core.specs.declared.events.Came.{Came}
-use Rattle.hart_core.specs.declared.events.Event.{Event}
-use Rattle.hart_core.specs.Harts.{HartsOf}
-use Rattle.hart_core.specs.Runs.{IsHistory, IsMounted}
-use Rattle.hart_core.specs.Worlds.{WorldOf}
 use Rattle.run_laws.specs.Searches.{AnsweredStep, HasRead, SawNoBlock}
 
 -- ---- the steps of a run

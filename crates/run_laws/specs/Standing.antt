@@ -1,24 +1,8 @@
 -- What stands after a call that found no room.
 use Rattle.std.specs.Prelude.{◌≡◌, ◌⊎◌, ℕ, ◌+◌, ◌-◌, true, List, [], ◌∷◌, ◌++◌, Some}
 use Rattle.std.specs.List.{All}
-use Rattle.fs_layout.specs.Recovered.{sizes_of}
+use Rattle.run_laws.specs.Vocabulary.{sizes_of, Full, Blocks, Descriptors, Directory, DiskInodes, MemInodes, OpenFiles, Reply, Call, Chdir, Dup, Link, Mkdir, Open, Unlink, Write, TracedCall, creates, Name, EventOf, fresh, run, Outside, first, Came, Event, HartsOf, IsHistory, IsMounted, trace_in, WorldOf}
 use Rattle.plain_tree.specs.declared.answer.Answer.TheVariants as answers
-use Rattle.plain_tree.specs.declared.answer.Full.{Full}
-use Rattle.plain_tree.specs.declared.answer.Full.TheVariants.{Blocks, Descriptors, Directory, DiskInodes, MemInodes, OpenFiles}
-use Rattle.plain_tree.specs.declared.answer.Reply.{Reply}
-use Rattle.plain_tree.specs.declared.call.Call.{Call}
-use Rattle.plain_tree.specs.declared.call.Call.TheVariants.{Chdir, Dup, Link, Mkdir, Open, Unlink, Write}
-use Rattle.plain_tree.specs.declared.trace.TracedCall.{TracedCall}
-use Rattle.plain_tree.specs.Steps.{creates}
-use Rattle.plain_tree.specs.Tree.{Name}
-use Rattle.atomic_programs.specs.Calls.{Event as EventOf, fresh, run}
-use Rattle.fs_machine.specs.LogPart.{Outside}
-use Rattle.calls_on_blocks.specs.History.{first}
-use Rattle.hart_core.specs.declared.events.Came.{Came}
-use Rattle.hart_core.specs.declared.events.Event.{Event}
-use Rattle.hart_core.specs.Harts.{HartsOf}
-use Rattle.hart_core.specs.Runs.{IsHistory, IsMounted, trace_in}
-use Rattle.hart_core.specs.Worlds.{WorldOf}
 use Rattle.run_laws.specs.Changes.{Change, Claimed, Counted, Entered, Filled, GaveBack, Lowered, Raised, TookPlace, Wrote, changes_of}
 use Rattle.run_laws.specs.Laws.{operations_of}
 use Rattle.run_laws.specs.WholeInodes.{lowered_inode_calls}

@@ -1,18 +1,6 @@
 -- No call takes more than a million steps.
 use Rattle.std.specs.Prelude.{ℕ, ◌≤◌, List}
-use Rattle.fs_layout.specs.Recovered.{sizes_of}
-use Rattle.plain_tree.specs.declared.call.Call.{Call}
-use Rattle.atomic_programs.specs.Calls.{Event as EventOf, AllHonest, fresh, outcomes}
-use Rattle.fs_machine.specs.LogPart.{Outside}
-use Rattle.inode_machine.specs.Programs.{limit}
-use Rattle.inodes_on_blocks.specs.Mounted.{IsMountable}
-use Rattle.calls_on_blocks.specs.History.{first}
-use Rattle.calls_on_blocks.specs.Theory.{block_calls}
-use Rattle.hart_core.specs.declared.events.Came.{Came}
-use Rattle.hart_core.specs.declared.events.Event.{Event}
-use Rattle.hart_core.specs.Harts.{HartsOf}
-use Rattle.hart_core.specs.Runs.{events_of, outcomes_of, HasHistory, IsMounted}
-use Rattle.hart_core.specs.Worlds.{WorldOf}
+use Rattle.run_laws.specs.Vocabulary.{sizes_of, Call, EventOf, AllHonest, fresh, outcomes, Outside, limit, IsMountable, first, block_calls, Came, Event, HartsOf, events_of, outcomes_of, HasHistory, IsMounted, WorldOf}
 use Rattle.run_laws.specs.Steps.{OfEachCall}
 
 abbrev pub most_steps : ℕ

@@ -1,6 +1,6 @@
 -- How many steps of each call ran, as events and their outcomes show it.
 use Rattle.std.specs.Prelude.{ℕ, suc, nat_eq, if◌then◌else◌, List, [], ◌∷◌}
-use Rattle.atomic_programs.specs.Calls.{Event, Start, hart_of, Outcome, Started, Refused, WasIdle, DidWait, DidRun, DidEnd, DidStop, WasStopped}
+use Rattle.run_laws.specs.Vocabulary.{EventOf as Event, Start, hart_of, Outcome, Started, WasRefused as Refused, WasIdle, DidWait, DidRun, DidEnd, DidStop, WasStopped}
 
 -- What an event of the hart adds, where so many of its steps ran later in the call: one, where a step ran; the step that gave the reply
 -- was the last. No other counts:

@@ -1,19 +1,7 @@
 -- A transaction records at most ten different blocks.
 use Rattle.std.specs.Prelude.{◌≡◌, ◌↔◌, ℕ, ◌≤◌, ◌==◌, if◌then◌else◌, List, [], ◌∷◌, ◌++◌, length, Option, Some, None, IfSome, IsSome}
-use Rattle.std.specs.Option.{option_map}
-use Rattle.plain_tree.specs.declared.call.Call.{Call}
-use Rattle.group_log.specs.declared.limits.TheConstants.{BLOCKS_OF_A_TRANSACTION}
-use Rattle.group_log.specs.Group.{IsMember, with_block}
-use Rattle.atomic_programs.specs.Calls.{Event as EventOf, fresh}
-use Rattle.fs_machine.specs.LogPart.{Outside}
-use Rattle.fs_machine.specs.Steps.{Answer, Join, JoinResult, JoinToWrite, Joins, Leave, Op, Put, RefusesJoin}
-use Rattle.calls_on_blocks.specs.History.{first}
-use Rattle.calls_on_blocks.specs.Theory.{block_calls}
-use Rattle.hart_core.specs.declared.events.Came.{Came}
-use Rattle.hart_core.specs.declared.events.Event.{Event}
-use Rattle.hart_core.specs.Harts.{HartsOf}
-use Rattle.hart_core.specs.Runs.{IsHistory, IsMounted}
-use Rattle.hart_core.specs.Worlds.{WorldOf}
+use Rattle.run_laws.specs.Vocabulary.{option_map, Call, BLOCKS_OF_A_TRANSACTION, IsMember, with_block, EventOf, fresh, Outside, AnswerBelow as Answer, Join, JoinResult, JoinToWrite, Joins, Leave, Put, RefusesJoin, first, block_calls, Came, Event, HartsOf, IsHistory, IsMounted, WorldOf}
+use Rattle.fs_machine.specs.Steps.{Op}
 use Rattle.run_laws.specs.Seen.{MadeStep, steps_made}
 
 -- ---- what a transaction has recorded

@@ -1,26 +1,7 @@
 -- No room is found only where there is none.
 use Rattle.std.specs.Prelude.{◌≡◌, ◌⊎◌, ℕ, ◌<◌, ◌≤◌, List, [], ◌∷◌, length, Option, Some, IsSome}
 use Rattle.std.specs.List.{All}
-use Rattle.fs_layout.specs.declared.superblock.Super.{Super}
-use Rattle.fs_layout.specs.Recovered.{sizes_of}
-use Rattle.plain_tree.specs.declared.answer.Full.{Full}
-use Rattle.plain_tree.specs.declared.answer.Full.TheVariants.{Blocks, Descriptors, Directory, DiskInodes, MemInodes, OpenFiles}
-use Rattle.plain_tree.specs.declared.call.Call.{Call}
-use Rattle.plain_tree.specs.declared.node.Node.{Node}
-use Rattle.plain_tree.specs.Tree.{all_slots}
-use Rattle.plain_tree.specs.Widths.{descriptor_count, hart_count}
-use Rattle.atomic_programs.specs.Calls.{Event as EventOf, PlacedStep, fresh, run}
-use Rattle.fs_machine.specs.LogPart.{Outside}
-use Rattle.inode_machine.specs.Exec.{file_count, place_count, referenced, slot_limit}
-use Rattle.inode_machine.specs.World.{Op, World}
-use Rattle.inode_machine.specs.World.Op.{Enter}
-use Rattle.inodes_on_blocks.specs.Mounted.{first_world}
-use Rattle.calls_on_blocks.specs.History.{first}
-use Rattle.hart_core.specs.declared.events.Came.{Came}
-use Rattle.hart_core.specs.declared.events.Event.{Event}
-use Rattle.hart_core.specs.Harts.{HartsOf}
-use Rattle.hart_core.specs.Runs.{IsHistory, IsMounted}
-use Rattle.hart_core.specs.Worlds.{WorldOf}
+use Rattle.run_laws.specs.Vocabulary.{Super, sizes_of, Full, Blocks, Descriptors, Directory, DiskInodes, MemInodes, OpenFiles, Call, Node, all_slots, descriptor_count, hart_count, EventOf, PlacedStep, fresh, run, Outside, file_count, place_count, referenced, slot_limit, Op, World, Enter, first_world, first, Came, Event, HartsOf, IsHistory, IsMounted, WorldOf}
 use Rattle.run_laws.specs.Laws.{operations_made}
 use Rattle.run_laws.specs.Wanted.{wanted}
 use Rattle.run_laws.specs.WholeInodes.{IsStep, Operation, lowered_inode_calls, unreserved}

@@ -1,28 +1,9 @@
 -- The calls on blocks as calls of the machine of whole inodes: what explains each is the operations on whole inodes that it ran.
 use Rattle.std.specs.Prelude.{◌≡◌, ℕ, nat_lt, if◌then◌else◌, List, [], ◌∷◌, Option, Some, None}
-use Rattle.fs_layout.specs.declared.superblock.Super.{Super}
+use Rattle.run_laws.specs.Vocabulary.{Super, Full, Reply, Call, descriptor_count, Theory, In, Machine, lowered_calls, Ret, Do, Ran, go, made_by, new_id, Above as P, program, Honest, Inv, May, Answer, Desk, Mark, Op, World, Fills, Frees, Makes, Mends, Orphans, Spoils, Deed, Labels, labelled, handlers, layer, begins, served_calls}
 use Rattle.plain_tree.specs.declared.answer.Answer.TheVariants as answers
-use Rattle.plain_tree.specs.declared.answer.Full.{Full}
-use Rattle.plain_tree.specs.declared.answer.Reply.{Reply}
-use Rattle.plain_tree.specs.declared.call.Call.{Call}
-use Rattle.plain_tree.specs.Widths.{descriptor_count}
-use Rattle.atomic_programs.specs.Calls.{Theory}
-use Rattle.atomic_programs.specs.Explained.{In}
-use Rattle.atomic_programs.specs.Logic.{Machine}
-use Rattle.atomic_programs.specs.Lowered.{lowered_calls}
-use Rattle.atomic_programs.specs.Prog.{Ret, Do, Ran}
-use Rattle.inode_machine.specs.Marks.{go, made_by, new_id}
-use Rattle.inode_machine.specs.Parts.{P}
-use Rattle.inode_machine.specs.Programs.{program}
 use Rattle.inode_machine.specs.Rules as rules
-use Rattle.inode_machine.specs.Rules.{Honest, Inv, May}
-use Rattle.inode_machine.specs.World.{Answer, Desk, Mark, Op, Outside, World}
-use Rattle.inode_machine.specs.World.Mark.{Fills, Frees, Makes, Mends, Orphans, Spoils}
-use Rattle.tree_laws.specs.Moves.{Deed}
-use Rattle.inodes_on_blocks.specs.Lowering.{Labels, labelled}
-use Rattle.inodes_on_blocks.specs.Programs.{handlers}
-use Rattle.calls_on_blocks.specs.Layer.{layer}
-use Rattle.calls_on_blocks.specs.Theory.{begins, served_calls}
+use Rattle.inode_machine.specs.World.{Outside}
 use Rattle.run_laws.specs.Wanted.{wanted}
 
 -- ---- the machine of whole inodes

@@ -1,18 +1,7 @@
 -- So it is in each run of a mounted world.
 use Rattle.std.specs.Prelude.{ℕ, List, Option, Some, None}
 use Rattle.std.specs.List.{All}
-use Rattle.fs_layout.specs.Recovered.{sizes_of}
-use Rattle.plain_tree.specs.declared.answer.Reply.{Reply}
-use Rattle.plain_tree.specs.declared.call.Call.{Call}
-use Rattle.plain_tree.specs.declared.trace.TracedCall.{TracedCall}
-use Rattle.atomic_programs.specs.Calls.{Theory, Event as EventOf, fresh, run}
-use Rattle.fs_machine.specs.LogPart.{Outside}
-use Rattle.calls_on_blocks.specs.History.{first}
-use Rattle.hart_core.specs.declared.events.Came.{Came}
-use Rattle.hart_core.specs.declared.events.Event.{Event}
-use Rattle.hart_core.specs.Harts.{HartsOf}
-use Rattle.hart_core.specs.Runs.{IsHistory, IsMounted, trace_in}
-use Rattle.hart_core.specs.Worlds.{WorldOf}
+use Rattle.run_laws.specs.Vocabulary.{sizes_of, Reply, Call, TracedCall, Theory, EventOf, fresh, run, Outside, first, Came, Event, HartsOf, IsHistory, IsMounted, trace_in, WorldOf}
 use Rattle.run_laws.specs.Laws.{BeginsRun, RefinesWholeInodes, operations_of}
 use Rattle.run_laws.specs.WholeInodes.{IsRunOfCall, Operation, lowered_inode_calls}
 

@@ -2,11 +2,10 @@
 use crate::scripts::{disk, is_refused_memory, run};
 use block_device::{Fused, MemoryDisk};
 use console::{ConsoleFault, Session, run_on, run_script, status};
-use script::{Mode, Schedule};
 use hart_core::Stop;
 use image_tree::MountFault;
 use plain_tree::Tree;
-use script::Reason;
+use script::{Mode, Reason, Schedule};
 use std::alloc::{AllocError, Global};
 use std::io;
 use std::test::Fail;

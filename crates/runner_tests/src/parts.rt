@@ -1,7 +1,6 @@
 //! What scripts are read into, and what holds the last events.
-use script::Tail;
 use fs_machine::Kind;
-use script::{CallLine, Command, ScriptFault, parse};
+use script::{CallLine, Command, ScriptFault, Tail, parse};
 use std::alloc::AllocError;
 use std::test::Fail;
 

@@ -1,8 +1,8 @@
 //! Scripts, as the tests run them.
 use block_device::MemoryDisk;
 use console::{ConsoleFault, run_script};
-use script::Mode;
 use mkfs::{MakeRefused, NewFile, make};
+use script::Mode;
 use std::alloc::{AllocError, Global};
 use std::io;
 use std::test::Fail;

@@ -1,3 +1,5 @@
+pub mod Lemmas
+pub mod Vocabulary
 mod Lines
 mod Numbers
 mod Pairs

@@ -1,10 +1,5 @@
 -- A line of more words than a call has says nothing.
-use Rattle.std.proofs.Common.{arith, ◌≡◌, ℕ, ◌<◌, Bool, true, false, List, [], ◌∷◌, length, cond, Option, Some, None, refl, ap}
-use Rattle.std.specs.Str.{bytes_eq}
-use Rattle.std.specs.Prelude.{codes}
-use Rattle.script.specs.Words.{hart_in}
-use Rattle.script.specs.Said.{Call, Run, Start}
-use Rattle.script.specs.Reading.{line_in, call_in, hart_with_call, with_two, with_one}
+use Rattle.script.proofs.Vocabulary.{arith, ◌≡◌, ℕ, ◌<◌, Bool, true, false, List, [], ◌∷◌, length, cond, Option, Some, None, refl, ap, bytes_eq, codes, hart_in, Call, Run, Start, line_in, call_in, hart_with_call, with_two, with_one}
 
 either : {A : Type 0} (b : Bool) (x y : Option A) → x ≡ None → y ≡ None → cond b x y ≡ None
 either true x y p q = p

@@ -1,8 +1,5 @@
 -- A number read digit by digit.
-use Rattle.std.proofs.Common.{◌≡◌, ◌≢◌, ℕ, ◌+◌, ◌<◌, ◌≤◌, List, [], ◌∷◌, length, drop, slice_index_or, Some, refl}
-use Rattle.std.proofs.lemmas.List.{at_drop_more, at_drop_all}
-use Rattle.std.specs.Option.{option_and_then}
-use Rattle.script.specs.Words.{with_digit, value_after, digits_in}
+use Rattle.script.proofs.Vocabulary.{◌≡◌, ◌≢◌, ℕ, ◌+◌, ◌<◌, ◌≤◌, List, [], ◌∷◌, length, drop, slice_index_or, Some, refl, at_drop_more, at_drop_all, option_and_then, with_digit, value_after, digits_in}
 
 pub one_more : (radix v : ℕ) (bs : List ℕ) (i : ℕ) → i < length bs → value_after radix v (drop i bs) ≡ option_and_then (λ w. value_after radix w (drop (i + 1) bs)) (with_digit radix v (slice_index_or bs i 0))
 unfolding value_after

@@ -1,8 +1,5 @@
 -- Bytes read pair by pair of digits.
-use Rattle.std.proofs.Common.{arith, ◌≡◌, ℕ, ◌<◌, min, List, [], ◌∷◌, ◌++◌, length, Option, Some, None, refl, ap, sym, subst}
-use Rattle.std.proofs.lemmas.List.{append_assoc}
-use Rattle.std.specs.Option.{option_and_then}
-use Rattle.script.specs.Words.{byte_of, with_first, pairs_in}
+use Rattle.script.proofs.Vocabulary.{arith, ◌≡◌, ℕ, ◌<◌, min, List, [], ◌∷◌, ◌++◌, length, Option, Some, None, refl, ap, sym, subst, append_assoc, option_and_then, byte_of, with_first, pairs_in}
 
 abbrev pub with_front : List ℕ → Option (List ℕ) → Option (List ℕ)
 with_front front rest = option_and_then (λ bytes. Some (front ++ bytes)) rest

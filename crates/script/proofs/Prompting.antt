@@ -1,13 +1,6 @@
 -- A line that says something in a script is none of those that only a prompt has.
-use Rattle.std.proofs.Common.{◌≡◌, ℕ, Bool, true, false, ◌||◌, List, cond, Option, Some, None, refl, ap, sym, ◌∙◌}
-use Rattle.std.proofs.lemmas.Option.{none-some, same_Some}
-use Rattle.std.proofs.lemmas.Slice.Eq.{bytes_eq-Decides}
-use Rattle.std.specs.Str.{bytes_eq}
-use Rattle.std.specs.Prelude.{codes}
-use Rattle.script.specs.Asking.{Asked, Nothing, Help, State, Quit, Run, asked_in, ends_input}
-use Rattle.script.specs.Said.{Line}
-use Rattle.script.specs.Reading.{is_passed_over, line_in, call_in, said_in, with_one}
-use Rattle.script.specs.Words.{value_after}
+use Rattle.script.proofs.Vocabulary.{◌≡◌, ℕ, Bool, true, false, ◌||◌, List, cond, Option, Some, None, refl, ap, sym, ◌∙◌, none-some, same_Some, bytes_eq-Decides, bytes_eq, codes, Asked, Nothing, Help, State, Quit, asked_in, ends_input, Line, is_passed_over, line_in, call_in, said_in, with_one, value_after}
+use Rattle.script.specs.Asking.{Run}
 
 is_other : (line text : List ℕ) (said : Line) → said_in text ≡ None → said_in line ≡ Some said → bytes_eq line text ≡ false
 is_other line text said none some = by (bytes_eq line text) refl

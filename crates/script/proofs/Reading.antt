@@ -1,10 +1,5 @@
 -- What a command line that was read has.
-use Rattle.std.proofs.Common.{◌≡◌, List, Result, Ok, Err, true, ap, refl, ◌∙◌, subst}
-use Rattle.std.specs.Prelude.{IfOk}
-use Rattle.clap.specs.Words.{App, FailsBy, HasMatchesOf, Text, fault_of, found_of, is_simple, is_simple_and_free, matches_of, rows_of}
-use Rattle.clap.specs.declared.error.Error.{Error}
-use Rattle.clap.specs.declared.parser.matches.ArgMatches.{ArgMatches}
-use Rattle.script.specs.Options.{console_line}
+use Rattle.script.proofs.Vocabulary.{◌≡◌, List, Result, Ok, Err, true, ap, refl, ◌∙◌, subst, IfOk, App, FailsBy, HasMatchesOf, Text, fault_of, found_of, is_simple, is_simple_and_free, matches_of, rows_of, Error, ArgMatches, console_line}
 
 pub line_is_simple : is_simple console_line ≡ true
 line_is_simple = refl

@@ -1,16 +1,6 @@
 -- What stands in the grammar is read.
-use Rattle.std.proofs.Common.{◌≡◌, ℕ, Bool, true, false, List, cond, Option, Some, None, refl, ap, sym, ◌∙◌}
-use Rattle.std.proofs.lemmas.Option.{none-some}
-use Rattle.std.proofs.lemmas.Slice.Eq.{bytes_eq-Decides}
-use Rattle.std.specs.Option.{option_and_then}
-use Rattle.std.specs.Str.{bytes_eq}
-use Rattle.std.specs.Prelude.{codes}
-use Rattle.fs_machine.specs.declared.kind.Kind.{Kind}
+use Rattle.script.proofs.Vocabulary.{◌≡◌, ℕ, Bool, true, false, List, cond, Option, Some, None, refl, ap, sym, ◌∙◌, none-some, bytes_eq-Decides, option_and_then, bytes_eq, codes, Kind, number_in, hart_in, bytes_in, value_after, Call, Open, Read, Write, Fill, Link, Unlink, Mkdir, Chdir, Dup, Fstat, Close, Inherit, Line, Start, Run, Step, Upto, End, All, line_in, call_in, kind_in, one_operand, two_operands, hart_with_call, with_one, with_two, HasCall, SaysCall, SaysLine, kind_word}
 use Rattle.fs_machine.specs.declared.kind.Kind.TheVariants as kinds
-use Rattle.script.specs.Words.{number_in, hart_in, bytes_in, value_after}
-use Rattle.script.specs.Said.{Call, Open, Read, Write, Fill, Link, Unlink, Mkdir, Chdir, Dup, Fstat, Close, Inherit, Line, Start, Run, Step, Upto, End, All}
-use Rattle.script.specs.Reading.{line_in, call_in, kind_in, one_operand, two_operands, hart_with_call, with_one, with_two}
-use Rattle.script.specs.Grammar.{HasCall, SaysCall, SaysLine, kind_word}
 
 one : {A C : Type 0} (f : A → C) (o : Option A) (a : A) → o ≡ Some a → with_one f o ≡ Some (f a)
 one f o a is = ap (with_one f) is

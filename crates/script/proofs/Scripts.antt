@@ -1,8 +1,5 @@
 -- A script read line by line.
-use Rattle.std.proofs.Common.{◌≡◌, ℕ, ◌+◌, ◌<◌, ◌≤◌, true, false, List, [], ◌∷◌, ◌++◌, length, drop, get_or, cond, Some, None, Result, Ok, Err, refl, ap, sym, ◌∙◌}
-use Rattle.std.proofs.lemmas.List.{at_drop_more, at_drop_all, append_assoc, append-nil}
-use Rattle.script.specs.Said.{Line, NumberedLine}
-use Rattle.script.specs.Reading.{lines_from, first_said, with_line, said_in, is_passed_over}
+use Rattle.script.proofs.Vocabulary.{◌≡◌, ℕ, ◌+◌, ◌<◌, ◌≤◌, true, false, List, [], ◌∷◌, ◌++◌, length, drop, get_or, cond, Some, None, Result, Ok, Err, refl, ap, sym, ◌∙◌, at_drop_more, at_drop_all, append_assoc, append-nil, Line, NumberedLine, lines_from, first_said, with_line, said_in, is_passed_over}
 
 abbrev pub with_lines : List NumberedLine → Result (List NumberedLine) ℕ → Result (List NumberedLine) ℕ
 with_lines front (Ok lines) = Ok (front ++ lines)

@@ -1,15 +1,5 @@
 -- What is read stands in the grammar.
-use Rattle.std.proofs.Common.{◌≡◌, ℕ, Bool, true, false, List, [], ◌∷◌, cond, Option, Some, None, refl, ap, sym, ◌∙◌, subst}
-use Rattle.std.proofs.lemmas.Option.{none-some, same_Some}
-use Rattle.std.proofs.lemmas.Slice.Eq.{bytes_eq-Decides}
-use Rattle.std.specs.Option.{option_and_then}
-use Rattle.std.specs.Str.{bytes_eq}
-use Rattle.std.specs.Prelude.{codes}
-use Rattle.fs_machine.specs.declared.kind.Kind.{Kind}
-use Rattle.script.specs.Words.{number_in, hart_in, bytes_in}
-use Rattle.script.specs.Said.{Call, Open, Read, Write, Fill, Link, Unlink, Mkdir, Chdir, Dup, Fstat, Close, Inherit, Line, Start, Run, Step, Upto, End}
-use Rattle.script.specs.Reading.{line_in, call_in, kind_in, one_operand, two_operands, hart_with_call, do_in, start_in, step_in, upto_in, end_in, all_in, with_one, with_two}
-use Rattle.script.specs.Grammar.{HasCall, SaysCall, SaysLine, IsKind, kind_word}
+use Rattle.script.proofs.Vocabulary.{◌≡◌, ℕ, Bool, true, false, List, [], ◌∷◌, cond, Option, Some, None, refl, ap, sym, ◌∙◌, subst, none-some, same_Some, bytes_eq-Decides, option_and_then, bytes_eq, codes, Kind, number_in, hart_in, bytes_in, Call, Open, Read, Write, Fill, Link, Unlink, Mkdir, Chdir, Dup, Fstat, Close, Inherit, Line, Start, Run, Step, Upto, End, line_in, call_in, kind_in, one_operand, two_operands, hart_with_call, do_in, start_in, step_in, upto_in, end_in, all_in, with_one, with_two, HasCall, SaysCall, SaysLine, IsKind, kind_word}
 
 -- ---- what an answer came from
 

@@ -1,8 +1,5 @@
 -- Events noted one after the other.
-use Rattle.std.proofs.Common.{◌≡◌, ℕ, ◌+◌, ◌-◌, ◌≤◌, arith, List, [], ◌∷◌, ◌++◌, length, drop, ap, sym, ◌∙◌, length-append, length-drop}
-use Rattle.std.proofs.lemmas.List.{append_assoc, append-nil, drop-append-le, drop-drop, drop_all}
-use Rattle.circular_buffer.specs.Buffer.{keep_last}
-use Rattle.script.specs.Tails.{tail, with_events}
+use Rattle.script.proofs.Vocabulary.{◌≡◌, ℕ, ◌+◌, ◌-◌, ◌≤◌, arith, List, [], ◌∷◌, ◌++◌, length, drop, ap, sym, ◌∙◌, length-append, length-drop, append_assoc, append-nil, drop-append-le, drop-drop, drop_all, keep_last, tail, with_events}
 
 kept_again : {T : Type 0} (n : ℕ) (events : List T) (event : T) → keep_last n (keep_last n events ++ event ∷ []) ≡ keep_last n (events ++ event ∷ [])
 kept_again n events event =

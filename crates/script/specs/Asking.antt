@@ -1,6 +1,6 @@
 -- What the lines ask that are typed at a prompt: those of a script, and a few that only tell something.
 use Rattle.std.specs.Prelude.{◌≡◌, ◌↔◌, ℕ, ◌==◌, Bool, ◌||◌, false, List, [], ◌∷◌, if◌then◌else◌, Option, Some, None, codes, Result, Ok, Err}
-use Rattle.std.specs.Str.{bytes_eq}
+use Rattle.script.specs.Vocabulary.{bytes_eq}
 use Rattle.script.specs.declared.asked.Asked.{Asked as AskedOf}
 use Rattle.script.specs.declared.asked.Asked.TheVariants as asks
 use Rattle.script.specs.declared.command.ScriptFault.{ScriptFault}

@@ -1,13 +1,8 @@
 -- The line of an entry of a history, for people.
 use Rattle.std.specs.Prelude.{ℕ, Bool, true, false, not, ◌&&◌, ◌==◌, nat_lt, if◌then◌else◌, List, [], ◌∷◌, ◌++◌, length, Option, Some, None, codes, decimal}
-use Rattle.std.specs.List.{list_all}
+use Rattle.script.specs.Vocabulary.{list_all, Action, OpenStep as Open, Truncate, ReadStep as Read, WritePart, Find, Bump, Enter, Unbump, UnlinkStep as Unlink, MkdirStep as Mkdir, ChdirStep as Chdir, DupStep as Dup, FstatStep as Fstat, CloseStep as Close, InheritStep as Inherit, StepAnswer, Opened, Bytes, Status as Stat, NewFd as Fd, NoRoom as Full, Placed, cause_number, cause_name, full_number, full_name}
 use Rattle.script.specs.Text.{bytes_text, hex, numbered_text, stat_text}
-use Rattle.plain_tree.specs.declared.step.Action.{Action}
-use Rattle.plain_tree.specs.declared.step.Action.TheVariants.{Open, Truncate, Read, WritePart, Find, Bump, Enter, Unbump, Unlink, Mkdir, Chdir, Dup, Fstat, Close, Inherit}
-use Rattle.plain_tree.specs.declared.step.StepAnswer.{StepAnswer}
-use Rattle.plain_tree.specs.declared.step.StepAnswer.TheVariants.{Opened, Bytes, Stat, Fd, Done, Failed, Full}
-use Rattle.plain_tree.specs.declared.trace.Placed.{Placed}
-use Rattle.plain_tree.specs.Numbers.{cause_number, cause_name, full_number, full_name}
+use Rattle.plain_tree.specs.declared.step.StepAnswer.TheVariants.{Done, Failed}
 
 -- '!' to '~'
 abbrev pub is_printed : ℕ → Bool

@@ -1,7 +1,6 @@
 -- What a reader answers: what the words say, unless memory was refused.
 use Rattle.std.specs.Prelude.{◌≡◌, ℕ, List, map, Option, Some, None, Result, Ok, Err, Vec}
-use Rattle.std.specs.declared.alloc.Global.{Global}
-use Rattle.std.specs.Borrow.{Bor}
+use Rattle.script.specs.Vocabulary.{Global, Bor}
 use Rattle.script.specs.declared.fault.LineFault.{LineFault}
 use Rattle.script.specs.declared.fault.LineFault.TheVariants as faults
 use Rattle.script.specs.declared.command.ScriptLine.{ScriptLine}

@@ -1,6 +1,6 @@
 -- The grammar of scripts, as docs/SCRIPT.md has it: which words each line has.
 use Rattle.std.specs.Prelude.{◌≡◌, ◌↔◌, false, ℕ, List, [], ◌∷◌, Some, codes}
-use Rattle.fs_machine.specs.declared.kind.Kind.{Kind}
+use Rattle.script.specs.Vocabulary.{Kind}
 use Rattle.fs_machine.specs.declared.kind.Kind.TheVariants as kinds
 use Rattle.script.specs.Words.{number_in, hart_in, bytes_in}
 use Rattle.script.specs.Reading.{words_of, ends_in_return, said_in}

@@ -1,3 +1,4 @@
+pub mod Vocabulary
 pub mod Asking
 pub mod Gives
 pub mod Grammar

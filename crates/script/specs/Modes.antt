@@ -1,9 +1,6 @@
 -- How a console runs, by what a command line was found to have.
 use Rattle.std.specs.Prelude.{◌≡◌, ℕ, ◌^◌, ◌<◌, Bool, true, false, if◌then◌else◌, Option, Some, None, codes}
-use Rattle.std.specs.Str.{bytes_eq}
-use Rattle.std.specs.Str.Parse.{IsNumeral, digits_value, without_leading_plus}
-use Rattle.clap.specs.Words.{Text, first_value, one_text}
-use Rattle.clap.specs.declared.parser.matches.Found.{Found}
+use Rattle.script.specs.Vocabulary.{bytes_eq, IsNumeral, digits_value, without_leading_plus, Text, first_value, one_text, Found}
 use Rattle.script.specs.declared.mode.Mode.{Mode}
 use Rattle.script.specs.declared.mode.Schedule.{Schedule}
 use Rattle.script.specs.declared.mode.Schedule.TheVariants.{Listed, Round}

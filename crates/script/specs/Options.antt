@@ -1,8 +1,6 @@
 -- The command line: [IMAGE] [--schedule listed|round] [--prompt] [--threads] [--last N] [--timeline] [--explain] [--check] [--save FILE].
 use Rattle.std.specs.Prelude.{◌-◌, ◌^◌, [], ◌∷◌, Some, true, codes, pos}
-use Rattle.clap.specs.Words.{App, Rule, new_app, new_rule, with_rule}
-use Rattle.clap.specs.declared.builder.action.ArgAction.TheVariants.{Set, SetTrue}
-use Rattle.clap.specs.declared.builder.value_parser.ValueParser.TheVariants.{Signed}
+use Rattle.script.specs.Vocabulary.{App, Rule, new_app, new_rule, with_rule, Set, SetTrue, Signed}
 
 -- the file with the image; it may be left out
 abbrev pub image_rule : Rule

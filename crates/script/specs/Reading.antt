@@ -1,12 +1,9 @@
 -- How the words of a line are read: what it says, where it says anything.
 use Rattle.std.specs.Prelude.{ℕ, ◌+◌, Bool, ◌||◌, List, [], ◌∷◌, ◌==◌, nat_eq, if◌then◌else◌, Option, Some, None, codes, Result, Ok, Err}
-use Rattle.std.specs.Option.{option_and_then}
-use Rattle.std.specs.Str.{bytes_eq}
-use Rattle.fs_machine.specs.declared.kind.Kind.{Kind}
+use Rattle.script.specs.Vocabulary.{option_and_then, bytes_eq, Kind, slice_split, ends_with}
 use Rattle.fs_machine.specs.declared.kind.Kind.TheVariants as kinds
 use Rattle.script.specs.Words.{number_in, hart_in, bytes_in, begins_with}
 use Rattle.script.specs.Said.{Call, Open, Read, Write, Fill, Link, Unlink, Mkdir, Chdir, Dup, Fstat, Close, Inherit, Line, NumberedLine, Start, Run, Step, Upto, End, All}
-use Rattle.std.specs.List.{slice_split, ends_with}
 
 abbrev pub words_of : List ℕ → List (List ℕ)
 words_of line = slice_split (λ b. b == 32) line

@@ -1,6 +1,6 @@
 -- What a line of a script says, apart from how it lies in memory.
 use Rattle.std.specs.Prelude.{ℕ, List, codes}
-use Rattle.fs_machine.specs.declared.kind.Kind.{Kind}
+use Rattle.script.specs.Vocabulary.{Kind}
 use Rattle.script.specs.declared.call.CallLine.{CallLine}
 use Rattle.script.specs.declared.call.CallLine.TheVariants as calls
 use Rattle.script.specs.declared.command.Command.{Command}

@@ -1,6 +1,6 @@
 -- The last of many events.
 use Rattle.std.specs.Prelude.{◌≡◌, ℕ, List, [], ◌∷◌, ◌++◌}
-use Rattle.circular_buffer.specs.Buffer.{keep_last}
+use Rattle.script.specs.Vocabulary.{keep_last}
 
 pub record TailView (T : Type 0) : Type 0 where
   pub most : ℕ

@@ -1,13 +1,6 @@
 -- The lines that a console prints (docs/SCRIPT.md).
 use Rattle.std.specs.Prelude.{ℕ, ◌+◌, ◌/◌, ◌%◌, nat_lt, if◌then◌else◌, List, [], ◌∷◌, ◌++◌, take, codes, decimal}
-use Rattle.image_tree.specs.declared.shape.Shape.{Shape}
-use Rattle.plain_tree.specs.declared.answer.Answer.{Answer}
-use Rattle.plain_tree.specs.declared.answer.Answer.TheVariants.{Fd, Count, Stat, Done, Failed, Full}
-use Rattle.plain_tree.specs.declared.answer.Reply.{Reply}
-use Rattle.plain_tree.specs.declared.answer.Stat.{Stat as StatOf}
-use Rattle.plain_tree.specs.declared.call.Call.{Call}
-use Rattle.plain_tree.specs.declared.call.Call.TheVariants.{Open, Read, Write, Link, Unlink, Mkdir, Chdir, Dup, Fstat, Close, Inherit}
-use Rattle.plain_tree.specs.Numbers.{cause_number, cause_name, full_number, full_name, type_number}
+use Rattle.script.specs.Vocabulary.{Shape, Answer, Fd, Count, Stat, Done, Failed, Full, Reply, StatOf, Call, Open, Read, Write, Link, Unlink, Mkdir, Chdir, Dup, Fstat, Close, Inherit, cause_number, cause_name, full_number, full_name, type_number}
 
 -- '0' to '9', 'a' to 'f'
 abbrev pub hex_digit : ℕ → ℕ

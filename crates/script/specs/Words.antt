@@ -1,8 +1,6 @@
 -- What one word of a script says.
 use Rattle.std.specs.Prelude.{ℕ, ◌+◌, ◌-◌, ◌*◌, ◌^◌, Bool, ◌&&◌, List, [], ◌∷◌, drop, nat_eq, nat_lt, nat_le, if◌then◌else◌, Option, Some, None, codes}
-use Rattle.std.specs.Option.{option_and_then}
-use Rattle.std.specs.List.{starts_with}
-use Rattle.std.specs.Str.{bytes_eq}
+use Rattle.script.specs.Vocabulary.{option_and_then, starts_with, bytes_eq}
 
 -- ---- digits
 

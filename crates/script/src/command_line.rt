@@ -1,6 +1,6 @@
 //! The command line.
 ghost use Rattle.std.specs.Prelude.{◌≡◌, codes, false, map, option_map, string_bytes, IfOk, Some};
-ghost use Rattle.clap.specs.Words.{app_of, fault_of, found_of, matches_of, one_text, rows_of, rule_of, FailsBy};
+ghost use Rattle.script.specs.Vocabulary.{app_of, fault_of, found_of, matches_of, one_text, rows_of, rule_of, FailsBy};
 ghost use Rattle.script.specs.Modes.{schedule_named, HasMode, IsFlag, IsNumber};
 ghost use Rattle.script.specs.Options.{check_rule, console_app, console_line, explain_rule, image_rule, last_rule, printing_app, prompt_rule, prompted_app, running_app, save_rule, schedule_rule, scheduled_app, threads_rule, timeline_rule};
 

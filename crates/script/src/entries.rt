@@ -1,6 +1,6 @@
 //! The lines of a history's entries, for people.
 ghost use Rattle.std.specs.Prelude.{◌≡◌, ◌++◌, codes, decimal, length, OnOk};
-ghost use Rattle.std.specs.Io.KnownBytes.{Appends};
+ghost use Rattle.script.specs.Vocabulary.{Appends};
 ghost use Rattle.script.specs.Text.{bytes_text, numbered_text, stat_text};
 ghost use Rattle.script.specs.Entries.{action_text, all_printed, answer_text, entry_line, is_printed, made_number, made_text, may_make, path_word, step_text, told_text};
 

@@ -1,6 +1,6 @@
 //! The lines of a script.
 ghost use Rattle.std.specs.Prelude.{◌≡◌};
-ghost use Rattle.std.specs.Str.{bytes_eq};
+ghost use Rattle.script.specs.Vocabulary.{bytes_eq};
 ghost use Rattle.script.specs.Said.{call_said, line_said};
 ghost use Rattle.script.specs.Reading.{all_in, do_in, end_in, kind_in, line_in, said_in, start_in, step_in, upto_in, words_of};
 ghost use Rattle.script.specs.Gives.{Gives, words_now};

@@ -1,6 +1,6 @@
 //! The lines that a console prints (docs/SCRIPT.md).
 ghost use Rattle.std.specs.Prelude.{◌≡◌, ◌<◌, ◌++◌, codes, decimal, OnOk};
-ghost use Rattle.std.specs.Io.KnownBytes.{Appends};
+ghost use Rattle.script.specs.Vocabulary.{Appends};
 ghost use Rattle.script.specs.Text.{bytes_text, given_text, hex, hex_digit, numbered_text, reply_line, shape_line, stat_text, told_line};
 
 use image_tree::Shape;

@@ -1,10 +1,5 @@
 -- What a lock and an unlock keep, for all crates above.
-use Rattle.std.proofs.Common.{◌≡◌, ◌≢◌, ◌+◌, ◌<◌, ℕ, zero, suc, List, [], ◌∷◌, ◌++◌, length, add-zero, Some, None, refl, ap, sym, ◌∙◌, inl, inr, subst, length-set, arith}
-use Rattle.std.specs.Prelude.{Option, IfSome, slice_get, slice_set}
-use Rattle.std.proofs.lemmas.Option.{slice_get_within, same_Some, none-some}
-use Rattle.std.proofs.lemmas.Bool.{cases_eq}
-use Rattle.sleep_lock.specs.SleepLock.{SlotState, GuardState, guard_of, taken, filled, emptied}
-use Rattle.sleep_lock.specs.Row.{row_of, lock_at, lock_of, unlocked, IsOut, IsNumbered, LeavesOthers}
+use Rattle.sleep_lock.proofs.Vocabulary.{◌≡◌, ◌≢◌, ◌+◌, ◌<◌, ℕ, zero, suc, List, [], ◌∷◌, ◌++◌, length, add-zero, Some, None, refl, ap, sym, ◌∙◌, inl, inr, subst, length-set, arith, Option, IfSome, slice_get, slice_set, slice_get_within, same_Some, none-some, cases_eq, SlotState, GuardState, guard_of, taken, filled, emptied, row_of, lock_at, lock_of, unlocked, IsOut, IsNumbered, LeavesOthers}
 use Rattle.sleep_lock.proofs.Lists.{set_same, slice_get-set_same, slice_get-set_other}
 
 -- what a slot gives and leaves, written back, is the lock tried

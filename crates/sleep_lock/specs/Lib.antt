@@ -1,3 +1,4 @@
+pub mod Vocabulary
 pub mod SleepLock
 pub mod Lending
 pub mod Row

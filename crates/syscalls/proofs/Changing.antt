@@ -1,29 +1,8 @@
 -- A name looked up, and an inode claimed or changed, with what they need in hand.
-use Rattle.std.proofs.Common.{◌≡◌, ◌<◌, ◌-◌, ◌^◌, ℕ, List, Bool, true, Option, Some, None, refl, sym, ap, subst, ◌⊎◌, inl, inr, arith}
-use Rattle.std.specs.Prelude.{◌==◌, is_some, IsSome, IfSome}
-use Rattle.plain_tree.specs.Tree.{Name}
-use Rattle.plain_tree.specs.declared.answer.Reply.{Reply}
-use Rattle.plain_tree.specs.declared.tree.OpenFile.{OpenFile}
-use Rattle.fs_layout.specs.Name.{IsName}
-use Rattle.tree_laws.proofs.Maps.{eq_is}
-use Rattle.atomic_programs.specs.Prog.{Do, unmarked}
-use Rattle.fs_machine.specs.declared.hand.Hand.{Hand}
-use Rattle.fs_machine.specs.declared.hand.Seat.{Seat}
-use Rattle.fs_machine.specs.declared.hand.Seat.TheVariants.{One, Two}
-use Rattle.fs_machine.specs.Hands.{with_reference}
-use Rattle.inode_machine.specs.Inodes.{AtName, Face, Sight, Sort, face_or}
-use Rattle.inode_machine.specs.Parts.{P, drop, give_up, tail}
+use Rattle.syscalls.proofs.Vocabulary.{◌≡◌, ◌<◌, ◌-◌, ◌^◌, ℕ, List, Bool, true, Option, Some, None, refl, sym, ap, subst, ◌⊎◌, inl, inr, arith, ◌==◌, is_some, IsSome, IfSome, Name, Reply, OpenFile, IsName, eq_is, Do, unmarked, Hand, Seat, One, Two, with_reference, AtName, Face, Sight, Sort, face_or, P, drop, give_up, tail, note_at, HasFound, Having, IsCounted, Leaves, Runs, without_numbers, HasReference, free_seat, seat_of_reference, Notes}
 use Rattle.inode_machine.specs.World as above
-use Rattle.inode_parts.specs.Carries.{note_at}
-use Rattle.inode_parts.specs.Clears.{HasFound}
-use Rattle.inode_parts.specs.Holding.{Having, IsCounted, Leaves, Runs, without_numbers}
-use Rattle.inode_parts.specs.OneSteps.{HasReference, free_seat, seat_of_reference}
-use Rattle.inode_parts.specs.declared.note.Notes.{Notes}
-use Rattle.syscalls.proofs.Seats.{Apart, Around, Finds, Held, HeldAt, InHand, Locks, Nothing, Opens, Refers, swapped}
-use Rattle.syscalls.proofs.Holdings.{at_its_lock, forget_found, forgot, found, free_found, install_found, installed, locked, locked_seat, lock_found, referred, reloaded, stays, take_found}
+use Rattle.syscalls.proofs.Basics.{Apart, Around, Finds, Held, HeldAt, InHand, Locks, Nothing, Opens, Refers, swapped, at_its_lock, forget_found, forgot, found, free_found, install_found, installed, locked, locked_seat, lock_found, referred, reloaded, stays, take_found, drop_runs, give_opened_runs, give_up_runs, beside_it, came, tail_runs, turned}
 use Rattle.syscalls.proofs.Running as running
-use Rattle.syscalls.proofs.Running.{drop_runs, give_opened_runs, give_up_runs}
-use Rattle.syscalls.proofs.Walking.{beside_it, came, tail_runs, turned}
 
 -- a count that was seen, and one less
 abbrev pub Few : Face → Type 0

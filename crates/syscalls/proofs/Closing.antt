@@ -1,22 +1,9 @@
 -- close, fstat and inherit run with nothing in hand.
-use Rattle.std.proofs.Common.{ℕ, zero, suc, ◌+◌, List, [], true, false, Option, Some, None}
-use Rattle.plain_tree.specs.declared.answer.Cause.TheVariants.{BadDescriptor}
-use Rattle.plain_tree.specs.declared.answer.Reply.{Reply}
+use Rattle.syscalls.proofs.Vocabulary.{ℕ, zero, suc, ◌+◌, List, [], true, false, Option, Some, None, BadDescriptor, Reply, descriptor_count, Ret, Do, unmarked, IsEmpty, close_on, close_program, stat_on, stat_program, stat_reply, Face, inherit_end, inherit_program, lend_from, lend_on, lent_directory, P, done, drop, failed, say, BeginsWith, Having, Leaves, Runs}
 use Rattle.plain_tree.specs.declared.call.Call.TheVariants as calls
-use Rattle.plain_tree.specs.Widths.{descriptor_count}
-use Rattle.atomic_programs.specs.Prog.{Ret, Do, unmarked}
-use Rattle.fs_machine.specs.Empty.{IsEmpty}
-use Rattle.inode_machine.specs.Descriptors.{close_on, close_program, stat_on, stat_program, stat_reply}
-use Rattle.inode_machine.specs.Inodes.{Face}
-use Rattle.inode_machine.specs.Moving.{inherit_end, inherit_program, lend_from, lend_on, lent_directory}
-use Rattle.inode_machine.specs.Parts.{P, done, drop, failed, say}
 use Rattle.inode_machine.specs.World as above
-use Rattle.inode_parts.specs.Expecting.{BeginsWith}
-use Rattle.inode_parts.specs.Holding.{Having, Leaves, Runs}
-use Rattle.syscalls.proofs.Seats.{InHand, Nothing, Refers, empty_in}
-use Rattle.syscalls.proofs.Holdings.{free_found, none_locked, opened, referred, stays, unlearned}
+use Rattle.syscalls.proofs.Basics.{InHand, Nothing, Refers, empty_in, free_found, none_locked, opened, referred, stays, unlearned, drop_runs, ends, give_opened_runs, join_runs, leave_runs, release_runs, say_ends}
 use Rattle.syscalls.proofs.Running as running
-use Rattle.syscalls.proofs.Running.{drop_runs, ends, give_opened_runs, join_runs, leave_runs, release_runs, say_ends}
 
 -- these calls have no path
 module _ (path : List ℕ) where

@@ -1,22 +1,10 @@
 -- dup, read and write run with nothing in hand.
-use Rattle.std.proofs.Common.{ℕ, zero, suc, ◌+◌, ◌-◌, List, [], ◌∷◌, Option, Some, None, true, false, refl}
+use Rattle.syscalls.proofs.Vocabulary.{ℕ, zero, suc, ◌+◌, ◌-◌, List, [], ◌∷◌, Option, Some, None, true, false, refl, BadDescriptor, Blocks, Descriptors, Reply, piece_count, Do, unmarked, IsEmpty, checked_reply, dup_on, dup_program, joined_on, read_on, read_program, read_reply, write_from, write_piece, write_program, write_reply, wrote_on, P, failed, full, say, BeginsWith, HasOpened, MayOpen, Having, Leaves, LearnsFile, Runs}
 use Rattle.plain_tree.specs.declared.answer.Answer.TheVariants as answers
-use Rattle.plain_tree.specs.declared.answer.Cause.TheVariants.{BadDescriptor}
-use Rattle.plain_tree.specs.declared.answer.Full.TheVariants.{Blocks, Descriptors}
-use Rattle.plain_tree.specs.declared.answer.Reply.{Reply}
 use Rattle.plain_tree.specs.declared.call.Call.TheVariants as calls
-use Rattle.plain_tree.specs.Calls.{piece_count}
-use Rattle.atomic_programs.specs.Prog.{Do, unmarked}
-use Rattle.fs_machine.specs.Empty.{IsEmpty}
-use Rattle.inode_machine.specs.Descriptors.{checked_reply, dup_on, dup_program, joined_on, read_on, read_program, read_reply, write_from, write_piece, write_program, write_reply, wrote_on}
-use Rattle.inode_machine.specs.Parts.{P, failed, full, say}
 use Rattle.inode_machine.specs.World as above
-use Rattle.inode_parts.specs.Expecting.{BeginsWith, HasOpened, MayOpen}
-use Rattle.inode_parts.specs.Holding.{Having, Leaves, LearnsFile, Runs}
-use Rattle.syscalls.proofs.Seats.{Around, Held, InHand, Nothing, Opens, empty_in}
-use Rattle.syscalls.proofs.Holdings.{at_its_lock, gave, lock_found, no_txn, none_locked, opened, stays, txn_joined, unlearned}
+use Rattle.syscalls.proofs.Basics.{Around, Held, InHand, Nothing, Opens, empty_in, at_its_lock, gave, lock_found, no_txn, none_locked, opened, stays, txn_joined, unlearned, ends, join_runs, leave_runs, say_ends}
 use Rattle.syscalls.proofs.Running as running
-use Rattle.syscalls.proofs.Running.{ends, join_runs, leave_runs, say_ends}
 
 module _ (path : List ℕ) where
   abbrev R : P Reply → Having → Type 0

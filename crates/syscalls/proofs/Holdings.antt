@@ -1,25 +1,7 @@
 -- What each operation on whole inodes finds in hand, and leaves there.
-use Rattle.std.proofs.Common.{◌≡◌, ℕ, List, [], ◌∷◌, ◌++◌, drop, Bool, true, false, Option, Some, None, sym, ap, ◌∙◌, refl, subst, ◌⊎◌, inl, inr}
-use Rattle.std.specs.Prelude.{◌==◌, is_some}
-use Rattle.plain_tree.specs.Tree.{Name}
-use Rattle.tree_laws.proofs.Maps.{eq_self}
-use Rattle.sleep_lock.specs.SleepLock.{GuardState}
-use Rattle.fs_machine.specs.declared.entries.Inode.{Inode}
-use Rattle.fs_machine.specs.declared.hand.Hand.{Hand}
-use Rattle.fs_machine.specs.declared.hand.Seat.{Seat}
-use Rattle.fs_machine.specs.declared.hand.Seat.TheVariants.{One, Two}
-use Rattle.fs_machine.specs.Hands.{first_in, inode_at, reference_at, with_aside, with_first, with_inode, with_listed, with_reference, with_seated, with_txn}
-use Rattle.inode_table.specs.HeldInodes.{unloaded}
-use Rattle.inode_machine.specs.Parts.{with_last}
+use Rattle.syscalls.proofs.Vocabulary.{◌≡◌, ℕ, List, [], ◌∷◌, ◌++◌, Bool, true, false, Option, Some, None, sym, ap, ◌∙◌, refl, subst, ◌⊎◌, inl, inr, ◌==◌, is_some, Name, eq_self, GuardState, Inode, Hand, Seat, One, Two, first_in, inode_at, reference_at, with_aside, with_first, with_inode, with_listed, with_reference, with_seated, with_txn, unloaded, with_last, note_at, HasFound, HasFreeSeat, HasLock, HasReference, IsAlone, MayRefer, free_seat, locks, other, seat_of_lock, seat_of_reference, Note, Notes, MayLock, MayRelock, CameTo, Having, Joined, Leaves, Opened, ReferredOrAside, Relocked, Stand}
+use Rattle.std.proofs.Common.{drop}
 use Rattle.inode_machine.specs.World as above
-use Rattle.inode_parts.specs.Carries.{note_at}
-use Rattle.inode_parts.specs.Clears.{HasFound}
-use Rattle.inode_parts.specs.OneSteps.{HasFreeSeat, HasLock, HasReference, IsAlone, MayRefer, free_seat, locks, other, seat_of_lock, seat_of_reference}
-use Rattle.inode_parts.specs.declared.note.Note.{Note}
-use Rattle.inode_parts.specs.declared.note.Notes.{Notes}
-use Rattle.inode_parts.specs.Expecting.{MayLock}
-use Rattle.inode_parts.specs.Relocks.{MayRelock}
-use Rattle.inode_parts.specs.Holding.{CameTo, Having, Joined, Leaves, Opened, ReferredOrAside, Relocked, Stand}
 use Rattle.syscalls.proofs.Seats.{Around, Apart, Finds, Held, HeldAt, InHand, IsClosed, IsHeld, IsLoaded, Locks, Nothing, Opens, Refers, seated, alone, at_free, at_lock, at_reference, beside_both, beside_lock, beside_record, beside_reference, lock_at, lock_kept, lock_seat, lock_stays, lock_there, none_is, reference_kept, reference_stays, reference_there, reference_with, is_first, none_free, only_reference, seated_held, swapped, updated, with_other_aside, with_other_list, with_other_txn}
 
 -- the same hand

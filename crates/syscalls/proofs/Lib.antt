@@ -1,3 +1,6 @@
+pub mod Basics
+pub mod Lemmas
+pub mod Vocabulary
 pub mod HasOnes
 pub mod Places
 pub mod Staying

@@ -1,32 +1,11 @@
 -- link runs with nothing in hand: at most its file, the directory that it walks from and what was found there are referred to.
-use Rattle.std.proofs.Common.{◌≡◌, ◌<◌, ◌≤◌, ◌+◌, ◌-◌, ◌^◌, ℕ, suc, List, [], ◌∷◌, length, Bool, true, false, Option, Some, None, refl, arith}
-use Rattle.std.specs.Prelude.{nat_lt, if◌then◌else◌}
-use Rattle.fs_layout.specs.Name.{IsName}
-use Rattle.fs_machine.specs.Limits.{listed_places}
-use Rattle.plain_tree.specs.Tree.{Name, elements}
-use Rattle.plain_tree.specs.Widths.{count_limit}
-use Rattle.plain_tree.specs.declared.answer.Cause.{Cause}
-use Rattle.plain_tree.specs.declared.answer.Cause.TheVariants.{Exists, IsDirectory, NoEntry, TooManyLinks}
-use Rattle.plain_tree.specs.declared.answer.Full.TheVariants.{Blocks, Directory}
-use Rattle.plain_tree.specs.declared.answer.Reply.{Reply}
+use Rattle.syscalls.proofs.Vocabulary.{◌≡◌, ◌<◌, ◌≤◌, ◌+◌, ◌-◌, ◌^◌, ℕ, suc, List, [], ◌∷◌, length, Bool, true, false, Option, Some, None, refl, arith, nat_lt, if◌then◌else◌, IsName, listed_places, Name, elements, count_limit, Cause, Exists, IsDirectory, NoEntry, TooManyLinks, Blocks, Directory, Reply, Do, unmarked, IsEmpty, Begin, Face, face_or, is_directory_sort, is_live_face, bump_refused, bumps_if, link_at, link_found, link_in, link_name, link_program, link_raise, lower, named_on, P, Stop, done, drop, failed, full, give_up, is_there, looks_where, makes, own_step, start, stopped, tail, walk, walk_parent, IsCall, BeginsWith, Having, Runs}
 use Rattle.plain_tree.specs.declared.call.Call.TheVariants as calls
 use Rattle.plain_tree.specs.declared.step.Action.TheVariants as steps
-use Rattle.atomic_programs.specs.Prog.{Do, unmarked}
-use Rattle.fs_machine.specs.Empty.{IsEmpty}
-use Rattle.tree_laws.specs.Moves.Move.{Begin}
-use Rattle.inode_machine.specs.Inodes.{Face, face_or, is_directory_sort, is_live_face}
 use Rattle.inode_machine.specs.Naming as naming
-use Rattle.inode_machine.specs.Naming.{bump_refused, bumps_if, link_at, link_found, link_in, link_name, link_program, link_raise, lower, named_on}
-use Rattle.inode_machine.specs.Parts.{P, Stop, done, drop, failed, full, give_up, is_there, looks_where, makes, own_step, start, stopped, tail, walk, walk_parent}
 use Rattle.inode_machine.specs.World as above
-use Rattle.whole_calls.specs.Wholes.{IsCall}
-use Rattle.inode_parts.specs.Expecting.{BeginsWith}
-use Rattle.inode_parts.specs.Holding.{Having, Runs}
-use Rattle.syscalls.proofs.Names.{AllNames, path_names}
-use Rattle.syscalls.proofs.Seats.{Around, Held, Locks, Nothing, Refers, empty_in}
+use Rattle.syscalls.proofs.Basics.{AllNames, path_names, Around, Held, Locks, Nothing, Refers, empty_in, drop_runs, give_runs, give_up_runs, join_runs, all_of, fresh, from_none, look_runs, start_runs, tail_runs, take_runs, turned, walk_parent_runs, walk_runs}
 use Rattle.syscalls.proofs.Running as running
-use Rattle.syscalls.proofs.Running.{drop_runs, give_runs, give_up_runs, join_runs}
-use Rattle.syscalls.proofs.Walking.{all_of, fresh, from_none, look_runs, start_runs, tail_runs, take_runs, turned, walk_parent_runs, walk_runs}
 use Rattle.syscalls.proofs.Changing.{enters, few_or, less, refuses, stores}
 use Rattle.syscalls.proofs.Making.{more}
 

@@ -1,33 +1,10 @@
 -- mkdir runs with nothing in hand.
-use Rattle.std.proofs.Common.{◌≡◌, ◌≢◌, ◌<◌, ◌+◌, ◌^◌, ℕ, List, length, Bool, true, false, Option, Some, None, refl, sym, ap, ◌∙◌, arith}
-use Rattle.std.specs.Prelude.{◌==◌, nat_lt, if◌then◌else◌}
-use Rattle.std.proofs.lemmas.Bool.Decides.{nat_tests}
-use Rattle.fs_layout.specs.Name.{IsName}
-use Rattle.plain_tree.specs.Tree.{Name, elements}
-use Rattle.plain_tree.specs.Widths.{count_limit}
-use Rattle.plain_tree.specs.declared.answer.Cause.{Cause}
-use Rattle.plain_tree.specs.declared.answer.Cause.TheVariants.{Exists, NoEntry, TooManyLinks}
-use Rattle.plain_tree.specs.declared.answer.Full.TheVariants.{Blocks, Directory, DiskInodes, MemInodes}
-use Rattle.plain_tree.specs.declared.answer.Reply.{Reply}
+use Rattle.syscalls.proofs.Vocabulary.{◌≡◌, ◌≢◌, ◌<◌, ◌+◌, ◌^◌, ℕ, List, length, Bool, true, false, Option, Some, None, refl, sym, ap, ◌∙◌, arith, ◌==◌, nat_lt, if◌then◌else◌, nat_tests, IsName, Name, elements, count_limit, Cause, Exists, NoEntry, TooManyLinks, Blocks, Directory, DiskInodes, MemInodes, Reply, eq_self, Do, unmarked, IsEmpty, Face, OfDirectory, Sight, face_or, is_live_face, is_refused, mkdir_in, mkdir_on, mkdir_other, mkdir_program, mkdir_refused, mkdir_with, name_directory, entered_file, mends_unless_new, unmake, P, done, failed, full, give_up, looks_where, mends_if_full, tail, Orphans, IsCall, BeginsWith, Having, Runs}
 use Rattle.plain_tree.specs.declared.call.Call.TheVariants as calls
 use Rattle.plain_tree.specs.declared.step.Action.TheVariants as steps
-use Rattle.tree_laws.proofs.Maps.{eq_self}
-use Rattle.atomic_programs.specs.Prog.{Do, unmarked}
-use Rattle.fs_machine.specs.Empty.{IsEmpty}
-use Rattle.inode_machine.specs.Inodes.{Face, OfDirectory, Sight, face_or, is_live_face}
-use Rattle.inode_machine.specs.Naming.{is_refused, mkdir_in, mkdir_on, mkdir_other, mkdir_program, mkdir_refused, mkdir_with, name_directory}
-use Rattle.inode_machine.specs.Opening.{entered_file, mends_unless_new, unmake}
-use Rattle.inode_machine.specs.Parts.{P, done, failed, full, give_up, looks_where, mends_if_full, tail}
 use Rattle.inode_machine.specs.World as above
-use Rattle.inode_machine.specs.World.Mark.{Orphans}
-use Rattle.whole_calls.specs.Wholes.{IsCall}
-use Rattle.inode_parts.specs.Expecting.{BeginsWith}
-use Rattle.inode_parts.specs.Holding.{Having, Runs}
-use Rattle.syscalls.proofs.Names.{path_names}
-use Rattle.syscalls.proofs.Seats.{Around, Held, Locks, Nothing, Refers, empty_in}
+use Rattle.syscalls.proofs.Basics.{path_names, Around, Held, Locks, Nothing, Refers, empty_in, give_up_runs, all_of, in_parent_runs, look_runs, tail_runs, take_runs, turned}
 use Rattle.syscalls.proofs.Running as running
-use Rattle.syscalls.proofs.Running.{give_up_runs}
-use Rattle.syscalls.proofs.Walking.{all_of, in_parent_runs, look_runs, tail_runs, take_runs, turned}
 use Rattle.syscalls.proofs.Changing.{claims, enters, fills, forgets, refuses, stores}
 
 pub one_is_few : 1 < 2 ^ 15

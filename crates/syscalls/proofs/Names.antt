@@ -1,13 +1,5 @@
 -- The elements of a path are names that entries can have.
-use Rattle.std.proofs.Common.{◌≡◌, ◌≢◌, ◌<◌, ◌≤◌, ℕ, zero, suc, true, false, ◌==◌, not, nat_le, nat_lt, List, [], ◌∷◌, ◌++◌, filter, inl, inr, length, map, take, refl, arith}
-use Rattle.std.proofs.lemmas.Bool.Decides.{nat_tests}
-use Rattle.std.proofs.lemmas.List.{length-take}
-use Rattle.std.specs.List.{list_all}
-use Rattle.fs_layout.specs.Name.{IsName, is_name, is_name_byte}
-use Rattle.plain_tree.specs.Tree.{Name, elements, is_empty, pieces}
-use Rattle.plain_tree.specs.Widths.{name_len}
-use Rattle.tree_laws.proofs.Maps.{either, eq_isnt, eq_not}
-use Rattle.whole_calls.specs.Wholes.{IsPath}
+use Rattle.syscalls.proofs.Vocabulary.{◌≡◌, ◌≢◌, ◌<◌, ◌≤◌, ℕ, zero, suc, true, false, ◌==◌, not, nat_le, nat_lt, List, [], ◌∷◌, ◌++◌, filter, inl, inr, length, map, take, refl, arith, nat_tests, length-take, list_all, IsName, is_name, is_name_byte, Name, elements, is_empty, pieces, name_len, either, eq_isnt, eq_not, IsPath}
 
 abbrev pub AllNames : List Name → Type 0
 AllNames [] = Unit {0}

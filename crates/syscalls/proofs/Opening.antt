@@ -1,30 +1,10 @@
 -- open runs with nothing in hand.
-use Rattle.std.proofs.Common.{◌≡◌, ◌≢◌, ◌≤◌, ℕ, List, [], ◌∷◌, length, Bool, true, false, Option, Some, None, refl, sym}
-use Rattle.std.specs.Prelude.{◌==◌, if◌then◌else◌}
-use Rattle.fs_layout.specs.Name.{IsName}
-use Rattle.plain_tree.specs.Steps.{creates}
-use Rattle.plain_tree.specs.Tree.{Name, elements}
-use Rattle.plain_tree.specs.declared.answer.Cause.{Cause}
-use Rattle.plain_tree.specs.declared.answer.Cause.TheVariants.{NoEntry}
-use Rattle.plain_tree.specs.declared.answer.Full.TheVariants.{Blocks, Descriptors, Directory, DiskInodes, MemInodes, OpenFiles}
-use Rattle.plain_tree.specs.declared.answer.Reply.{Reply}
+use Rattle.syscalls.proofs.Vocabulary.{◌≡◌, ◌≢◌, ◌≤◌, ℕ, List, [], ◌∷◌, length, Bool, true, false, Option, Some, None, refl, sym, ◌==◌, if◌then◌else◌, IsName, creates, Name, elements, Cause, NoEntry, Blocks, Descriptors, Directory, DiskInodes, MemInodes, OpenFiles, Reply, Do, unmarked, IsEmpty, OfFile, Sight, Sort, face_or, is_live_face, open_refusal, create_found, create_in, empties, entered_file, file_for, installed_on, installs, make_on, make_other, make_with, mends_unless_new, open_at, open_end, open_face, open_made, open_new, open_old, open_program, opened_reply, take_descriptor, truncates, unmake, P, Stop, failed, full, give_up, is_there, looks_where, own_step, start, stopped, tail, walk, IsCall, BeginsWith, Having, Leaves, Runs}
 use Rattle.plain_tree.specs.declared.call.Call.TheVariants as calls
 use Rattle.plain_tree.specs.declared.step.Action.TheVariants as steps
-use Rattle.atomic_programs.specs.Prog.{Do, unmarked}
-use Rattle.fs_machine.specs.Empty.{IsEmpty}
-use Rattle.inode_machine.specs.Inodes.{OfFile, Sight, Sort, face_or, is_live_face, open_refusal}
-use Rattle.inode_machine.specs.Opening.{create_found, create_in, empties, entered_file, file_for, installed_on, installs, make_on, make_other, make_with, mends_unless_new, open_at, open_end, open_face, open_made, open_new, open_old, open_program, opened_reply, take_descriptor, truncates, unmake}
-use Rattle.inode_machine.specs.Parts.{P, Stop, failed, full, give_up, is_there, looks_where, own_step, start, stopped, tail, walk}
 use Rattle.inode_machine.specs.World as above
-use Rattle.whole_calls.specs.Wholes.{IsCall}
-use Rattle.inode_parts.specs.Expecting.{BeginsWith}
-use Rattle.inode_parts.specs.Holding.{Having, Leaves, Runs}
-use Rattle.syscalls.proofs.Names.{AllNames, path_names}
-use Rattle.syscalls.proofs.Seats.{Around, Held, InHand, Locks, Nothing, Opens, Refers, empty_in, swapped}
-use Rattle.syscalls.proofs.Holdings.{may_refer, stays, upped}
+use Rattle.syscalls.proofs.Basics.{AllNames, path_names, Around, Held, InHand, Locks, Nothing, Opens, Refers, empty_in, swapped, may_refer, stays, upped, give_opened_runs, give_up_runs, join_runs, all_of, fresh, from_none, in_parent_runs, look_runs, start_runs, tail_runs, take_runs, turned, walk_runs}
 use Rattle.syscalls.proofs.Running as running
-use Rattle.syscalls.proofs.Running.{give_opened_runs, give_up_runs, join_runs}
-use Rattle.syscalls.proofs.Walking.{all_of, fresh, from_none, in_parent_runs, look_runs, start_runs, tail_runs, take_runs, turned, walk_runs}
 use Rattle.syscalls.proofs.Changing.{claims, empties_file, enters, forgets, installs_file, refuses, stores}
 use Rattle.syscalls.proofs.Making.{one_is_few, other_number, unmakes}
 

@@ -1,19 +1,5 @@
 -- What stands in a place.
-use Rattle.std.proofs.Common.{◌≡◌, ℕ, Bool, true, false, Option, Some, None, refl, sym, ap, subst}
-use Rattle.std.specs.Prelude.{IsSome}
-use Rattle.sleep_lock.specs.SleepLock.{GuardState}
-use Rattle.buffer_cache.specs.Buffers.{BufferState}
-use Rattle.fs_machine.specs.declared.entries.Inode.{Inode}
-use Rattle.fs_machine.specs.Steps.{State}
-use Rattle.fs_machine.specs.Empty.{emptied, IsEmpty}
-use Rattle.fs_machine.specs.declared.hand.Hand.{Hand}
-use Rattle.fs_machine.specs.declared.hand.Place.{Place}
-use Rattle.fs_machine.specs.declared.hand.Place.TheVariants.{First, Second}
-use Rattle.fs_machine.specs.declared.hand.Seat.{Seat}
-use Rattle.fs_machine.specs.declared.hand.Seat.TheVariants.{One, Two}
-use Rattle.fs_machine.specs.Hands.{HandFits, HasNothing, buffer_at, inode_at}
-use Rattle.syscalls.specs.Machines.{Running}
-use Rattle.syscalls.specs.Places.{call_at}
+use Rattle.syscalls.proofs.Vocabulary.{◌≡◌, ℕ, Bool, true, false, Option, Some, None, refl, sym, ap, subst, IsSome, GuardState, BufferState, Inode, State, emptied, IsEmpty, Hand, Place, First, Second, Seat, One, Two, HandFits, HasNothing, buffer_at, inode_at, Running, call_at}
 
 -- a call is under way just where the place is busy
 pub busy_on : (b : Bool) (m : Running) (o : Option Running) → call_at b m ≡ o → IsSome o → b ≡ true

@@ -1,15 +1,6 @@
 -- Programs within calls run with what they need in hand: for every program after them.
-use Rattle.std.proofs.Common.{ℕ, List, [], Bool, true, false, Option, Some, None, refl, ap}
-use Rattle.std.specs.Prelude.{if◌then◌else◌}
-use Rattle.plain_tree.specs.declared.answer.Reply.{Reply}
-use Rattle.atomic_programs.specs.Prog.{Ret, Do, unmarked}
-use Rattle.inode_machine.specs.Parts.{P, drop, give_up, say}
+use Rattle.syscalls.proofs.Vocabulary.{ℕ, List, [], Bool, true, false, Option, Some, None, refl, ap, if◌then◌else◌, Reply, Ret, Do, unmarked, P, drop, give_up, say, Frees, note_at, other, seat_of_reference, BeginsWith, Having, Leaves, Runs}
 use Rattle.inode_machine.specs.World as above
-use Rattle.inode_machine.specs.World.Mark.{Frees}
-use Rattle.inode_parts.specs.Carries.{note_at}
-use Rattle.inode_parts.specs.OneSteps.{other, seat_of_reference}
-use Rattle.inode_parts.specs.Expecting.{BeginsWith}
-use Rattle.inode_parts.specs.Holding.{Having, Leaves, Runs}
 use Rattle.syscalls.proofs.Seats.{Apart, Around, Freed, Held, InHand, Locks, Nothing, Opens, Refers, in_empty}
 use Rattle.syscalls.proofs.Holdings.{at_its_lock, down_found, dropped, gave, joined, left, lock_found, locked, no_txn, reference_found, reloaded, stays}
 

@@ -1,24 +1,5 @@
 -- What is in hand, seat by seat.
-use Rattle.std.proofs.Common.{◌≡◌, ◌≢◌, ℕ, List, [], Bool, true, false, Option, Some, None, refl, sym, ap, ◌∙◌, subst}
-use Rattle.std.specs.Prelude.{◌==◌, if◌then◌else◌, is_some, IsSome}
-use Rattle.std.specs.Option.{MatchOption, option_map}
-use Rattle.plain_tree.specs.Tree.{Name}
-use Rattle.tree_laws.proofs.Maps.{eq_is, eq_self}
-use Rattle.sleep_lock.specs.SleepLock.{GuardState}
-use Rattle.fs_machine.specs.declared.entries.Inode.{Inode}
-use Rattle.fs_machine.specs.declared.hand.Hand.{Hand}
-use Rattle.fs_machine.specs.declared.hand.Seat.{Seat}
-use Rattle.fs_machine.specs.declared.hand.Seat.TheVariants.{One, Two}
-use Rattle.fs_machine.specs.Hands.{inode_at, reference_at, with_aside, with_inode, with_listed, with_reference, with_txn}
-use Rattle.fs_machine.specs.Empty.{IsEmpty}
-use Rattle.inode_data.specs.Emptying.{HasNoBuffer}
-use Rattle.inode_table.specs.HeldInodes.{unloaded, without_content}
-use Rattle.inode_parts.specs.Carries.{note_at}
-use Rattle.inode_parts.specs.Clears.{HasFound}
-use Rattle.inode_parts.specs.OneSteps.{free_seat, locks, other, refers, seat_of_lock, seat_of_reference}
-use Rattle.inode_parts.specs.declared.note.Note.{Note}
-use Rattle.inode_parts.specs.declared.note.Notes.{Notes}
-use Rattle.inode_parts.specs.Holding.{Having}
+use Rattle.syscalls.proofs.Vocabulary.{◌≡◌, ◌≢◌, ℕ, List, [], Bool, true, false, Option, Some, None, refl, sym, ap, ◌∙◌, subst, ◌==◌, if◌then◌else◌, is_some, IsSome, MatchOption, option_map, Name, eq_is, eq_self, GuardState, Inode, Hand, Seat, One, Two, inode_at, reference_at, with_aside, with_inode, with_listed, with_reference, with_txn, IsEmpty, HasNoBuffer, unloaded, without_content, note_at, HasFound, free_seat, locks, other, refers, seat_of_lock, seat_of_reference, Note, Notes, Having}
 
 -- at a seat: nothing; a reference to inode n; its lock too, with the record, and also with a name that was found; or without the record; the lock alone
 pub data Held : Type 0 where

@@ -1,10 +1,5 @@
 -- What a call under way has in hand stays its hart's while another hart makes a step.
-use Rattle.std.proofs.Common.{◌≢◌, ℕ, sym, ◌∙◌}
-use Rattle.fs_machine.specs.Stays.{LeavesAll}
-use Rattle.fs_machine.specs.Steps.{State}
-use Rattle.fs_machine.specs.Tied.{IsOwn, IsOwnInode, LeavesTied}
-use Rattle.fs_machine.proofs.Fits.{hand-stays}
-use Rattle.syscalls.specs.Machines.{Running, RunningFits}
+use Rattle.syscalls.proofs.Vocabulary.{◌≢◌, ℕ, sym, ◌∙◌, LeavesAll, State, IsOwn, IsOwnInode, LeavesTied, hand-stays, Running, RunningFits}
 
 -- hart g steps from s to t, and hart h is another one
 module _ (h g : ℕ) (s t : State) (other : h ≢ g) (leaves : LeavesTied g s t) where

@@ -1,30 +1,11 @@
 -- unlink runs with nothing in hand.
-use Rattle.std.proofs.Common.{◌≡◌, ◌≢◌, ◌-◌, ℕ, List, length, Bool, true, false, Option, Some, None, refl, sym, ap, ◌∙◌, inl}
-use Rattle.std.specs.Prelude.{◌==◌, ◌||◌, not, if◌then◌else◌, IsSome}
-use Rattle.plain_tree.specs.Tree.{Name, dot, dotdot, elements, same_name}
-use Rattle.plain_tree.specs.declared.answer.Cause.TheVariants.{DotName, NoEntry, NotEmpty}
-use Rattle.plain_tree.specs.declared.answer.Full.TheVariants.{MemInodes}
-use Rattle.plain_tree.specs.declared.answer.Reply.{Reply}
+use Rattle.syscalls.proofs.Vocabulary.{◌≡◌, ◌≢◌, ◌-◌, ℕ, List, length, Bool, true, false, Option, Some, None, refl, sym, ap, ◌∙◌, inl, ◌==◌, ◌||◌, not, if◌then◌else◌, IsSome, Name, dot, dotdot, elements, same_name, DotName, NoEntry, NotEmpty, MemInodes, Reply, eq_self, Do, unmarked, IsEmpty, Look, AtEntries, Face, Sight, face_or, is_directory_sort, is_live_face, always, clear_name, is_missing, lower_parent, or_missing, unlink_child, unlink_dots, unlink_found, unlink_in, unlink_named, unlink_other, unlink_program, P, done, failed, full, give_up, looks_if, looks_where, makes, tail, IsCall, BeginsWith, Having, IsCounted, Leaves, Runs}
 use Rattle.plain_tree.specs.declared.call.Call.TheVariants as calls
 use Rattle.plain_tree.specs.declared.step.Action.TheVariants as steps
-use Rattle.tree_laws.proofs.Maps.{eq_self}
-use Rattle.atomic_programs.specs.Prog.{Do, unmarked}
-use Rattle.fs_machine.specs.Empty.{IsEmpty}
-use Rattle.tree_laws.specs.Moves.Move.{Look}
-use Rattle.inode_machine.specs.Inodes.{AtEntries, Face, Sight, face_or, is_directory_sort, is_live_face}
-use Rattle.inode_machine.specs.Naming.{always, clear_name, is_missing, lower_parent, or_missing, unlink_child, unlink_dots, unlink_found, unlink_in, unlink_named, unlink_other, unlink_program}
-use Rattle.inode_machine.specs.Parts.{P, done, failed, full, give_up, looks_if, looks_where, makes, tail}
 use Rattle.inode_machine.specs.World as above
-use Rattle.whole_calls.specs.Wholes.{IsCall}
-use Rattle.inode_parts.specs.Expecting.{BeginsWith}
-use Rattle.inode_parts.specs.Holding.{Having, IsCounted, Leaves, Runs}
-use Rattle.syscalls.proofs.Names.{path_names}
-use Rattle.syscalls.proofs.Seats.{Around, Finds, Held, InHand, Locks, Nothing, Refers, empty_in, swapped}
-use Rattle.syscalls.proofs.Holdings.{locked, may_refer, take_found, upped}
+use Rattle.syscalls.proofs.Basics.{path_names, Around, Finds, Held, InHand, Locks, Nothing, Refers, empty_in, swapped, locked, may_refer, take_found, upped, give_up_runs, all_of, beside_it, came, in_parent_runs, tail_runs, take_runs, turned}
 use Rattle.syscalls.proofs.Running as running
-use Rattle.syscalls.proofs.Running.{give_up_runs}
 use Rattle.syscalls.proofs.Changing.{Few, clears, few_or, knows_less, less, looks, refuses, stores}
-use Rattle.syscalls.proofs.Walking.{all_of, beside_it, came, in_parent_runs, tail_runs, take_runs, turned}
 
 module _ (path : List ℕ) where
   abbrev R : P Reply → Having → Type 0

@@ -1,29 +1,8 @@
 -- A walk, and the end of a call with a list, run with what they need in hand; so does chdir.
-use Rattle.std.proofs.Common.{◌≡◌, ◌<◌, ◌≤◌, ℕ, suc, ◌+◌, List, [], ◌∷◌, length, length-append, Bool, true, false, Option, Some, None, refl, sym, subst, inl, inr, arith}
-use Rattle.std.specs.Prelude.{if◌then◌else◌}
-use Rattle.plain_tree.specs.Tree.{Name, elements, is_absolute}
-use Rattle.plain_tree.specs.declared.answer.Cause.TheVariants.{NoEntry, NotDirectory}
-use Rattle.plain_tree.specs.declared.answer.Reply.{Reply}
-use Rattle.plain_tree.specs.declared.call.Call.{Call}
+use Rattle.syscalls.proofs.Vocabulary.{◌≡◌, ◌<◌, ◌≤◌, ℕ, suc, ◌+◌, List, [], ◌∷◌, length, length-append, Bool, true, false, Option, Some, None, refl, sym, subst, inl, inr, arith, if◌then◌else◌, Name, elements, is_absolute, NoEntry, NotDirectory, Reply, Call, Action, Do, unmarked, Seat, IsEmpty, AtName, AtNothing, Query, Sight, is_directory_face, Begin, in_parent, chdir_at, chdir_program, NoMemory, NotThere, P, Stop, done, drop, failed, free_all, free_listed, give_up, leave_directory, looks_or_quits, makes, quits_unless, say, start, start_on, stopped, tail, walk, walk_parent, walk_step, with_last, Frees, listed_places, IsCall, MayRefer, seat_of_lock, seat_of_reference, BeginsWith, CameTo, Having, IsCounted, Leaves, ReferredOrAside, Runs, Stand, IsName}
 use Rattle.plain_tree.specs.declared.call.Call.TheVariants as calls
-use Rattle.plain_tree.specs.declared.step.Action.{Action}
 use Rattle.plain_tree.specs.declared.step.Action.TheVariants as steps
-use Rattle.atomic_programs.specs.Prog.{Do, unmarked}
-use Rattle.fs_machine.specs.declared.hand.Seat.{Seat}
-use Rattle.fs_machine.specs.Empty.{IsEmpty}
-use Rattle.inode_machine.specs.Inodes.{AtName, AtNothing, Query, Sight, is_directory_face}
-use Rattle.tree_laws.specs.Moves.Move.{Begin}
-use Rattle.inode_machine.specs.Naming.{in_parent}
-use Rattle.inode_machine.specs.Moving.{chdir_at, chdir_program}
-use Rattle.inode_machine.specs.Parts.{NoMemory, NotThere, P, Stop, done, drop, failed, free_all, free_listed, give_up, leave_directory, looks_or_quits, makes, quits_unless, say, start, start_on, stopped, tail, walk, walk_parent, walk_step, with_last}
 use Rattle.inode_machine.specs.World as above
-use Rattle.inode_machine.specs.World.Mark.{Frees}
-use Rattle.fs_machine.specs.Limits.{listed_places}
-use Rattle.whole_calls.specs.Wholes.{IsCall}
-use Rattle.inode_parts.specs.OneSteps.{MayRefer, seat_of_lock, seat_of_reference}
-use Rattle.inode_parts.specs.Expecting.{BeginsWith}
-use Rattle.inode_parts.specs.Holding.{CameTo, Having, IsCounted, Leaves, ReferredOrAside, Runs, Stand}
-use Rattle.fs_layout.specs.Name.{IsName}
 use Rattle.syscalls.proofs.Names.{AllNames}
 use Rattle.syscalls.proofs.Seats.{Apart, Around, Held, InHand, Locks, Nothing, Refers, empty_in, seated, seated_apart, seated_closed, swapped}
 use Rattle.syscalls.proofs.Holdings.{at_its_lock, found, free_found, locked, locked_seat, lock_found, may_refer, put_aside, reference_found, referred, relocked, relocking, settled, take_found, unreferred, upped, walked_down}

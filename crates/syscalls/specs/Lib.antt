@@ -1,2 +1,3 @@
+pub mod Vocabulary
 pub mod Machines
 pub mod Places

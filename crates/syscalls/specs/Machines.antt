@@ -1,12 +1,6 @@
 -- A call under way, with all that its hart has in hand.
-use Rattle.plain_tree.specs.declared.answer.Reply.{Reply}
+use Rattle.syscalls.specs.Vocabulary.{Reply, State, P, HandFits, Machine, lowered_left, LoweredReady, Lowered}
 use Rattle.std.specs.Prelude.{ℕ}
-use Rattle.fs_machine.specs.Steps.{State}
-use Rattle.fs_machine.specs.Machines.{P}
-use Rattle.fs_machine.specs.Hands.{HandFits}
-use Rattle.fs_machine.specs.declared.control.Machine.{Machine}
-use Rattle.inode_parts.specs.Calls.{lowered_left, LoweredReady}
-use Rattle.inode_parts.specs.declared.lowered.Lowered.{Lowered}
 
 abbrev pub Running : Type 0
 Running = Machine Lowered (Unit {0})

@@ -1,19 +1,6 @@
 -- The place of a hart's call, and a step of what stands there.
 use Rattle.std.specs.Prelude.{◌≡◌, ℕ, List, Bool, true, false, Option, Some, None, IsSome}
-use Rattle.fs_layout.specs.declared.superblock.Super.{Super}
-use Rattle.plain_tree.specs.declared.answer.Reply.{Reply}
-use Rattle.plain_tree.specs.declared.call.Call.{Call}
-use Rattle.atomic_programs.specs.Machines.{Left, Still, stepped_at}
-use Rattle.atomic_programs.specs.declared.machines.Came.{Came}
-use Rattle.atomic_programs.specs.declared.machines.Came.TheVariants.{Waits, Ran, Done, Stopped}
-use Rattle.fs_machine.specs.Steps.{State, state_of}
-use Rattle.fs_machine.specs.Machines.{Answers, CallsOnce, Moves}
-use Rattle.fs_machine.specs.Tied.{LeavesTied}
-use Rattle.fs_machine.specs.declared.kind.Kind.{Kind}
-use Rattle.fs_machine.specs.declared.shared.Core.{Core}
-use Rattle.inode_machine.specs.Programs.{program}
-use Rattle.inode_parts.specs.Parts.{lowered}
-use Rattle.inodes_on_blocks.specs.Lowering.{nothing}
+use Rattle.syscalls.specs.Vocabulary.{Super, Reply, Call, Left, Still, stepped_at, Came, Waits, Ran, Done, Stopped, State, state_of, Answers, CallsOnce, Moves, LeavesTied, Kind, Core, program, lowered, nothing}
 use Rattle.syscalls.specs.Machines.{Running, running_of, RunningFits}
 
 -- what is seen of a place, by whether a call is under way there

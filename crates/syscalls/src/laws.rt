@@ -1,10 +1,7 @@
 //! Laws about calls over whole inodes, by what is in hand.
 ghost use Rattle.std.specs.Prelude.{ℕ, List, []};
-ghost use Rattle.plain_tree.specs.declared.call.Call.{Call};
+ghost use Rattle.syscalls.specs.Vocabulary.{Call, IsCall, path_of, RunsByParts, RunsAlone};
 ghost use Rattle.plain_tree.specs.declared.call.Call.TheVariants as calls;
-ghost use Rattle.whole_calls.specs.Wholes.{IsCall};
-ghost use Rattle.inode_parts.specs.Calls.{path_of, RunsByParts};
-ghost use Rattle.inode_parts.specs.Expecting.{RunsAlone};
 
 /// Each operation of these calls finds in hand what it asks, whatever those before it answered, and at the end nothing is in hand.
 pub fn calls_find_what_they_ask()

@@ -4,5 +4,5 @@
 mod laws;
 mod place;
 
-pub use place::CallPlace;
 pub use laws::{calls_find_what_they_ask, calls_run_by_parts};
+pub use place::CallPlace;

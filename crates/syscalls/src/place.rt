@@ -9,13 +9,12 @@ ghost use Rattle.inode_parts.specs.Sizes.{IsSized};
 ghost use Rattle.syscalls.specs.Machines.{running_of, RunningFits};
 ghost use Rattle.syscalls.specs.Places.{with_reply, HasBegun, IsReplied, StepsAt};
 
+use crate::calls_run_by_parts;
 use atomic_programs::machines::{Came, put};
 use block_device::Device;
 use buffer_cache::HARTS;
-use crate::calls_run_by_parts;
 use fs_layout::Super;
-use fs_machine::{Core, Kind, RetiredCore};
-use fs_machine::{Answer, Hand, Machine};
+use fs_machine::{Answer, Core, Hand, Kind, Machine, RetiredCore};
 use inode_parts::Lowered;
 use path_walk::Heard;
 use plain_tree::{Call, Reply};

@@ -1,23 +1,7 @@
 -- A step that acted on the tree, as the move of a walk makes it.
-use Rattle.std.proofs.Common.{◌≡◌, ℕ, Bool, true, false, nat_lt, Option, Some, None, refl, sym, ◌∙◌, ap, subst}
-use Rattle.std.specs.Option.{option_map}
-use Rattle.plain_tree.specs.declared.answer.Cause.{Cause}
-use Rattle.plain_tree.specs.declared.call.Call.{Call}
+use Rattle.tree_histories.proofs.Vocabulary.{◌≡◌, ℕ, Bool, true, false, nat_lt, Option, Some, None, refl, sym, ◌∙◌, ap, subst, option_map, Cause, Call, Action, OpenStep as Open, Truncate, ReadStep as Read, WritePart, Find, Bump, Enter, Unbump, UnlinkStep as Unlink, MkdirStep as Mkdir, ChdirStep as Chdir, DupStep as Dup, CloseStep as Close, FstatStep as Fstat, InheritStep as Inherit, StepAnswer, TreeStep, IsAppliedAt, IsBadChoice, Outcome, applied, in_place, IsInPlace, IsNewNode, makes_node, path_of, place_of, refusal, refused, Name, Tree, parent, resolve, settle, hart_count, and_true, Made, act_all, act_answer, acts, own_made, refused_all, Deed, ActedOn, ActsSo, new_in, step_for}
 use Rattle.plain_tree.specs.declared.call.Call.TheVariants as calls
-use Rattle.plain_tree.specs.declared.step.Action.{Action}
-use Rattle.plain_tree.specs.declared.step.Action.TheVariants.{Open, Truncate, Read, WritePart, Find, Bump, Enter, Unbump, Unlink, Mkdir, Chdir, Dup, Close, Fstat, Inherit}
-use Rattle.plain_tree.specs.declared.step.StepAnswer.{StepAnswer}
-use Rattle.plain_tree.specs.declared.step.TreeStep.{TreeStep}
-use Rattle.plain_tree.specs.Applied.{IsAppliedAt, IsBadChoice, Outcome, applied, in_place}
-use Rattle.plain_tree.specs.Steps.{IsInPlace, IsNewNode, makes_node, path_of, place_of, refusal, refused}
-use Rattle.plain_tree.specs.Tree.{Name, Tree, parent, resolve, settle}
-use Rattle.plain_tree.specs.Widths.{hart_count}
-use Rattle.tree_laws.proofs.Maps.{and_true}
 use Rattle.tree_laws.specs.Moves as moves
-use Rattle.inode_machine.specs.Marks.{Made, act_all, act_answer, acts, own_made, refused_all}
-use Rattle.tree_histories.specs.declared.kept.Deed.{Deed}
-use Rattle.tree_histories.specs.Moving.{ActedOn, ActsSo, new_in}
-use Rattle.tree_histories.specs.Walks.{step_for}
 
 -- a step that isn't a raise changes nothing where it is refused
 pub refused_same : (t : Tree) (h : ℕ) (c : Call) (b : Bool) → refused t h (step_for c b) ≡ t

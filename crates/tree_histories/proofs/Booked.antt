@@ -1,25 +1,7 @@
 -- The list that code keeps goes on as the theory's history does.
-use Rattle.std.proofs.Common.{◌≡◌, ◌≢◌, ◌⊎◌, inl, inr, ℕ, zero, suc, ◌+◌, ◌-◌, ◌^◌, ◌<◌, ◌==◌, List, [], ◌∷◌, ◌++◌, replicate, get_or, length, Option, Some, None, refl, sym, ◌∙◌, ap, subst, arith, append_assoc, append-nil}
-use Rattle.std.proofs.lemmas.Bool.{cases_eq}
-use Rattle.std.proofs.lemmas.List.{length_push}
-use Rattle.std.proofs.Math.ListN.{length-set}
-use Rattle.tree_histories.specs.declared.explore.Hint.{Hint}
-use Rattle.plain_tree.specs.declared.answer.Reply.{Reply}
-use Rattle.plain_tree.specs.declared.call.Call.{Call}
-use Rattle.plain_tree.specs.declared.trace.Placed.{Placed}
-use Rattle.plain_tree.specs.Calls.{Act}
-use Rattle.plain_tree.specs.Explains.{acts_of, ends_at}
-use Rattle.plain_tree.specs.Tree.{put}
-use Rattle.plain_tree.specs.TreeData.{TreeData}
-use Rattle.plain_tree.specs.Widths.{hart_count}
-use Rattle.tree_laws.proofs.Maps.{either, eq_self, eq_not, put_same, put_other}
-use Rattle.tree_laws.specs.History.{History, HartStanding, entry_of, replies, starts, tells, tells_any, writes, writes_any}
-use Rattle.tree_laws.specs.History.HartStanding.{Free, Busy}
+use Rattle.tree_histories.proofs.Vocabulary.{◌≡◌, ◌≢◌, ◌⊎◌, inl, inr, ℕ, zero, suc, ◌+◌, ◌-◌, ◌^◌, ◌<◌, ◌==◌, List, [], ◌∷◌, ◌++◌, replicate, get_or, length, Option, Some, None, refl, sym, ◌∙◌, ap, subst, arith, append_assoc, cases_eq, length_push, length-set, Hint, Reply, Call, Placed, Act, acts_of, ends_at, put, TreeData, hart_count, either, eq_self, eq_not, put_same, put_other, History, HartStanding, entry_of, replies, starts, tells, tells_any, writes, writes_any, Free, Busy, map_length, nothing_yet, IsBook, StandsAs, hint_of, hints_after, hints_of, HasStarted, KeptTree, Under, capped, counted, hart_in, hint_by, more_made, nothing_kept, passed, with_hart, written, written_by}
+use Rattle.std.proofs.Common.{append-nil}
 use Rattle.tree_laws.specs.Moves as moves
-use Rattle.tree_laws.proofs.Lists.{map_length}
-use Rattle.inode_machine.specs.Kept.{nothing_yet}
-use Rattle.tree_histories.specs.Books.{IsBook, StandsAs, hint_of, hints_after, hints_of}
-use Rattle.tree_histories.specs.Keeping.{HasStarted, KeptTree, Under, capped, counted, hart_in, hint_by, more_made, nothing_kept, passed, with_hart, written, written_by}
 use Rattle.tree_histories.proofs.Harts.{is_hart, other_hart, same_hart}
 
 acts_more : (id : ℕ) (xs : List Placed) (e : Placed) → e.call ≡ id → length (acts_of id (xs ++ e ∷ [])) ≡ length (acts_of id xs) + 1

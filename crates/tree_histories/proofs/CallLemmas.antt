@@ -1,22 +1,6 @@
 -- What a list has of one call, with one step more or one less.
-use Rattle.std.proofs.Common.{◌≡◌, ◌≢◌, ℕ, ◌+◌, ◌-◌, ◌/◌, ◌<◌, nat_lt, true, false, List, [], ◌∷◌, ◌++◌, length, ◌==◌, refl, sym, ◌∙◌, ap, subst, append_assoc, inl, inr, arith, Option, Some, None, if◌then◌else◌}
-use Rattle.std.proofs.lemmas.List.{append-nil}
-use Rattle.std.proofs.lemmas.Bool.{cases_Bool}
-use Rattle.std.proofs.lemmas.Bool.Decides.{nat_tests}
-use Rattle.plain_tree.specs.declared.answer.Reply.{Reply}
-use Rattle.plain_tree.specs.declared.call.Call.{Call}
-use Rattle.plain_tree.specs.declared.call.Call.TheVariants.{Write, Link}
-use Rattle.plain_tree.specs.declared.step.Action.{Action}
-use Rattle.plain_tree.specs.declared.step.StepAnswer.{StepAnswer}
-use Rattle.plain_tree.specs.declared.step.StepAnswer.TheVariants.{Opened, Bytes, Stat as Status, Fd as NewFd, Done, Failed, Full as NoRoom}
-use Rattle.plain_tree.specs.declared.trace.TracedCall.{TracedCall}
-use Rattle.plain_tree.specs.Steps.{is_nothing}
-use Rattle.plain_tree.specs.Checked.{is_full}
-use Rattle.plain_tree.specs.Calls.{Act, Follows, IsWhole, counted, first_cause, had_room, last_cause, linked, next_of, piece_count, reply_of}
-use Rattle.plain_tree.specs.Explains.{IsWritten}
-use Rattle.tree_histories.specs.declared.stand.Stand.{Stand}
-use Rattle.tree_histories.specs.Stands.{after, is_told, next_from, reply_at, stand_from, stand_of, start}
-use Rattle.tree_histories.specs.Searching.{AgreesWith, Fits, IsOfCall, end_of, knows}
+use Rattle.tree_histories.proofs.Vocabulary.{◌≡◌, ◌≢◌, ℕ, ◌+◌, ◌-◌, ◌/◌, ◌<◌, nat_lt, true, false, List, [], ◌∷◌, ◌++◌, length, ◌==◌, refl, sym, ◌∙◌, ap, subst, append_assoc, inl, inr, arith, Option, Some, None, if◌then◌else◌, append-nil, cases_Bool, nat_tests, Reply, Call, Write, Link, Action, StepAnswer, Opened, Bytes, Status, NewFd, Done, Failed, NoRoom, TracedCall, is_nothing, is_full, Act, Follows, IsWhole, first_cause, had_room, last_cause, linked, next_of, piece_count, reply_of, IsWritten, Stand, after, is_told, next_from, reply_at, stand_from, stand_of, start, AgreesWith, Fits, IsOfCall, end_of, knows}
+use Rattle.plain_tree.specs.Calls.{counted}
 use Rattle.tree_histories.proofs.StandLemmas.{equal_is, equal_not, next_is, stand_cause, stand_count, stand_push}
 
 pub follows_push : (c : Call) (before acts : List Act) (a : Act) → Follows c before acts → next_of c (before ++ acts) ≡ Some a.step → Follows c before (acts ++ a ∷ [])

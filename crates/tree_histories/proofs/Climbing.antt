@@ -1,6 +1,5 @@
 -- Whether a path climbs, element by element.
-use Rattle.std.proofs.Common.{◌≡◌, ℕ, true, false, ◌||◌, List, [], ◌∷◌, refl, ap, ◌∙◌}
-use Rattle.plain_tree.specs.Tree.{Name, climbs, climbs_in, dotdot, elements, same_name}
+use Rattle.tree_histories.proofs.Vocabulary.{◌≡◌, ℕ, true, false, ◌||◌, List, [], ◌∷◌, refl, ap, ◌∙◌, Name, climbs, climbs_in, dotdot, elements, same_name}
 
 climbs_at : (e : Name) (es : List Name) → climbs_in (e ∷ es) ≡ (same_name e dotdot || climbs_in es)
 unfolding climbs_in

@@ -1,19 +1,5 @@
 -- What can still come after a list.
-use Rattle.std.proofs.Common.{◌≡◌, ◌≢◌, ℕ, ◌≤◌, true, List, [], ◌∷◌, ◌++◌, refl, sym, ◌∙◌, ap, subst, append_assoc, inl, inr, arith, Option, Some, None}
-use Rattle.std.specs.List.{slice_get}
-use Rattle.std.proofs.lemmas.List.{append-nil}
-use Rattle.std.proofs.lemmas.Bool.{cases_Bool, cases_eq}
-use Rattle.plain_tree.specs.declared.answer.Reply.{Reply}
-use Rattle.plain_tree.specs.declared.trace.Placed.{Placed}
-use Rattle.plain_tree.specs.declared.trace.Trace.{Trace}
-use Rattle.plain_tree.specs.declared.trace.TracedCall.{TracedCall}
-use Rattle.plain_tree.specs.Tree.{Tree}
-use Rattle.plain_tree.specs.Steps.{Step, is_nothing}
-use Rattle.plain_tree.specs.Calls.{Act, next_of}
-use Rattle.plain_tree.specs.Checked.{Leads}
-use Rattle.plain_tree.specs.Explains.{AllBelong, Belongs, Chain, IsInTime, IsWritten, Rises, act_of, acts_of}
-use Rattle.tree_histories.specs.declared.stand.Stand.{Stand}
-use Rattle.tree_histories.specs.Searching.{CanEnd, IsOfCall, end_of}
+use Rattle.tree_histories.proofs.Vocabulary.{◌≡◌, ◌≢◌, ℕ, ◌≤◌, true, List, [], ◌∷◌, ◌++◌, refl, sym, ◌∙◌, ap, subst, append_assoc, inl, inr, arith, Option, Some, None, slice_get, append-nil, cases_Bool, cases_eq, Reply, Placed, Trace, TracedCall, Tree, Step, is_nothing, Act, next_of, Leads, AllBelong, Belongs, Chain, IsInTime, IsWritten, Rises, act_of, acts_of, Stand, CanEnd, IsOfCall, end_of}
 use Rattle.tree_histories.proofs.StandLemmas.{acts_none, acts_other, acts_own, push_other, push_own}
 
 rises_more : (low : ℕ) (e : Placed) (es : List Placed) → Rises low (e ∷ es) → (low ≤ e.event) × Rises e.event es

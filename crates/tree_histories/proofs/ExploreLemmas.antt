@@ -1,23 +1,7 @@
 -- What a search finds, and what it rules out.
-use Rattle.std.proofs.Common.{◌≡◌, ◌≢◌, ℕ, ◌<◌, ◌≤◌, Bool, true, false, List, [], ◌∷◌, ◌++◌, length, get_or, refl, sym, ◌∙◌, ap, subst, inl, inr, arith, Some, None}
-use Rattle.std.specs.List.{slice_get}
-use Rattle.std.proofs.lemmas.List.{get_or_past}
-use Rattle.std.proofs.lemmas.Option.{slice_get_cases}
-use Rattle.plain_tree.specs.declared.trace.Placed.{Placed}
-use Rattle.plain_tree.specs.declared.trace.Trace.{Trace}
-use Rattle.plain_tree.specs.TreeData.{TreeData}
-use Rattle.plain_tree.specs.Tree.{Tree, tree_of}
-use Rattle.plain_tree.specs.Explains.{Chain, Explains, IsWritten, acts_of}
-use Rattle.plain_tree.proofs.StepLaws.{chain_one}
-use Rattle.tree_histories.specs.declared.explore.Tried.{Tried}
+use Rattle.tree_histories.proofs.Vocabulary.{◌≡◌, ◌≢◌, ℕ, ◌<◌, ◌≤◌, Bool, true, false, List, [], ◌∷◌, ◌++◌, length, get_or, refl, sym, ◌∙◌, ap, subst, inl, inr, arith, Some, None, slice_get, get_or_past, slice_get_cases, Placed, Trace, TreeData, Tree, tree_of, Chain, Explains, IsWritten, acts_of, chain_one, Tried, Due, Placing, Position, start, IsDue, CallIsExplored, CanEnd, HasFound, IsExplored, IsPlaced, IsTried, IsAt, IsDead, IsDeadWith, IsEarliest, IsHopeless, IsKept, IsMade, IsOfCall, IsSteppedOn, IsUndone, NeedsNumber, last_event, left, steps_left}
 use Rattle.tree_histories.specs.declared.explore.Tried.TheVariants as tried
-use Rattle.tree_histories.specs.declared.ends.Due.{Due}
-use Rattle.tree_histories.specs.declared.position.Placing.{Placing}
 use Rattle.tree_histories.specs.declared.position.Placing.TheVariants as placing
-use Rattle.tree_histories.specs.declared.position.Position.{Position}
-use Rattle.tree_histories.specs.Stands.{start}
-use Rattle.tree_histories.specs.Ordered.{IsDue}
-use Rattle.tree_histories.specs.Searching.{CallIsExplored, CanEnd, HasFound, IsExplored, IsPlaced, IsTried, IsAt, IsDead, IsDeadWith, IsEarliest, IsHopeless, IsKept, IsMade, IsOfCall, IsSteppedOn, IsUndone, NeedsNumber, last_event, left, steps_left}
 use Rattle.tree_histories.proofs.StandLemmas.{acts_none}
 use Rattle.tree_histories.proofs.CallLemmas.{some_not, written_end}
 use Rattle.tree_histories.proofs.EndLemmas.{First, first, not_nothing}

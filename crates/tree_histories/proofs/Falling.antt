@@ -1,27 +1,8 @@
 -- The walks that a move loses fail, and what is kept is what the theory keeps.
-use Rattle.std.proofs.Common.{◌≡◌, ℕ, ◌+◌, ◌⊎◌, inl, inr, ◌<◌, Bool, true, false, ◌&&◌, not, List, length, get_or, Option, Some, None, Result, Ok, Err, IfOk, refl, sym, ◌∙◌, ap, subst, arith, add-one, if◌then◌else◌, get_or-set_other, get_or-set_same}
-use Rattle.std.specs.Option.{option_map}
-use Rattle.std.proofs.Math.ListN.{set, length-set}
-use Rattle.std.proofs.lemmas.Bool.{cases_eq}
-use Rattle.plain_tree.specs.declared.step.Action.{Action}
-use Rattle.plain_tree.specs.Steps.{is_nothing}
-use Rattle.plain_tree.specs.Tree.{Tree, live_directory}
-use Rattle.plain_tree.specs.Widths.{hart_count}
-use Rattle.plain_tree.specs.declared.trace.Placed.{Placed}
-use Rattle.tree_laws.specs.History.{History, HartStanding, tells_any, writes_any}
-use Rattle.tree_laws.specs.History.HartStanding.{Free, Busy}
+use Rattle.tree_histories.proofs.Vocabulary.{◌≡◌, ℕ, ◌+◌, ◌⊎◌, inl, inr, ◌<◌, Bool, true, false, ◌&&◌, not, List, length, get_or, Option, Some, None, Result, Ok, Err, IfOk, refl, sym, ◌∙◌, ap, subst, arith, add-one, if◌then◌else◌, option_map, length-set, cases_eq, Action, is_nothing, Tree, live_directory, hart_count, Placed, History, HartStanding, tells_any, writes_any, Free, Busy, Move, Stage, fail, all_fall, falls, lost, lost_of, unless, Makes, stage_by, told_by_move, mark_in, Mark, action_in, Deed, IsBook, StandsAs, KeptTree, Under, hart_in, is_lost, stage_of, walk_under, walking, written, HaveFallen, IsMoved, MayMake, MovesBy, NoneFalls, OnlyMoves, StaysFor, Tells, TellsOf, WereLost, makes_none, new_in, told_in}
+use Rattle.std.proofs.Common.{get_or-set_other, get_or-set_same}
+use Rattle.std.proofs.Math.ListN.{set}
 use Rattle.tree_laws.specs.Moves as moves
-use Rattle.tree_laws.specs.Moves.{Move, Stage, fail}
-use Rattle.tree_laws.specs.Runs.{all_fall, falls, lost, lost_of, unless}
-use Rattle.inode_machine.specs.World.Mark.{Makes}
-use Rattle.inode_machine.specs.Kept.{stage_by, told_by_move}
-use Rattle.path_walk.specs.Asks.{mark_in}
-use Rattle.path_walk.specs.declared.asks.Mark.{Mark}
-use Rattle.whole_calls.specs.Wholes.{action_in}
-use Rattle.tree_histories.specs.declared.kept.Deed.{Deed}
-use Rattle.tree_histories.specs.Books.{IsBook, StandsAs}
-use Rattle.tree_histories.specs.Keeping.{KeptTree, Under, hart_in, is_lost, stage_of, walk_under, walking, written}
-use Rattle.tree_histories.specs.Moving.{HaveFallen, IsMoved, MayMake, MovesBy, NoneFalls, OnlyMoves, StaysFor, Tells, TellsOf, WereLost, makes_none, new_in, told_in}
 use Rattle.tree_histories.proofs.Booked.{book_tells, book_written}
 use Rattle.tree_histories.proofs.Harts.{stage_written}
 

@@ -1,17 +1,8 @@
 -- One hart's call in what is kept is put, and what is then seen of all.
-use Rattle.std.proofs.Common.{◌≡◌, ◌≢◌, inl, inr, ℕ, zero, suc, ◌<◌, List, [], ◌∷◌, length, get_or, Option, Some, None, refl, sym, ◌∙◌, ap, get_or-set_other, get_or-set_same}
-use Rattle.std.specs.Option.{option_map}
-use Rattle.std.proofs.Math.ListN.{set, get_or-eq_default}
-use Rattle.std.proofs.lemmas.Bool.{cases_lt}
-use Rattle.plain_tree.specs.Tree.{put, tree_of}
-use Rattle.plain_tree.specs.TreeData.{TreeData}
-use Rattle.plain_tree.proofs.TreeLemmas.{put_back, set_put}
+use Rattle.tree_histories.proofs.Vocabulary.{◌≡◌, ◌≢◌, inl, inr, ℕ, zero, suc, ◌<◌, List, [], ◌∷◌, length, get_or, Option, Some, None, refl, sym, ◌∙◌, ap, option_map, get_or-eq_default, cases_lt, put, tree_of, TreeData, put_back, set_put, Stage, call_in, Walk, KeptTree, Under, hart_in, more_made, stage_of, walk_under, walking, with_hart, with_walk, written, written_by, walk_of}
+use Rattle.std.proofs.Common.{get_or-set_other, get_or-set_same}
+use Rattle.std.proofs.Math.ListN.{set}
 use Rattle.tree_laws.specs.Moves as moves
-use Rattle.tree_laws.specs.Moves.{Stage}
-use Rattle.whole_calls.specs.Wholes.{call_in}
-use Rattle.tree_histories.specs.declared.standing.Walk.{Walk}
-use Rattle.tree_histories.specs.Keeping.{KeptTree, Under, hart_in, more_made, stage_of, walk_under, walking, with_hart, with_walk, written, written_by}
-use Rattle.tree_histories.specs.Walks.{walk_of}
 
 set_twice : {A : Type 0} (xs : List A) (n : ℕ) (a b : A) → set (set xs n a) n b ≡ set xs n b
 set_twice [] n a b = refl

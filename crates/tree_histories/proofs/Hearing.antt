@@ -1,8 +1,5 @@
 -- A call starts, and goes on.
-use Rattle.std.proofs.Common.{◌≡◌, ℕ, true, Option, Some, None, refl, sym, ◌∙◌, ap, subst}
-use Rattle.plain_tree.specs.declared.call.Call.{Call}
-use Rattle.path_walk.specs.declared.asks.Heard.{Heard}
-use Rattle.tree_histories.specs.Keeping.{HasHeard, HasStarted, HearsSo, HeardBy, IsNewCall, KeptTree, Under, counted, hart_in, passed, with_hart}
+use Rattle.tree_histories.proofs.Vocabulary.{◌≡◌, ℕ, true, Option, Some, None, refl, sym, ◌∙◌, ap, subst, Call, Heard, HasHeard, HasStarted, HearsSo, HeardBy, IsNewCall, KeptTree, Under, counted, hart_in, passed, with_hart}
 use Rattle.tree_histories.proofs.Harts.{put_twice}
 
 module _ (k k1 k' : KeptTree) (h : ℕ) (u : Under) (is : hart_in k h ≡ Some u) (taken : k1 ≡ with_hart k h None) where

@@ -1,3 +1,5 @@
+pub mod Lemmas
+pub mod Vocabulary
 pub mod StandLemmas
 pub mod CallLemmas
 pub mod StepLemmas

@@ -1,23 +1,5 @@
 -- A list with one entry more, or one less.
-use Rattle.std.proofs.Common.{◌≡◌, ◌≢◌, ℕ, zero, suc, ◌+◌, ◌-◌, ◌<◌, ◌≤◌, ◌==◌, nat_lt, List, [], ◌∷◌, ◌++◌, take, length, get_or, refl, sym, ◌∙◌, ap, subst, inl, inr, arith, Option, Some, None, if◌then◌else◌}
-use Rattle.std.specs.List.{slice_get}
-use Rattle.std.proofs.lemmas.List.{length_push, take_all, take_more}
-use Rattle.std.proofs.lemmas.Option.{get_or_from_slice_get, slice_get-get_or, slice_get_within}
-use Rattle.std.proofs.lemmas.Bool.{cases_Bool}
-use Rattle.std.proofs.lemmas.Bool.Decides.{nat_tests}
-use Rattle.plain_tree.specs.declared.call.Call.{Call}
-use Rattle.plain_tree.specs.declared.call.Call.TheVariants.{Open, Read, Write, Link, Unlink, Mkdir, Chdir, Dup, Fstat, Close, Inherit}
-use Rattle.plain_tree.specs.declared.step.Action.{Action}
-use Rattle.plain_tree.specs.declared.trace.Placed.{Placed}
-use Rattle.plain_tree.specs.declared.trace.Trace.{Trace}
-use Rattle.plain_tree.specs.declared.trace.TracedCall.{TracedCall}
-use Rattle.plain_tree.specs.Tree.{Tree}
-use Rattle.plain_tree.specs.Steps.{Step}
-use Rattle.plain_tree.specs.Calls.{piece_count}
-use Rattle.plain_tree.specs.Explains.{AllBelong, Belongs, Chain, Rises, act_of, acts_of}
-use Rattle.tree_histories.specs.declared.stand.Stand.{Stand}
-use Rattle.tree_histories.specs.Stands.{next_from}
-use Rattle.tree_histories.specs.Searching.{last_event, left, most}
+use Rattle.tree_histories.proofs.Vocabulary.{◌≡◌, ◌≢◌, ℕ, zero, suc, ◌+◌, ◌-◌, ◌<◌, ◌≤◌, ◌==◌, nat_lt, List, [], ◌∷◌, ◌++◌, take, length, get_or, refl, sym, ◌∙◌, ap, subst, inl, inr, arith, Option, Some, None, if◌then◌else◌, slice_get, length_push, take_all, take_more, get_or_from_slice_get, slice_get-get_or, slice_get_within, cases_Bool, nat_tests, Call, Open, Read, Write, Link, Unlink, Mkdir, Chdir, Dup, Fstat, Close, Inherit, Action, Placed, Trace, TracedCall, Tree, Step, piece_count, AllBelong, Belongs, Chain, Rises, act_of, acts_of, Stand, next_from, last_event, left, most}
 use Rattle.tree_histories.proofs.StandLemmas.{push_other, push_own}
 
 -- The last event.

@@ -1,14 +1,5 @@
 -- The calls that have to go on, in order.
-use Rattle.std.proofs.Common.{◌≡◌, ℕ, zero, suc, ◌+◌, ◌<◌, ◌≤◌, List, [], ◌∷◌, ◌++◌, length, get_or, set, refl, sym, ◌∙◌, ap, subst, inl, inr, arith, Option, Some, None}
-use Rattle.std.specs.List.{Contains}
-use Rattle.std.specs.List.Sorted.{IsNonDecreasingBy, IsPermutation}
-use Rattle.std.proofs.Math.ListN.{get_or-append}
-use Rattle.std.proofs.lemmas.Bool.{cases_eq, cases_lt}
-use Rattle.std.proofs.lemmas.List.{get_or-set_other, get_or-set_same, get_or_past, length_push}
-use Rattle.std.proofs.lemmas.List.Elements.{Contains-push}
-use Rattle.std.proofs.lemmas.List.Sorted.{Contains-permutation}
-use Rattle.tree_histories.specs.declared.ends.Due.{Due}
-use Rattle.tree_histories.specs.Ordered.{IsDue, IsOrdered, StandsFrom}
+use Rattle.tree_histories.proofs.Vocabulary.{◌≡◌, ℕ, zero, suc, ◌+◌, ◌<◌, ◌≤◌, List, [], ◌∷◌, ◌++◌, length, get_or, set, refl, sym, ◌∙◌, ap, subst, inl, inr, arith, Option, Some, None, Contains, IsNonDecreasingBy, IsPermutation, get_or-append, cases_eq, cases_lt, get_or-set_other, get_or-set_same, get_or_past, length_push, Contains-push, Contains-permutation, Due, IsDue, IsOrdered, StandsFrom}
 
 -- ---- the order is made
 

@@ -1,31 +1,6 @@
 -- A step that is placed, and one that is taken back.
-use Rattle.std.proofs.Common.{◌≡◌, ◌≢◌, ℕ, ◌+◌, ◌<◌, ◌≤◌, Bool, true, false, nat_lt, max, List, [], ◌∷◌, ◌++◌, take, drop, length, get_or, set, refl, sym, ◌∙◌, ap, subst, inl, inr, arith, Option, Some, None}
-use Rattle.std.specs.List.{slice_get}
-use Rattle.std.proofs.Math.ListN.{get_or-append}
-use Rattle.std.proofs.Math.Seq.{get_or-append_seam}
-use Rattle.std.proofs.lemmas.Bool.Decides.{nat_tests}
-use Rattle.std.proofs.lemmas.List.{get_or-set_other, get_or-set_same, get_or_past, length-set, length_push, take-append-drop, take_more}
-use Rattle.std.proofs.lemmas.Option.{get_or_from_slice_get, slice_get_past, slice_get_read, slice_get_within}
-use Rattle.std.proofs.lemmas.Bool.{cases_Bool, cases_eq}
-use Rattle.plain_tree.specs.declared.answer.Reply.{Reply}
-use Rattle.plain_tree.specs.declared.step.Action.{Action}
-use Rattle.plain_tree.specs.declared.step.StepAnswer.{StepAnswer}
-use Rattle.plain_tree.specs.declared.trace.Placed.{Placed}
-use Rattle.plain_tree.specs.declared.trace.Trace.{Trace}
-use Rattle.plain_tree.specs.declared.trace.TracedCall.{TracedCall}
-use Rattle.plain_tree.specs.TreeData.{TreeData}
-use Rattle.plain_tree.specs.Tree.{Tree, tree_of}
-use Rattle.plain_tree.specs.Steps.{IsInPlace, Step, is_nothing}
-use Rattle.plain_tree.specs.Applied.{IsApplied}
-use Rattle.plain_tree.specs.Calls.{Act, next_of}
-use Rattle.plain_tree.specs.Checked.{Leads}
-use Rattle.plain_tree.specs.Explains.{AllBelong, Belongs, Chain, IsInTime, Rises, act_of, acts_of}
-use Rattle.plain_tree.proofs.LeadLemmas.{step_placed}
-use Rattle.plain_tree.proofs.StepLaws.{applied_step, chain_one, step_one}
-use Rattle.tree_histories.specs.declared.position.Position.{Position}
-use Rattle.tree_histories.specs.declared.stand.Stand.{Stand}
-use Rattle.tree_histories.specs.Stands.{after, next_from, stand_from, stand_of, start}
-use Rattle.tree_histories.specs.Searching.{AreOfCalls, CanEnd, Fits, IsAt, IsDeadWith, IsEarliest, IsHopeless, IsKept, IsLimit, IsMade, IsOfCall, IsTimely, Precedes, end_at, end_of, last_event, left, most, steps_left}
+use Rattle.tree_histories.proofs.Vocabulary.{◌≡◌, ◌≢◌, ℕ, ◌+◌, ◌<◌, ◌≤◌, Bool, true, false, nat_lt, max, List, [], ◌∷◌, ◌++◌, take, drop, length, get_or, set, refl, sym, ◌∙◌, ap, subst, inl, inr, arith, Option, Some, None, slice_get, get_or-append, get_or-append_seam, nat_tests, get_or-set_other, get_or-set_same, get_or_past, length_push, take-append-drop, take_more, get_or_from_slice_get, slice_get_past, slice_get_read, slice_get_within, cases_Bool, cases_eq, Reply, Action, StepAnswer, Placed, Trace, TracedCall, TreeData, Tree, tree_of, IsInPlace, Step, is_nothing, IsApplied, Act, next_of, Leads, AllBelong, Belongs, Chain, IsInTime, Rises, act_of, acts_of, step_placed, applied_step, chain_one, step_one, Position, Stand, after, next_from, stand_from, stand_of, start, AreOfCalls, CanEnd, Fits, IsAt, IsDeadWith, IsEarliest, IsHopeless, IsKept, IsLimit, IsMade, IsOfCall, IsTimely, Precedes, end_at, end_of, last_event, left, most, steps_left}
+use Rattle.std.proofs.lemmas.List.{length-set}
 use Rattle.tree_histories.proofs.StandLemmas.{next_is, stand_count, stand_push, push_own, push_other, acts_none}
 use Rattle.tree_histories.proofs.CallLemmas.{call_front, call_push, call_start}
 use Rattle.tree_histories.proofs.EndLemmas.{can_swap}

@@ -1,28 +1,5 @@
 -- A list that begins to explain a trace: with one entry more, with one less, and what it rules out.
-use Rattle.std.proofs.Common.{◌≡◌, ◌≢◌, ℕ, ◌<◌, ◌≤◌, List, [], ◌∷◌, ◌++◌, length, get_or, set, sym, ◌∙◌, ap, subst, inl, inr, arith, Option, Some, None}
-use Rattle.std.specs.List.{slice_get}
-use Rattle.std.proofs.lemmas.List.{get_or-set_other, get_or-set_same, get_or_past}
-use Rattle.std.proofs.lemmas.Option.{slice_get_cases}
-use Rattle.std.proofs.lemmas.Bool.{cases_eq}
-use Rattle.plain_tree.specs.declared.answer.Reply.{Reply}
-use Rattle.plain_tree.specs.declared.step.Action.{Action}
-use Rattle.plain_tree.specs.declared.step.StepAnswer.{StepAnswer}
-use Rattle.plain_tree.specs.declared.trace.Placed.{Placed}
-use Rattle.plain_tree.specs.declared.trace.Trace.{Trace}
-use Rattle.plain_tree.specs.declared.trace.TracedCall.{TracedCall}
-use Rattle.plain_tree.specs.TreeData.{TreeData}
-use Rattle.plain_tree.specs.Tree.{Tree, tree_of}
-use Rattle.plain_tree.specs.Steps.{IsInPlace, IsNewNode, Step}
-use Rattle.plain_tree.specs.Applied.{IsApplied, IsBadChoice}
-use Rattle.plain_tree.specs.Calls.{Act, next_of}
-use Rattle.plain_tree.specs.Explains.{IsInTime, IsWritten, act_of, acts_of}
-use Rattle.plain_tree.proofs.LeadLemmas.{step_placed}
-use Rattle.tree_histories.specs.declared.ends.Due.{Due}
-use Rattle.tree_histories.specs.declared.position.Position.{Position}
-use Rattle.tree_histories.specs.declared.stand.Stand.{Stand}
-use Rattle.tree_histories.specs.Stands.{after, next_from, start}
-use Rattle.tree_histories.specs.Ordered.{IsDue}
-use Rattle.tree_histories.specs.Searching.{AreOfCalls, CanEnd, Fits, IsAt, IsDeadWith, IsOfCall, IsTimely, NeedsNumber, last_event, most}
+use Rattle.tree_histories.proofs.Vocabulary.{◌≡◌, ◌≢◌, ℕ, ◌<◌, ◌≤◌, List, [], ◌∷◌, ◌++◌, length, get_or, set, sym, ◌∙◌, ap, subst, inl, inr, arith, Option, Some, None, slice_get, get_or-set_other, get_or-set_same, get_or_past, slice_get_cases, cases_eq, Reply, Action, StepAnswer, Placed, Trace, TracedCall, TreeData, Tree, tree_of, IsInPlace, IsNewNode, Step, IsApplied, IsBadChoice, Act, next_of, IsInTime, IsWritten, act_of, acts_of, step_placed, Due, Position, Stand, after, next_from, start, IsDue, AreOfCalls, CanEnd, Fits, IsAt, IsDeadWith, IsOfCall, IsTimely, NeedsNumber, last_event, most}
 use Rattle.tree_histories.proofs.StandLemmas.{next_is, push_other, push_own}
 use Rattle.tree_histories.proofs.CallLemmas.{some_not, written_fits, written_next}
 use Rattle.tree_histories.proofs.StepLemmas.{applied_is, numbered}

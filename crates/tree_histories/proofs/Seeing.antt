@@ -1,23 +1,10 @@
 -- What the kept tree shows where a call takes an inode's lock.
-use Rattle.std.proofs.Common.{◌≡◌, inl, ℕ, ◌<◌, ◌^◌, List, ◌++◌, Option, Some, refl, sym, ◌∙◌, ap, subst}
-use Rattle.std.proofs.lemmas.List.{append-nil}
-use Rattle.plain_tree.specs.declared.node.Node.{Node}
-use Rattle.plain_tree.specs.Tree.{Name, Tree, look}
-use Rattle.inode_machine.specs.Inodes.{found_in, seen_in}
-use Rattle.inode_machine.specs.World.{Op}
-use Rattle.path_walk.specs.Asks.{op_in, query_in, IsSought, IsSoughtInOne}
-use Rattle.path_walk.specs.Elements.{name_in, IsElement, IsInOne}
+use Rattle.tree_histories.proofs.Vocabulary.{◌≡◌, inl, ℕ, ◌<◌, ◌^◌, List, ◌++◌, Option, Some, refl, sym, ◌∙◌, ap, subst, append-nil, Node, Name, Tree, look, found_in, seen_in, Op, op_in, query_in, IsSought, IsSoughtInOne, name_in, IsElement, IsInOne, Query, Seen, Element, WholeAsks, first_in, second_in, text_in, Whole, SeenFor, ShowsSo}
 use Rattle.path_walk.specs.declared.asks.Ask.TheVariants as ask
 use Rattle.path_walk.specs.declared.asks.Heard.TheVariants as heard
-use Rattle.path_walk.specs.declared.asks.Query.{Query}
 use Rattle.path_walk.specs.declared.asks.Query.TheVariants as query
-use Rattle.path_walk.specs.declared.asks.Sight.{Sight as Seen}
-use Rattle.path_walk.specs.declared.elements.Element.{Element}
-use Rattle.whole_calls.specs.Wholes.{WholeAsks, first_in, second_in, text_in}
 use Rattle.whole_calls.specs.declared.reading.Read.TheVariants as reading
-use Rattle.whole_calls.specs.declared.whole.Whole.{Whole}
 use Rattle.whole_calls.specs.declared.whole.Whole.TheVariants as calling
-use Rattle.tree_histories.specs.Sights.{SeenFor, ShowsSo}
 
 look_same : (ns : ℕ → Option Node) (n : ℕ) (e : Name) → look ns n e ≡ look (λ j. ns n) n e
 unfolding look

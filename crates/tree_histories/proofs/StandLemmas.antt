@@ -1,22 +1,5 @@
 -- How far a call has come, by its steps.
-use Rattle.std.proofs.Common.{◌≡◌, ◌≢◌, ℕ, ◌+◌, Bool, true, false, nat_lt, List, [], ◌∷◌, ◌++◌, length, ◌==◌, refl, sym, ◌∙◌, ap, not, inl, inr, arith, Option, Some, None, if◌then◌else◌}
-use Rattle.std.proofs.lemmas.List.{append-nil}
-use Rattle.std.proofs.lemmas.Bool.{cases_Bool}
-use Rattle.std.proofs.lemmas.Bool.Decides.{nat_tests}
-use Rattle.plain_tree.specs.declared.answer.Cause.{Cause}
-use Rattle.plain_tree.specs.declared.call.Call.{Call}
-use Rattle.plain_tree.specs.declared.call.Call.TheVariants.{Open, Read, Write, Link, Unlink, Mkdir, Chdir, Dup, Fstat, Close, Inherit}
-use Rattle.plain_tree.specs.declared.step.Action.{Action}
-use Rattle.plain_tree.specs.declared.step.Action.TheVariants.{Bump as BumpStep, Enter as EnterStep, Unbump as UnbumpStep, WritePart as WritePartStep}
-use Rattle.plain_tree.specs.declared.step.StepAnswer.{StepAnswer}
-use Rattle.plain_tree.specs.declared.step.StepAnswer.TheVariants.{Opened, Bytes, Stat as Status, Fd as NewFd, Done, Failed, Full as NoRoom}
-use Rattle.plain_tree.specs.declared.trace.Placed.{Placed}
-use Rattle.plain_tree.specs.Explains.{act_of, acts_of}
-use Rattle.plain_tree.specs.Steps.{has, empty_it, is_nothing}
-use Rattle.plain_tree.specs.Progress.{next_where}
-use Rattle.plain_tree.specs.Calls.{Act, cause_of, first_cause, if_done, if_failed, last_cause, next_link, next_of, next_open, next_piece, once, piece, piece_count, to_truncate}
-use Rattle.tree_histories.specs.declared.stand.Stand.{Stand}
-use Rattle.tree_histories.specs.Stands.{after, first_of, link_from, next_from, open_from, opened_file, stand_from, stand_of, start, truncate_from, was_done, was_failed, write_from}
+use Rattle.tree_histories.proofs.Vocabulary.{◌≡◌, ◌≢◌, ℕ, ◌+◌, Bool, true, false, nat_lt, List, [], ◌∷◌, ◌++◌, length, ◌==◌, refl, sym, ◌∙◌, ap, not, inl, inr, arith, Option, Some, None, if◌then◌else◌, append-nil, cases_Bool, nat_tests, Cause, Call, Open, Read, Write, Link, Unlink, Mkdir, Chdir, Dup, Fstat, Close, Inherit, Action, Bump as BumpStep, Enter as EnterStep, Unbump as UnbumpStep, WritePart as WritePartStep, StepAnswer, Opened, Bytes, Status, NewFd, Done, Failed, NoRoom, Placed, act_of, acts_of, has, empty_it, is_nothing, next_where, Act, cause_of, first_cause, if_done, if_failed, last_cause, next_link, next_of, next_open, next_piece, once, piece, piece_count, to_truncate, Stand, after, first_of, link_from, next_from, open_from, opened_file, stand_from, stand_of, start, truncate_from, was_done, was_failed, write_from}
 
 pub equal_not : (m n : ℕ) → m ≢ n → (m == n) ≡ false
 equal_not m n ne = grind (arith, nat_tests)

@@ -1,17 +1,5 @@
 -- Steps that differ in the number of a new node alone.
-use Rattle.std.proofs.Common.{◌≡◌, ◌≢◌, ℕ, ◌<◌, ◌≤◌, ◌==◌, true, false, ◌&&◌, nat_lt, List, inl, inr, refl, sym, ◌∙◌, ap, subst, arith, Option, Some, None}
-use Rattle.std.proofs.lemmas.Bool.{cases_Bool}
-use Rattle.std.proofs.lemmas.Bool.Decides.{nat_tests}
-use Rattle.plain_tree.specs.declared.answer.Cause.{Cause}
-use Rattle.plain_tree.specs.declared.step.Action.{Action}
-use Rattle.plain_tree.specs.declared.step.Action.TheVariants.{Open, Truncate, Read, WritePart, Find, Bump, Enter, Unbump, Unlink, Mkdir, Chdir, Dup, Close, Fstat, Inherit}
-use Rattle.plain_tree.specs.declared.step.StepAnswer.{StepAnswer}
-use Rattle.plain_tree.specs.declared.step.StepAnswer.TheVariants.{Opened, Bytes, Stat as Status, Fd as NewFd, Done, Failed, Full as NoRoom}
-use Rattle.plain_tree.specs.Tree.{Name, Tree, resolve, parent, settle, look}
-use Rattle.plain_tree.specs.Steps.{Step, MayChoose, IsInPlace, IsNewNode, answer_with, effect_with, refusal, path_of, creates, makes_node, is_absent, is_nothing, opened_new, opened_in, opened_at}
-use Rattle.plain_tree.specs.Applied.{IsApplied}
-use Rattle.plain_tree.specs.Widths.{hart_count}
-use Rattle.plain_tree.proofs.StepLaws.{applied_step, step_one}
+use Rattle.tree_histories.proofs.Vocabulary.{◌≡◌, ◌≢◌, ℕ, ◌<◌, ◌≤◌, ◌==◌, true, false, ◌&&◌, nat_lt, List, inl, inr, refl, sym, ◌∙◌, ap, subst, arith, Option, Some, None, cases_Bool, nat_tests, Cause, Action, OpenStep as Open, Truncate, ReadStep as Read, WritePart, Find, Bump, Enter, Unbump, UnlinkStep as Unlink, MkdirStep as Mkdir, ChdirStep as Chdir, DupStep as Dup, CloseStep as Close, FstatStep as Fstat, InheritStep as Inherit, StepAnswer, Opened, Bytes, Status, NewFd, Done, Failed, NoRoom, Name, Tree, resolve, parent, settle, look, Step, MayChoose, IsInPlace, IsNewNode, answer_with, effect_with, refusal, path_of, creates, makes_node, is_absent, is_nothing, opened_new, opened_in, opened_at, IsApplied, hart_count, applied_step, step_one}
 
 place_hart : (t : Tree) (h : ℕ) (s : Action) → IsInPlace t h s → h < 8
 place_hart t h s p = elim (cases_Bool (nat_lt h hart_count)) [

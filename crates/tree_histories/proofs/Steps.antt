@@ -1,13 +1,9 @@
 -- The step that a call's next mark is for.
-use Rattle.std.proofs.Common.{◌≡◌, ℕ, List, refl}
+use Rattle.tree_histories.proofs.Vocabulary.{◌≡◌, ℕ, List, refl, link_action, action_in, call_in, Whole, is_on_new, is_past_old, step_for}
 use Rattle.plain_tree.specs.declared.call.Call.TheVariants as calls
-use Rattle.whole_calls.specs.Links.{link_action}
-use Rattle.whole_calls.specs.Wholes.{action_in, call_in}
 use Rattle.whole_calls.specs.declared.link.Link.{Link}
 use Rattle.whole_calls.specs.declared.link.Link.TheVariants as linking
-use Rattle.whole_calls.specs.declared.whole.Whole.{Whole}
 use Rattle.whole_calls.specs.declared.whole.Whole.TheVariants as calling
-use Rattle.tree_histories.specs.Walks.{is_on_new, is_past_old, step_for}
 
 link_step_is : (old new : List ℕ) (c : Link) → step_for (calls.Link old new) (is_past_old c) ≡ link_action old new c
 link_step_is old new linking.Join = refl

@@ -1,25 +1,7 @@
 -- What is told where a call's mark is met: what the move tells.
-use Rattle.std.proofs.Common.{◌≡◌, ℕ, ◌<◌, ◌^◌, List, [], ◌∷◌, Option, Some, None, Result, Ok, Err, IfOk, if◌then◌else◌, refl, sym, ◌∙◌, ap, subst}
-use Rattle.std.specs.Option.{option_map}
-use Rattle.plain_tree.specs.declared.step.Action.{Action}
-use Rattle.plain_tree.specs.Steps.{path_of, refused}
-use Rattle.plain_tree.specs.Tree.{Name, Tree, elements, is_absolute, look, put, settle, start_of, tree_of}
-use Rattle.plain_tree.specs.Widths.{root}
-use Rattle.plain_tree.specs.declared.refused.NoMemory.{NoMemory}
+use Rattle.tree_histories.proofs.Vocabulary.{◌≡◌, ℕ, ◌<◌, ◌^◌, List, [], ◌∷◌, Option, Some, None, Result, Ok, Err, IfOk, if◌then◌else◌, refl, sym, ◌∙◌, ap, subst, option_map, Action, path_of, refused, Name, Tree, elements, is_absolute, look, put, settle, start_of, tree_of, root, NoMemory, Move, Stage, fail, Begin, Look, Quit, Own, Made, begun, looked, look_made, made_by, Makes, mark_in, Mark, action_in, call_in, Deed, Walk, KeptTree, Under, hart_in, stage_of, walk_under, with_walk, ActedOn, IsActed, MayBegin, MayLook, MayLookOn, MayMake, Tells, TellsOf, new_in, IsNextWalk, IsWalk, is_on_new, step_in, walk_of, walk_on}
 use Rattle.tree_laws.specs.Moves as moves
-use Rattle.tree_laws.specs.Moves.{Move, Stage, fail}
-use Rattle.tree_laws.specs.Moves.Move.{Begin, Look, Quit, Own}
-use Rattle.inode_machine.specs.Marks.{Made, begun, looked, look_made, made_by}
-use Rattle.inode_machine.specs.World.Mark.{Makes}
-use Rattle.path_walk.specs.Asks.{mark_in}
-use Rattle.path_walk.specs.declared.asks.Mark.{Mark}
 use Rattle.path_walk.specs.declared.asks.Mark.TheVariants as mark
-use Rattle.whole_calls.specs.Wholes.{action_in, call_in}
-use Rattle.tree_histories.specs.declared.kept.Deed.{Deed}
-use Rattle.tree_histories.specs.declared.standing.Walk.{Walk}
-use Rattle.tree_histories.specs.Keeping.{KeptTree, Under, hart_in, stage_of, walk_under, with_walk}
-use Rattle.tree_histories.specs.Moving.{ActedOn, IsActed, MayBegin, MayLook, MayLookOn, MayMake, Tells, TellsOf, new_in}
-use Rattle.tree_histories.specs.Walks.{IsNextWalk, IsWalk, is_on_new, step_in, walk_of, walk_on}
 use Rattle.tree_histories.proofs.Acting.{EndsAs, ends_own, ends_so, refused_same}
 use Rattle.tree_histories.proofs.Harts.{stage_walk, walk_same}
 use Rattle.tree_histories.proofs.Steps.{action_is}

@@ -1,11 +1,7 @@
 -- The list that code keeps, beside the theory's history.
 use Rattle.std.specs.Prelude.{◌≡◌, ◌≢◌, ℕ, ◌<◌, ◌≤◌, List, [], ◌∷◌, ◌++◌, length, Option, Some, None}
 use Rattle.tree_histories.specs.declared.explore.Hint.{Hint}
-use Rattle.plain_tree.specs.declared.trace.Placed.{Placed}
-use Rattle.plain_tree.specs.Explains.{acts_of}
-use Rattle.plain_tree.specs.Widths.{hart_count}
-use Rattle.tree_laws.specs.History.{History, HartStanding}
-use Rattle.tree_laws.specs.History.HartStanding.{Free, Busy}
+use Rattle.tree_histories.specs.Vocabulary.{Placed, acts_of, hart_count, History, HartStanding, Free, Busy}
 use Rattle.tree_histories.specs.Keeping.{KeptTree, Under, capped, hart_in}
 
 -- an entry behind these, as code has it: without its answer, and with the number of its call's steps before it, as far as numbers fit

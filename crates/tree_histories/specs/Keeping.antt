@@ -1,21 +1,8 @@
 -- What is kept beside a run: a tree, the calls under way with their walks in it, and the list of the steps so far.
 use Rattle.std.specs.Prelude.{◌≡◌, ◌<◌, ◌⊎◌, ℕ, ◌+◌, ◌-◌, ◌^◌, min, Bool, true, false, not, List, [], ◌∷◌, ◌++◌, length, Option, Some, None, replicate, slice_index_or, slice_set}
-use Rattle.std.specs.Option.{option_map}
+use Rattle.tree_histories.specs.Vocabulary.{option_map, Answer, Call, is_nothing, tree_of, TreeData, hart_count, lost_of, program, Ret, count_in, hears, reply_to, Heard, call_in, text_in, whole_of, Whole}
 use Rattle.tree_histories.specs.declared.explore.Hint.{Hint}
-use Rattle.plain_tree.specs.declared.answer.Answer.{Answer}
-use Rattle.plain_tree.specs.declared.call.Call.{Call}
-use Rattle.plain_tree.specs.Steps.{is_nothing}
-use Rattle.plain_tree.specs.Tree.{tree_of}
-use Rattle.plain_tree.specs.TreeData.{TreeData}
-use Rattle.plain_tree.specs.Widths.{hart_count}
 use Rattle.tree_laws.specs.Moves as moves
-use Rattle.tree_laws.specs.Runs.{lost_of}
-use Rattle.inode_machine.specs.Programs.{program}
-use Rattle.atomic_programs.specs.Prog.{Ret}
-use Rattle.path_walk.specs.Asks.{count_in, hears, reply_to}
-use Rattle.path_walk.specs.declared.asks.Heard.{Heard}
-use Rattle.whole_calls.specs.Wholes.{call_in, text_in, whole_of}
-use Rattle.whole_calls.specs.declared.whole.Whole.{Whole}
 use Rattle.whole_calls.specs.declared.whole.Whole.TheVariants as calling
 use Rattle.tree_histories.specs.declared.standing.Walk.{Walk}
 use Rattle.tree_histories.specs.Walks.{walk_of}

@@ -1,3 +1,4 @@
+pub mod Vocabulary
 pub mod Stands
 pub mod Searching
 pub mod Ordered

@@ -1,25 +1,8 @@
 -- What is kept where a call makes a move.
 use Rattle.std.specs.Prelude.{◌≡◌, ℕ, ◌<◌, ◌^◌, Bool, true, false, List, [], ◌∷◌, length, Option, Some, None, slice_index_or}
-use Rattle.std.specs.Option.{option_map}
-use Rattle.plain_tree.specs.declared.step.Action.{Action}
-use Rattle.plain_tree.specs.declared.step.TreeStep.{TreeStep}
-use Rattle.plain_tree.specs.declared.step.StepAnswer.{StepAnswer}
-use Rattle.plain_tree.specs.Applied.{IsApplied, IsBadChoice}
-use Rattle.plain_tree.specs.Steps.{path_of, refusal, makes_node, IsInPlace, IsNewNode}
-use Rattle.plain_tree.specs.Tree.{Name, Tree, elements, look, parent, resolve, settle, start_of, tree_of}
-use Rattle.plain_tree.specs.Widths.{hart_count}
-use Rattle.tree_laws.specs.History.{History}
+use Rattle.tree_histories.specs.Vocabulary.{option_map, Action, TreeStep, StepAnswer, IsApplied, IsBadChoice, path_of, refusal, makes_node, IsInPlace, IsNewNode, Name, Tree, elements, look, parent, resolve, settle, start_of, tree_of, hart_count, History, Move, Stage, Begin, Look, Quit, Own, all_fall, moves_on, Makes, stage_by, told_by_move, mark_in, Heard, Mark, action_in}
 use Rattle.tree_laws.specs.Moves as moves
-use Rattle.tree_laws.specs.Moves.{Move, Stage}
-use Rattle.tree_laws.specs.Moves.Move.{Begin, Look, Quit, Own}
-use Rattle.tree_laws.specs.Runs.{all_fall, moves_on}
-use Rattle.inode_machine.specs.World.Mark.{Makes}
-use Rattle.inode_machine.specs.Kept.{stage_by, told_by_move}
-use Rattle.path_walk.specs.Asks.{mark_in}
-use Rattle.path_walk.specs.declared.asks.Heard.{Heard}
-use Rattle.path_walk.specs.declared.asks.Mark.{Mark}
 use Rattle.path_walk.specs.declared.asks.Mark.TheVariants as mark
-use Rattle.whole_calls.specs.Wholes.{action_in}
 use Rattle.tree_histories.specs.declared.kept.Deed.{Deed}
 use Rattle.tree_histories.specs.Books.{IsBook}
 use Rattle.tree_histories.specs.Sights.{MarksBy}

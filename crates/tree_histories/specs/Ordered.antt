@@ -1,6 +1,6 @@
 -- The calls that have to go on, in the order in which they have to return.
 use Rattle.std.specs.Prelude.{◌≡◌, ℕ, ◌≤◌, ◌<◌, List, length, Option, Some, None, slice_index_or}
-use Rattle.std.specs.List.Sorted.{IsNonDecreasingBy}
+use Rattle.tree_histories.specs.Vocabulary.{IsNonDecreasingBy}
 use Rattle.tree_histories.specs.declared.ends.Due.{Due}
 
 -- the call has to go on, and none has to end before it

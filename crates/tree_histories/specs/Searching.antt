@@ -1,18 +1,6 @@
 -- What the search keeps, and what it has ruled out.
 use Rattle.std.specs.Prelude.{◌≡◌, ◌≢◌, ℕ, ◌+◌, ◌-◌, ◌≤◌, ◌<◌, Bool, true, false, List, [], ◌∷◌, ◌++◌, length, if◌then◌else◌, Option, Some, None, slice_get, slice_index_or}
-use Rattle.plain_tree.specs.declared.answer.Reply.{Reply}
-use Rattle.plain_tree.specs.declared.call.Call.{Call}
-use Rattle.plain_tree.specs.declared.call.Call.TheVariants.{Open, Write, Link}
-use Rattle.plain_tree.specs.declared.step.StepAnswer.{StepAnswer}
-use Rattle.plain_tree.specs.declared.trace.Placed.{Placed}
-use Rattle.plain_tree.specs.declared.trace.Trace.{Trace}
-use Rattle.plain_tree.specs.declared.trace.TracedCall.{TracedCall}
-use Rattle.plain_tree.specs.TreeData.{TreeData}
-use Rattle.plain_tree.specs.Tree.{Tree, tree_of}
-use Rattle.plain_tree.specs.Steps.{is_nothing}
-use Rattle.plain_tree.specs.Calls.{Act, Follows, had_room, next_of, piece_count, reply_of}
-use Rattle.plain_tree.specs.Checked.{Leads, is_full}
-use Rattle.plain_tree.specs.Explains.{AllBelong, Chain, IsWritten, Rises, acts_of}
+use Rattle.tree_histories.specs.Vocabulary.{Reply, Call, Open, Write, Link, StepAnswer, Placed, Trace, TracedCall, TreeData, Tree, tree_of, is_nothing, Act, Follows, had_room, next_of, piece_count, reply_of, Leads, is_full, AllBelong, Chain, IsWritten, Rises, acts_of}
 use Rattle.tree_histories.specs.declared.ends.Due.{Due}
 use Rattle.tree_histories.specs.declared.explore.Tried.{Tried}
 use Rattle.tree_histories.specs.declared.explore.Tried.TheVariants as tried

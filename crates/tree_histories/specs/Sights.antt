@@ -1,18 +1,6 @@
 -- What the kept tree shows of an inode whose lock is taken, and the mark of an operation where it acts.
 use Rattle.std.specs.Prelude.{◌≡◌, ℕ, ◌*◌, ◌<◌, ◌^◌, Bool, true, false, List, ◌++◌, length, Option, Some, None}
-use Rattle.plain_tree.specs.declared.node.Kind.{Kind}
-use Rattle.plain_tree.specs.declared.node.Kind.TheVariants.{Directory, File, Device}
-use Rattle.plain_tree.specs.declared.node.Node.{Node}
-use Rattle.plain_tree.specs.Tree.{Tree}
-use Rattle.inode_machine.specs.Inodes.{seen_in}
-use Rattle.inode_machine.specs.World.{Op}
-use Rattle.inode_machine.specs.World.Op.{Take, StatFile, LockFile, LockOpen}
-use Rattle.path_walk.specs.Asks.{asks, mark_at, marked_as, query_in, sight_in, sight_of, IsSought, IsSoughtInOne}
-use Rattle.path_walk.specs.declared.asks.Heard.{Heard}
-use Rattle.path_walk.specs.declared.asks.Mark.{Mark}
-use Rattle.path_walk.specs.declared.asks.Query.{Query}
-use Rattle.path_walk.specs.declared.asks.Sight.{Sight}
-use Rattle.whole_calls.specs.Wholes.{WholeFits, action_in, whole_of}
+use Rattle.tree_histories.specs.Vocabulary.{Kind, Directory, File, Device, Node, Tree, seen_in, Op, Take, StatFile, LockFile, LockOpen, asks, mark_at, marked_as, query_in, sight_in, sight_of, IsSought, IsSoughtInOne, Heard, Mark, Query, Sight, WholeFits, action_in, whole_of}
 use Rattle.tree_histories.specs.Keeping.{Under}
 
 -- the bytes of a directory's slots are counted by a u64

@@ -1,17 +1,6 @@
 -- How far a call has come: what of its steps so far decides which step comes next, and the reply.
 use Rattle.std.specs.Prelude.{ℕ, ◌+◌, Bool, true, false, List, [], ◌∷◌, length, ◌==◌, nat_lt, if◌then◌else◌, Option, Some, None}
-use Rattle.plain_tree.specs.declared.answer.Answer.{Answer}
-use Rattle.plain_tree.specs.declared.answer.Cause.{Cause}
-use Rattle.plain_tree.specs.declared.answer.Reply.{Reply}
-use Rattle.plain_tree.specs.declared.call.Call.{Call}
-use Rattle.plain_tree.specs.declared.call.Call.TheVariants.{Open, Read, Write, Link, Unlink, Mkdir, Chdir, Dup, Fstat, Close, Inherit}
-use Rattle.plain_tree.specs.declared.step.Action.{Action}
-use Rattle.plain_tree.specs.declared.step.Action.TheVariants.{Open as OpenStep, Truncate as TruncateStep, Read as ReadStep, WritePart as WritePartStep, Find as FindStep, Bump as BumpStep, Enter as EnterStep, Unbump as UnbumpStep, Unlink as UnlinkStep, Mkdir as MkdirStep, Chdir as ChdirStep, Dup as DupStep, Fstat as FstatStep, Close as CloseStep, Inherit as InheritStep}
-use Rattle.plain_tree.specs.declared.step.StepAnswer.{StepAnswer}
-use Rattle.plain_tree.specs.declared.step.StepAnswer.TheVariants.{Opened, Done, Failed}
-use Rattle.plain_tree.specs.Steps.{has, empty_it, is_nothing}
-use Rattle.plain_tree.specs.Calls.{Act, cause_of, counted, in_buffer, linked, piece, piece_count, plain_answer}
-use Rattle.plain_tree.specs.Progress.{next_where}
+use Rattle.tree_histories.specs.Vocabulary.{Answer, Cause, Reply, Call, Open, Read, Write, Link, Unlink, Mkdir, Chdir, Dup, Fstat, Close, Inherit, Action, OpenStep, TruncateStep, ReadStep, WritePartStep, FindStep, BumpStep, EnterStep, UnbumpStep, UnlinkStep, MkdirStep, ChdirStep, DupStep, FstatStep, CloseStep, InheritStep, StepAnswer, Opened, Done, Failed, has, empty_it, is_nothing, Act, cause_of, counted, in_buffer, linked, piece, piece_count, plain_answer, next_where}
 use Rattle.tree_histories.specs.declared.stand.Stand.{Stand}
 
 abbrev pub was_done : StepAnswer → Bool

@@ -1,11 +1,6 @@
 -- What the calls of a trace tell of themselves: a path with the element "..", a reply that there is no room.
 use Rattle.std.specs.Prelude.{ℕ, Bool, true, false, List, Option, Some, None}
-use Rattle.std.specs.List.{list_any}
-use Rattle.plain_tree.specs.declared.answer.Answer.{Answer}
-use Rattle.plain_tree.specs.declared.answer.Answer.TheVariants.{Full as WasFull}
-use Rattle.plain_tree.specs.declared.answer.Reply.{Reply}
-use Rattle.plain_tree.specs.declared.trace.TracedCall.{TracedCall}
-use Rattle.plain_tree.specs.Calls.{call_climbs}
+use Rattle.tree_histories.specs.Vocabulary.{list_any, Answer, WasFull, Reply, TracedCall, call_climbs}
 
 -- the path of a call has the element ".."
 abbrev pub any_climbs : List TracedCall → Bool

@@ -1,19 +1,12 @@
 -- The walk of a call under way in the kept tree, and the tree steps that its marks are for.
 use Rattle.std.specs.Prelude.{◌≡◌, ℕ, Bool, true, false, List, [], ◌∷◌, drop, length, Option, Some, None}
-use Rattle.std.specs.Option.{option_map}
-use Rattle.plain_tree.specs.declared.call.Call.{Call}
+use Rattle.tree_histories.specs.Vocabulary.{option_map, Call, Action, Name, elements, path_of, piece_of, Mark, Whole}
 use Rattle.plain_tree.specs.declared.call.Call.TheVariants as calls
-use Rattle.plain_tree.specs.declared.step.Action.{Action}
 use Rattle.plain_tree.specs.declared.step.Action.TheVariants as steps
-use Rattle.plain_tree.specs.Tree.{Name, elements}
-use Rattle.plain_tree.specs.Steps.{path_of}
 use Rattle.tree_laws.specs.Moves as moves
-use Rattle.path_walk.specs.Asks.{piece_of}
-use Rattle.path_walk.specs.declared.asks.Mark.{Mark}
 use Rattle.path_walk.specs.declared.asks.Mark.TheVariants as mark
 use Rattle.whole_calls.specs.declared.link.Link.{Link}
 use Rattle.whole_calls.specs.declared.link.Link.TheVariants as linking
-use Rattle.whole_calls.specs.declared.whole.Whole.{Whole}
 use Rattle.whole_calls.specs.declared.whole.Whole.TheVariants as calling
 use Rattle.tree_histories.specs.declared.standing.Walk.{Walk}
 

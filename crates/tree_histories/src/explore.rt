@@ -1,7 +1,6 @@
 //! The search: from the list so far every next step is tried in turn.
 ghost use Rattle.std.specs.Prelude.{◌≡◌, ◌<◌, ◌++◌, ◌∷◌, [], List, IfOk, MatchOption};
-ghost use Rattle.plain_tree.specs.Explains.{Explains};
-ghost use Rattle.plain_tree.specs.declared.trace.Placed.{Placed};
+ghost use Rattle.tree_histories.specs.Vocabulary.{Explains, Placed};
 ghost use Rattle.tree_histories.specs.Ordered.{IsDue};
 ghost use Rattle.tree_histories.specs.Searching.{CallIsExplored, IsAt, IsExplored, IsTried, NeedsNumber};
 

@@ -14,9 +14,9 @@ ghost use Rattle.tree_histories.specs.Moving.{HasRun, HaveFallen, IsActed, Moves
 ghost use Rattle.tree_histories.specs.Sights.{MarksBy, SeenFor, acts_first};
 ghost use Rattle.tree_histories.specs.Walks.{IsNextWalk, step_in, walk_of};
 
+use crate::Hint;
 use crate::sees::{is_live_directory, look, sight};
 use crate::standing::{Standing, Walk};
-use crate::Hint;
 use path_walk::{Ask, Heard, Locked, Mark};
 use plain_tree::{Action, ApplyRefused, Call, NoMemory, Tree, TreeStep};
 use std::alloc::Global;

@@ -1,7 +1,6 @@
 //! The step that comes next of a call.
 ghost use Rattle.std.specs.Prelude.{◌≡◌, ◌<◌, IfOk, IfSome, None, Some, take, ℕ, List};
-ghost use Rattle.plain_tree.specs.Calls.{piece, piece_count};
-ghost use Rattle.plain_tree.specs.Steps.{has, is_nothing};
+ghost use Rattle.tree_histories.specs.Vocabulary.{piece, piece_count, has, is_nothing};
 ghost use Rattle.tree_histories.specs.Stands.{link_from, next_from, only_step, open_from, truncate_from, write_from};
 
 use crate::stand::Stand;

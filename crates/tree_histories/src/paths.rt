@@ -1,10 +1,7 @@
 //! Paths with the element "..", and replies that there is no room.
 ghost use Rattle.std.specs.Prelude.{◌≡◌, ◌+◌, ◌-◌, ◌<◌, ◌≤◌, ◌++◌, [], ◌∷◌, drop, length, slice_range, take, MatchOption};
-ghost use Rattle.plain_tree.specs.Calls.{call_climbs};
-ghost use Rattle.plain_tree.specs.Code.{with_element};
-ghost use Rattle.plain_tree.specs.Tree.{climbs, dotdot, elements, same_name};
+ghost use Rattle.tree_histories.specs.Vocabulary.{call_climbs, with_element, climbs, dotdot, elements, same_name, name_in, IsElement, IsInOne};
 ghost use Rattle.tree_histories.specs.Told.{any_climbs, any_full, is_full_reply};
-ghost use Rattle.path_walk.specs.Elements.{name_in, IsElement, IsInOne};
 ghost use Rattle.tree_histories.specs.Ends.{IsEnd};
 
 use path_walk::Element;

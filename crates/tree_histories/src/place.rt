@@ -1,7 +1,6 @@
 //! Where a step has its place.
 ghost use Rattle.std.specs.Prelude.{◌≡◌, ◌≤◌, IsTrue, ◌↔◌};
-ghost use Rattle.plain_tree.specs.Steps.{IsInPlace, file_at, has_descriptors, has_room, holds_raised, is_open_file, lowest, place_of};
-ghost use Rattle.plain_tree.specs.Tree.{tree_of};
+ghost use Rattle.tree_histories.specs.Vocabulary.{IsInPlace, file_at, has_descriptors, has_room, holds_raised, is_open_file, lowest, place_of, tree_of};
 
 use plain_tree::{Action, Hold, Kind, OpenFile, Tree, TreeStep};
 

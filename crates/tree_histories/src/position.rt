@@ -1,12 +1,9 @@
 //! A list that begins to explain a trace, with the tree to which it leads and how far it has each call.
 ghost use Rattle.std.specs.Prelude.{◌≡◌, ◌<◌, ◌≤◌, ◌++◌, ◌∷◌, [], ℕ, IfOk, IfSome, IsTrue, ◌↔◌, MatchOption, None, Some, false, length, slice_get, slice_index_or, slice_set};
-ghost use Rattle.plain_tree.specs.Checked.{Leads};
-ghost use Rattle.plain_tree.specs.Explains.{Chain, acts_of};
-ghost use Rattle.plain_tree.specs.Tree.{tree_of};
+ghost use Rattle.tree_histories.specs.Vocabulary.{Leads, Chain, acts_of, tree_of, is_nothing};
 ghost use Rattle.tree_histories.specs.Ordered.{IsDue};
 ghost use Rattle.tree_histories.specs.Searching.{Fits, IsAt, IsKept, IsLimit, IsMore, IsPlaced, IsThrough, IsTimely, IsUndone, end_of, last_event};
 ghost use Rattle.tree_histories.specs.Stands.{next_from, stand_of};
-ghost use Rattle.plain_tree.specs.Steps.{is_nothing};
 
 use crate::ends::{Due, Ends};
 use crate::next::{Attempt, is_through, next_action};

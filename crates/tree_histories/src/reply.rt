@@ -1,7 +1,6 @@
 //! The reply that a call's steps make.
 ghost use Rattle.std.specs.Prelude.{◌≡◌, ◌++◌, IsTrue, ◌↔◌, drop, length};
-ghost use Rattle.plain_tree.specs.Calls.{counted, in_buffer, linked, plain_answer};
-ghost use Rattle.plain_tree.specs.Checked.{is_full};
+ghost use Rattle.tree_histories.specs.Vocabulary.{counted, in_buffer, linked, plain_answer, is_full};
 ghost use Rattle.tree_histories.specs.Stands.{answer_at, handed_at, is_told, reply_at};
 
 use crate::next::is_through;

@@ -1,9 +1,6 @@
 //! What the kept tree shows of a node to who takes its lock.
 ghost use Rattle.std.specs.Prelude.{◌≡◌, ◌<◌, ◌^◌, ◌++◌, ℕ, drop, List, Some};
-ghost use Rattle.plain_tree.specs.Steps.{any_used, size_of};
-ghost use Rattle.plain_tree.specs.Tree.{first_slot, live_directory, look, tree_of};
-ghost use Rattle.inode_machine.specs.Inodes.{empty_in, face_of as face_seen, found_in, is_empty_kind, sort_of_kind};
-ghost use Rattle.path_walk.specs.Asks.{face_of, query_in, sort_of, IsSought, IsSoughtInOne};
+ghost use Rattle.tree_histories.specs.Vocabulary.{any_used, size_of, first_slot, live_directory, look, tree_of, empty_in, face_seen, found_in, is_empty_kind, sort_of_kind, face_of, query_in, sort_of, IsSought, IsSoughtInOne};
 ghost use Rattle.tree_histories.specs.Sights.{FewSlots, ShowsSo};
 
 use crate::paths::{name_in, same};

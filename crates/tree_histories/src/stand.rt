@@ -1,6 +1,6 @@
 //! How far a call has come in a list.
 ghost use Rattle.std.specs.Prelude.{◌≡◌, ◌<◌, None};
-ghost use Rattle.plain_tree.specs.Calls.{cause_of};
+ghost use Rattle.tree_histories.specs.Vocabulary.{cause_of};
 ghost use Rattle.tree_histories.specs.Stands.{after, opened_file, start, was_done, was_failed};
 
 use plain_tree::{Cause, StepAnswer};

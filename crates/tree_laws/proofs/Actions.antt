@@ -1,7 +1,5 @@
 -- What each action makes of a tree: by its definition.
-use Rattle.std.specs.Prelude.{◌≡◌}
-use Rattle.plain_tree.specs.Steps.{effect_with, answer_with}
-use Rattle.tree_laws.specs.Actions.{ActionsAreTold}
+use Rattle.tree_laws.proofs.Vocabulary.{◌≡◌, effect_with, answer_with, ActionsAreTold}
 
 it : {A : Type 0} {x : A} → x ≡ x
 it {A} {x} = λ _. x

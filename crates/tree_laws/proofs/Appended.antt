@@ -1,6 +1,5 @@
 -- Runs one after the other, as a crate above builds them event by event.
-use Rattle.std.proofs.Common.{◌≡◌, ℕ, refl, sym, subst, List, [], ◌∷◌, ◌++◌, false}
-use Rattle.tree_laws.specs.Runs.{World, Event, Happens, Runs, climbing, NoneClimbs, IsStartBy, Alone}
+use Rattle.tree_laws.proofs.Vocabulary.{◌≡◌, ℕ, refl, sym, subst, List, [], ◌∷◌, ◌++◌, false, World, Event, Happens, Runs, climbing, NoneClimbs, IsStartBy, Alone}
 
 -- a run, and a run from where it ended
 pub runs_append : (w mid w' : World) (es later : List Event) → Runs w es mid → Runs mid later w' → Runs w (es ++ later) w'

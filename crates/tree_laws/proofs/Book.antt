@@ -1,21 +1,6 @@
 -- The history, for all calls: what starting, writing, telling and replying keep true. Nothing here knows the moves or what a tree step does.
-use Rattle.std.proofs.Common.{◌≡◌, ◌≢◌, ℕ, ◌+◌, ◌<◌, ◌≤◌, Bool, true, ◌&&◌, ◌==◌, inl, inr, refl, sym, ◌∙◌, ap, subst, arith, List, [], ◌∷◌, ◌++◌, append_assoc, append-nil, length, Option, Some, None}
-use Rattle.std.specs.Prelude.{slice_get}
-use Rattle.plain_tree.specs.declared.answer.Reply.{Reply}
-use Rattle.plain_tree.specs.declared.call.Call.{Call}
-use Rattle.plain_tree.specs.declared.trace.Trace.{Trace}
-use Rattle.plain_tree.specs.declared.trace.TracedCall.{TracedCall}
-use Rattle.plain_tree.specs.declared.trace.Placed.{Placed}
-use Rattle.plain_tree.specs.TreeData.{TreeData}
-use Rattle.plain_tree.specs.Tree.{Tree, tree_of, put}
-use Rattle.plain_tree.specs.Steps.{Step, is_nothing}
-use Rattle.plain_tree.specs.Calls.{Act, next_of, Follows, IsWhole}
-use Rattle.plain_tree.specs.Explains.{noted, ends_at, Chain, act_of as act_in, acts_of, IsWritten, IsInTime, Belongs, Rises, AllBelong, Explains}
-use Rattle.plain_tree.specs.Explains.Shown.{Started, Replied}
+use Rattle.tree_laws.proofs.Vocabulary.{◌≡◌, ◌≢◌, ℕ, ◌+◌, ◌<◌, ◌≤◌, Bool, true, ◌&&◌, ◌==◌, inl, inr, refl, sym, ◌∙◌, ap, subst, arith, List, [], ◌∷◌, ◌++◌, append_assoc, append-nil, length, Option, Some, None, slice_get, Reply, Call, Trace, TracedCall, Placed, TreeData, Tree, tree_of, put, Step, is_nothing, Act, next_of, Follows, IsWhole, noted, ends_at, Chain, act_in, acts_of, IsWritten, IsInTime, Belongs, Rises, AllBelong, Explains, Started, Replied, Deed, MayEnd, HartStanding, History, writes, tells, entry_of, starts, replies, passes, Free, Busy}
 use Rattle.tree_laws.proofs.Maps.{either, eq_self, eq_not, eq_is, same_or, put_same, put_other, put_is, and_true}
-use Rattle.tree_laws.specs.Moves.{Deed, MayEnd}
-use Rattle.tree_laws.specs.History.{HartStanding, History, writes, tells, entry_of, starts, replies, passes}
-use Rattle.tree_laws.specs.History.HartStanding.{Free, Busy}
 use Rattle.tree_laws.proofs.Lists.{get_left, get_last, get_more, get_past, get_map, map_get}
 
 -- late: by hart, what the list has of its call and the call wasn't told yet

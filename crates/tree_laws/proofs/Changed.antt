@@ -1,26 +1,7 @@
 -- What a tree step does to the live directories: nothing, or one of four changes.
-use Rattle.std.proofs.Common.{◌≡◌, ◌≢◌, ℕ, ◌-◌, ◌<◌, ◌≤◌, Bool, true, false, ◌&&◌, ◌||◌, inl, inr, refl, sym, ◌∙◌, ap, subst, arith, List, [], ◌∷◌, drop, length, Option, Some, None, nat_lt, if◌then◌else◌}
-use Rattle.plain_tree.specs.declared.answer.Cause.TheVariants.{DotName}
-use Rattle.plain_tree.specs.declared.node.Node.{Node}
-use Rattle.plain_tree.specs.declared.node.Kind.{Kind}
-use Rattle.plain_tree.specs.declared.tree.OpenFile.{OpenFile}
-use Rattle.plain_tree.specs.declared.tree.Hold.{Hold}
-use Rattle.plain_tree.specs.declared.step.Action.{Action}
-use Rattle.plain_tree.specs.declared.step.Action.TheVariants.{Open, Truncate, Read, WritePart, Find, Bump, Enter, Unbump, Unlink, Mkdir, Chdir, Dup, Close, Fstat, Inherit}
-use Rattle.plain_tree.specs.declared.step.StepAnswer.{StepAnswer}
-use Rattle.plain_tree.specs.declared.step.StepAnswer.TheVariants.{Opened, Bytes, Stat as Status, Fd as NewFd, Done, Failed, Full as NoRoom}
-use Rattle.plain_tree.specs.Widths.{hart_count}
-use Rattle.plain_tree.specs.Tree.{Name, Tree, put, same_name, dot, dotdot, is_directory, live_directory, all_slots, first_slot, look, settle}
-use Rattle.plain_tree.specs.Steps.{node_or, node_at, file_at, is_open_file, has_room, creates, enter_refusal, child_refusal, unlink_refusal, mkdir_refusal, not_empty, any_used, first_free, cleared, refusal_with, place_of, IsInPlace, effect_with, refused, new_file, new_directory, raised, lowered, emptied, truncated, written_kind, written, moved, wrote, held, at_hold, enter_hold, drop_hold, removed, removed_child, made, opened_at, opened_in, opened_new, at_dir, with_file, is_absent, is_nothing, makes_node, IsNewNode, MayChoose, StepWith}
-use Rattle.tree_laws.proofs.Maps.{either, put_same, put_other, or_none}
-use Rattle.tree_laws.specs.WellFormed.{Slots, Folders, folder, folders_of, links_in, raises, up_in, NamesOnce, IsWellFormed}
-use Rattle.tree_laws.specs.Leaves.{names_change, IsFound}
-use Rattle.tree_laws.proofs.Slots.{Dots}
-use Rattle.tree_laws.proofs.Forest.{plain_or}
-use Rattle.tree_laws.proofs.Nodes.{folder_live, folder_dead, folder_some, folder_links, linked_live, folders_put, put_self, settle_folders}
-use Rattle.tree_laws.proofs.Walks.{look_in}
+use Rattle.tree_laws.proofs.Vocabulary.{◌≡◌, ◌≢◌, ℕ, ◌-◌, ◌<◌, ◌≤◌, Bool, true, false, ◌&&◌, ◌||◌, inl, inr, refl, sym, ◌∙◌, ap, subst, arith, List, [], ◌∷◌, drop, length, Option, Some, None, nat_lt, if◌then◌else◌, DotName, Node, Kind, OpenFile, Hold, Action, Open, Truncate, Read, WritePart, Find, Bump, Enter, Unbump, Unlink, Mkdir, Chdir, Dup, Close, Fstat, Inherit, StepAnswer, Opened, Bytes, Status, NewFd, Done, Failed, NoRoom, hart_count, Name, Tree, put, same_name, dot, dotdot, is_directory, live_directory, all_slots, first_slot, look, settle, node_or, node_at, file_at, is_open_file, has_room, creates, enter_refusal, child_refusal, unlink_refusal, mkdir_refusal, not_empty, any_used, first_free, cleared, refusal_with, place_of, IsInPlace, effect_with, refused, new_file, new_directory, raised, lowered, emptied, truncated, written_kind, written, moved, wrote, held, at_hold, enter_hold, drop_hold, removed, removed_child, made, opened_at, opened_in, opened_new, at_dir, with_file, is_absent, is_nothing, makes_node, IsNewNode, MayChoose, StepWith, Slots, Folders, folder, folders_of, links_in, raises, up_in, NamesOnce, IsWellFormed, names_change, IsFound}
+use Rattle.tree_laws.proofs.Basics.{either, put_same, put_other, or_none, Dots, plain_or, folder_live, folder_dead, folder_some, folder_links, linked_live, folders_put, put_self, settle_folders, look_in, counted_folders, entered_folders, new_folders, new_apart, not_folder, with_new}
 use Rattle.tree_laws.proofs.Facts.{entry_found, entry_linked}
-use Rattle.tree_laws.proofs.Formed.{counted_folders, entered_folders, new_folders, new_apart, not_folder, with_new}
 use Rattle.tree_laws.proofs.Placed.{with_directory, without, less, without_folders, less_folder, put_turn, can_go, sort_file, sort_folder, raised_folder, positive, gone, links_node}
 use Rattle.tree_laws.proofs.Kept.{LiveParent, in_place, absent_slot, none_taken, or_first, dotted, plain, there_map, open_node, file_sort, emptied_sort, written_sort, written_dir}
 

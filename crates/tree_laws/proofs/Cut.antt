@@ -1,21 +1,6 @@
 -- The entries up to a moment are the list as it stood then.
-use Rattle.std.proofs.Common.{◌≡◌, ℕ, zero, suc, ◌+◌, ◌<◌, ◌≤◌, true, false, refl, sym, ◌∙◌, ap, subst, arith, List, [], ◌∷◌, ◌++◌, append_assoc, append-nil, length, inl, inr, Option, Some, None, nat_lt}
-use Rattle.std.proofs.lemmas.Bool.Decides.{nat_tests}
-use Rattle.plain_tree.specs.declared.answer.Reply.{Reply}
-use Rattle.plain_tree.specs.declared.trace.Trace.{Trace}
-use Rattle.plain_tree.specs.declared.trace.Placed.{Placed}
-use Rattle.plain_tree.specs.Widths.{hart_count}
-use Rattle.plain_tree.specs.Tree.{Tree}
-use Rattle.plain_tree.specs.Explains.{noted, Shown}
-use Rattle.plain_tree.specs.Explains.Shown.{Started, Replied, Other}
-use Rattle.tree_laws.proofs.Maps.{either}
-use Rattle.tree_laws.specs.Moves.{Deed, Stage}
-use Rattle.tree_laws.specs.History.{HartStanding, History, writes, writes_any, tells_any, entry_of}
-use Rattle.tree_laws.specs.History.HartStanding.{Free, Busy}
-use Rattle.tree_laws.specs.Runs.{World, Event, lost_of, unless, falls, all_fall, moves_on, finishes, Happens, Runs, opened, shown_of}
-use Rattle.tree_laws.specs.Runs.Event.{Starts, Steps, Nothing}
-use Rattle.tree_laws.specs.MoveLaws.{before}
-use Rattle.tree_laws.proofs.Book.{AllBelow, below_later}
+use Rattle.tree_laws.proofs.Vocabulary.{◌≡◌, ℕ, zero, suc, ◌+◌, ◌<◌, ◌≤◌, true, false, refl, sym, ◌∙◌, ap, subst, arith, List, [], ◌∷◌, ◌++◌, append_assoc, append-nil, length, inl, inr, Option, Some, None, nat_lt, nat_tests, Reply, Trace, Placed, hart_count, Tree, noted, Shown, Started, Replied, Other, Deed, Stage, HartStanding, History, writes, writes_any, tells_any, entry_of, Free, Busy, World, Event, lost_of, unless, falls, all_fall, moves_on, finishes, Happens, Runs, opened, shown_of, Starts, Steps, Nothing, before}
+use Rattle.tree_laws.proofs.Basics.{either, AllBelow, below_later}
 use Rattle.tree_laws.proofs.History.{tells_list, falls_trace, own_trace, happens_trace}
 
 unfoldable pub AllFrom : ℕ → List Placed → Type 0

@@ -1,15 +1,6 @@
 -- What well-formedness says of a name that is found.
-use Rattle.std.proofs.Common.{◌≡◌, ◌≢◌, ℕ, ◌+◌, ◌<◌, ◌≤◌, true, false, inl, inr, refl, sym, ◌∙◌, ap, subst, arith, List, [], ◌∷◌, drop, Option, Some, None}
-use Rattle.plain_tree.specs.declared.node.Node.{Node}
-use Rattle.plain_tree.specs.Widths.{hart_count, root}
-use Rattle.plain_tree.specs.Tree.{Name, Tree, same_name, dot, dotdot, live_directory, is_live, all_slots, is_absolute, first_slot, look, follow, parent_from, parent_of, resolve, parent, start_of, elements}
-use Rattle.plain_tree.specs.Steps.{node_or}
-use Rattle.tree_laws.proofs.Maps.{either, same_or}
-use Rattle.tree_laws.specs.WellFormed.{Slots, Folders, folder, folders_of, links_in, up_in, past, count_in, mentions, raises, IsForest, IsWellFormed}
-use Rattle.tree_laws.proofs.Slots.{first_dots, first_dot, first_dotdot, first_counts}
-use Rattle.tree_laws.proofs.Forest.{mentions_part, mentions_two, plain_or}
-use Rattle.tree_laws.proofs.Nodes.{folder_live, linked_live, live_some}
-use Rattle.tree_laws.proofs.Walks.{look_in, look_good, first_found, follow_end, parent_here, parent_bad, parent_step, parent_stop}
+use Rattle.tree_laws.proofs.Vocabulary.{◌≡◌, ◌≢◌, ℕ, ◌+◌, ◌<◌, ◌≤◌, true, false, inl, inr, refl, sym, ◌∙◌, ap, subst, arith, List, [], ◌∷◌, drop, Option, Some, None, Node, hart_count, root, Name, Tree, same_name, dot, dotdot, live_directory, is_live, all_slots, is_absolute, first_slot, look, follow, parent_from, parent_of, resolve, parent, start_of, elements, node_or, Slots, Folders, folder, folders_of, links_in, up_in, past, count_in, mentions, raises, IsForest, IsWellFormed}
+use Rattle.tree_laws.proofs.Basics.{either, same_or, first_dots, first_dot, first_dotdot, first_counts, mentions_part, mentions_two, plain_or, folder_live, linked_live, live_some, look_in, look_good, first_found, follow_end, parent_here, parent_bad, parent_step, parent_stop}
 
 pub look_folder : (ns : ℕ → Option Node) (d : ℕ) (e : Name) (r : Option ℕ) → live_directory (ns d) ≡ true → look ns d e ≡ r → (folder (ns d) ≡ Some (all_slots (ns d))) × (first_slot (all_slots (ns d)) e ≡ r)
 look_folder ns d e r good h = (folder_live (ns d) good, sym (look_in ns d e good) ∙ h)

@@ -1,15 +1,6 @@
 -- What each part of a tree may become.
-use Rattle.std.proofs.Common.{◌≡◌, ◌≢◌, ℕ, ◌+◌, ◌<◌, ◌≤◌, Bool, true, false, ◌&&◌, ◌==◌, ◌⊎◌, inl, inr, refl, sym, ◌∙◌, ap, subst, arith, Option, Some, None, nat_lt}
-use Rattle.plain_tree.specs.declared.node.Node.{Node}
-use Rattle.plain_tree.specs.declared.node.Kind.{Kind}
-use Rattle.plain_tree.specs.declared.node.Kind.TheVariants.{Directory}
-use Rattle.plain_tree.specs.declared.tree.OpenFile.{OpenFile}
-use Rattle.plain_tree.specs.declared.tree.Hold.{Hold}
-use Rattle.plain_tree.specs.Widths.{hart_count, descriptor_count}
-use Rattle.plain_tree.specs.Tree.{Name, Tree, put, is_directory, slots_of, live_directory, all_slots, first_slot, look}
-use Rattle.plain_tree.specs.Steps.{node_or, with_nodes, first_free, entered, new_file}
+use Rattle.tree_laws.proofs.Vocabulary.{◌≡◌, ◌≢◌, ℕ, ◌+◌, ◌<◌, ◌≤◌, Bool, true, false, ◌&&◌, ◌==◌, ◌⊎◌, inl, inr, refl, sym, ◌∙◌, ap, subst, arith, Option, Some, None, nat_lt, Node, Kind, Directory, OpenFile, Hold, hart_count, descriptor_count, Name, Tree, put, is_directory, slots_of, live_directory, all_slots, first_slot, look, node_or, with_nodes, first_free, entered, new_file, Slots, Folders, folder, links_of, folders_of, links_in, one_if, raised_at, raises, IsForest, IsThere, IsWellFormed}
 use Rattle.tree_laws.proofs.Maps.{eq_self, eq_not, put_is, put_same, put_other, and_true}
-use Rattle.tree_laws.specs.WellFormed.{Slots, Folders, folder, links_of, folders_of, links_in, one_if, raised_at, raises, IsForest, IsThere, IsWellFormed}
 use Rattle.tree_laws.proofs.Sums.{sum_changed, sum_part, one_yes, one_no}
 use Rattle.tree_laws.proofs.Forest.{entered_forest, recounted_forest, apart}
 use Rattle.tree_laws.proofs.Nodes.{folder_live, folder_dead, some_node, everywhere, folders_put, put_self}

@@ -1,24 +1,7 @@
 -- What a tree step leaves, from what it does to the live directories.
-use Rattle.std.proofs.Common.{◌≡◌, ◌≢◌, ℕ, Bool, true, false, ◌||◌, ◌⊎◌, inl, inr, refl, sym, ◌∙◌, ap, subst, arith, List, [], ◌∷◌, drop, length, Option, Some, None}
-use Rattle.plain_tree.specs.declared.node.Slot.{Slot}
-use Rattle.plain_tree.specs.declared.node.Node.{Node}
-use Rattle.plain_tree.specs.declared.tree.OpenFile.{OpenFile}
-use Rattle.plain_tree.specs.declared.tree.Hold.{Hold}
-use Rattle.plain_tree.specs.declared.step.Action.{Action}
-use Rattle.plain_tree.specs.declared.step.Action.TheVariants.{Open, Truncate, Read, WritePart, Find, Bump, Enter, Unbump, Unlink, Mkdir, Chdir, Dup, Close, Fstat, Inherit}
-use Rattle.plain_tree.specs.declared.step.StepAnswer.{StepAnswer}
-use Rattle.plain_tree.specs.declared.step.StepAnswer.TheVariants.{Opened, Bytes, Stat as Status, Fd as NewFd, Done, Failed, Full as NoRoom}
-use Rattle.plain_tree.specs.Widths.{hart_count, descriptor_count}
-use Rattle.plain_tree.specs.Tree.{Name, Tree, put, same_name, dot, dotdot, climbs_in, live_directory, is_live, all_slots, first_slot, look, follow, settle, is_named, hold_names, fd_names, file_names}
-use Rattle.plain_tree.specs.Steps.{new_file, has_room, creates, any_used, first_free, cleared, refusal_with, effect_with, refused, truncated, written, wrote, moved, file_at, held, at_hold, enter_hold, drop_hold, removed, removed_child, made, raise_hold, opened_at, opened_in, opened_new, at_dir, with_file, makes_node, StepWith}
-use Rattle.tree_laws.proofs.Maps.{either, same_or, eq_not, put_is, put_same, put_other, none_any}
-use Rattle.tree_laws.specs.WellFormed.{Slots, Folders, folder, folders_of, up_in, NamesOnce, IsWellFormed}
-use Rattle.tree_laws.specs.Leaves.{names_change, IsFound, LeavesFinding, Frame, IsNobodys}
-use Rattle.tree_laws.proofs.Slots.{same_is, same_self, entered_other, cleared_other, cleared_gone, first_dots, first_dot, first_unused, Dots}
-use Rattle.tree_laws.proofs.Nodes.{folder_live, folder_dead, folder_some, folder_none}
-use Rattle.tree_laws.proofs.Walks.{look_bad, look_in, look_good, first_found, follow_end, follow_step, Removes, after_removal}
+use Rattle.tree_laws.proofs.Vocabulary.{◌≡◌, ◌≢◌, ℕ, Bool, true, false, ◌||◌, ◌⊎◌, inl, inr, refl, sym, ◌∙◌, ap, subst, arith, List, [], ◌∷◌, drop, length, Option, Some, None, Slot, Node, OpenFile, Hold, Action, Open, Truncate, Read, WritePart, Find, Bump, Enter, Unbump, Unlink, Mkdir, Chdir, Dup, Close, Fstat, Inherit, StepAnswer, Opened, Bytes, Status, NewFd, Done, Failed, NoRoom, hart_count, descriptor_count, Name, Tree, put, same_name, dot, dotdot, climbs_in, live_directory, is_live, all_slots, first_slot, look, follow, settle, is_named, hold_names, fd_names, file_names, new_file, has_room, creates, any_used, first_free, cleared, refusal_with, effect_with, refused, truncated, written, wrote, moved, file_at, held, at_hold, enter_hold, drop_hold, removed, removed_child, made, raise_hold, opened_at, opened_in, opened_new, at_dir, with_file, makes_node, StepWith, Slots, Folders, folder, folders_of, up_in, NamesOnce, IsWellFormed, names_change, IsFound, LeavesFinding, Frame, IsNobodys}
+use Rattle.tree_laws.proofs.Basics.{either, same_or, eq_not, put_is, put_same, put_other, none_any, same_is, same_self, entered_other, cleared_other, cleared_gone, first_dots, first_dot, first_unused, Dots, folder_live, folder_dead, folder_some, folder_none, look_bad, look_in, look_good, first_found, follow_end, follow_step, Removes, after_removal, with_new}
 use Rattle.tree_laws.proofs.Facts.{look_live}
-use Rattle.tree_laws.proofs.Formed.{with_new}
 use Rattle.tree_laws.proofs.Changed.{Change, refused_folders, step_change}
 use Rattle.tree_laws.proofs.Changed.Change.{Same, Entered, Made, Cleared, Removed}
 

@@ -1,18 +1,6 @@
 -- A fresh tree is well formed.
-use Rattle.std.proofs.Common.{◌≡◌, ◌≢◌, ℕ, zero, suc, ◌-◌, ◌<◌, ◌≤◌, true, false, inl, inr, refl, sym, ◌∙◌, ap, subst, arith, ◌∷◌, length, replicate, Option, Some, None}
-use Rattle.std.specs.Prelude.{slice_index_or}
-use Rattle.plain_tree.specs.declared.node.Node.{Node}
-use Rattle.plain_tree.specs.declared.tree.Hart.{Hart}
-use Rattle.plain_tree.specs.declared.tree.Hold.{Hold}
-use Rattle.plain_tree.specs.Widths.{hart_count, descriptor_count, root}
-use Rattle.plain_tree.specs.Tree.{Tree, tree_of, resting, dot, dotdot}
-use Rattle.plain_tree.specs.Steps.{any_used}
-use Rattle.plain_tree.specs.Fresh.{fresh, fresh_root, fresh_hart, fresh_slots}
-use Rattle.tree_laws.proofs.Maps.{same_or}
-use Rattle.tree_laws.specs.WellFormed.{Slots, folder, links_of, folders_of, links_in, past, has_up, count_in, mentions, raised_at, raises, NamesOnce, IsInOrder, IsForest, IsThere, IsWellFormed}
-use Rattle.tree_laws.proofs.Sums.{sum_none, count_nil, count_unused}
-use Rattle.tree_laws.proofs.Slots.{slot_past, dots_differ, flip_name, first_unused, Dots}
-use Rattle.tree_laws.proofs.Forest.{children_none}
+use Rattle.tree_laws.proofs.Vocabulary.{◌≡◌, ◌≢◌, ℕ, zero, suc, ◌-◌, ◌<◌, ◌≤◌, true, false, inl, inr, refl, sym, ◌∙◌, ap, subst, arith, ◌∷◌, length, replicate, Option, Some, None, slice_index_or, Node, Hart, Hold, hart_count, descriptor_count, root, Tree, tree_of, resting, dot, dotdot, any_used, fresh, fresh_root, fresh_hart, fresh_slots, Slots, folder, links_of, folders_of, links_in, past, has_up, count_in, mentions, raised_at, raises, NamesOnce, IsInOrder, IsForest, IsThere, IsWellFormed}
+use Rattle.tree_laws.proofs.Basics.{same_or, sum_none, count_nil, count_unused, slot_past, dots_differ, flip_name, first_unused, Dots, children_none}
 
 at_replicate : {A : Type 0} → (k n : ℕ) (x : A) → slice_index_or (replicate k x) n x ≡ x
 at_replicate zero n x = refl

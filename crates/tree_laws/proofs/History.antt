@@ -1,22 +1,6 @@
 -- The whole event: the history, the other harts, and the walks that are lost. Every run is explained by the list that is kept.
-use Rattle.std.proofs.Common.{◌≡◌, ◌≢◌, ℕ, zero, suc, ◌+◌, ◌<◌, ◌≤◌, true, false, inl, inr, refl, sym, ◌∙◌, ap, subst, arith, List, [], ◌∷◌, ◌++◌, map, length, Option, Some, None}
-use Rattle.plain_tree.specs.declared.answer.Reply.{Reply}
-use Rattle.plain_tree.specs.declared.call.Call.{Call}
-use Rattle.plain_tree.specs.declared.trace.Trace.{Trace}
-use Rattle.plain_tree.specs.TreeData.{TreeData}
-use Rattle.plain_tree.specs.Widths.{hart_count}
-use Rattle.plain_tree.specs.Tree.{Tree, tree_of, put, live_directory}
-use Rattle.plain_tree.specs.Calls.{Act, next_of, call_climbs}
-use Rattle.plain_tree.specs.Explains.{Chain, Rises, AllBelong, noted, trace_from, trace_of, Explains}
-use Rattle.tree_laws.specs.WellFormed.{IsWellFormed}
-use Rattle.tree_laws.proofs.Maps.{same_or, put_same, put_other}
-use Rattle.tree_laws.specs.Moves.{Deed, Walk, Stage, Move, fail, after}
-use Rattle.tree_laws.specs.History.{HartStanding, History, writes, writes_any, tells, tells_any, passes}
-use Rattle.tree_laws.specs.History.HartStanding.{Free, Busy}
-use Rattle.tree_laws.specs.Runs.{World, Event, lost, lost_of, unless, falls, all_fall, moves_on, MayReply, finishes, stepped, Happens, Runs, opened, shown_of, climbing, NoneClimbs, IsStartBy, Alone}
-use Rattle.tree_laws.specs.Runs.Event.{Starts, Steps, Nothing}
-use Rattle.tree_laws.proofs.Book.{BookOk, AllBelow, write_ok, tell_ok, start_ok, reply_ok, passes_ok, later_ok, explained}
-use Rattle.tree_laws.proofs.Walked.{Left, StepBy, walk_falls, walk_kept}
+use Rattle.tree_laws.proofs.Vocabulary.{◌≡◌, ◌≢◌, ℕ, zero, suc, ◌+◌, ◌<◌, ◌≤◌, true, false, inl, inr, refl, sym, ◌∙◌, ap, subst, arith, List, [], ◌∷◌, ◌++◌, map, length, Option, Some, None, Reply, Call, Trace, TreeData, hart_count, Tree, tree_of, put, live_directory, Act, next_of, call_climbs, Chain, Rises, AllBelong, noted, trace_from, trace_of, Explains, IsWellFormed, Deed, Walk, Stage, Move, fail, after, HartStanding, History, writes, writes_any, tells, tells_any, passes, Free, Busy, World, Event, lost, lost_of, unless, falls, all_fall, moves_on, MayReply, finishes, stepped, Happens, Runs, opened, shown_of, climbing, NoneClimbs, IsStartBy, Alone, Starts, Steps, Nothing}
+use Rattle.tree_laws.proofs.Basics.{same_or, put_same, put_other, BookOk, AllBelow, write_ok, tell_ok, start_ok, reply_ok, passes_ok, later_ok, explained, Left, StepBy, walk_falls, walk_kept}
 use Rattle.tree_laws.proofs.Moved.{WalkAt, Way, HasMoved, no_walk, lost_dead, lost_live, any_moved}
 use Rattle.tree_laws.proofs.Moved.Way.{Stays, Did, Went, Ended}
 

@@ -1,28 +1,7 @@
 -- Every tree step keeps a tree well formed.
-use Rattle.std.proofs.Common.{◌≡◌, ◌≢◌, ℕ, ◌<◌, Bool, true, false, ◌&&◌, ◌||◌, not, ◌==◌, inl, inr, refl, sym, ◌∙◌, ap, subst, arith, List, [], ◌∷◌, length, Option, Some, None, nat_lt, if◌then◌else◌}
-use Rattle.std.proofs.lemmas.Bool.Decides.{nat_tests}
-use Rattle.plain_tree.specs.declared.answer.Cause.{Cause}
-use Rattle.plain_tree.specs.declared.answer.Cause.TheVariants.{DotName}
-use Rattle.plain_tree.specs.declared.node.Node.{Node}
-use Rattle.plain_tree.specs.declared.node.Kind.{Kind}
-use Rattle.plain_tree.specs.declared.node.Kind.TheVariants.{Directory, File, Device}
-use Rattle.plain_tree.specs.declared.tree.OpenFile.{OpenFile}
-use Rattle.plain_tree.specs.declared.tree.Hold.{Hold}
-use Rattle.plain_tree.specs.declared.step.Action.{Action}
-use Rattle.plain_tree.specs.declared.step.Action.TheVariants.{Open, Truncate, Read, WritePart, Find, Bump, Enter, Unbump, Unlink, Mkdir, Chdir, Dup, Close, Fstat, Inherit}
-use Rattle.plain_tree.specs.declared.step.StepAnswer.{StepAnswer}
-use Rattle.plain_tree.specs.declared.step.StepAnswer.TheVariants.{Opened, Bytes, Stat as Status, Fd as NewFd, Done, Failed, Full as NoRoom}
-use Rattle.plain_tree.specs.Widths.{hart_count}
-use Rattle.plain_tree.specs.Tree.{Name, Tree, put, same_name, dot, dotdot, is_directory, live_directory, all_slots, first_slot, look, resolve, parent, settle}
-use Rattle.plain_tree.specs.Steps.{node_or, node_at, file_at, is_file, is_open_file, holds_raised, has_room, creates, find_refusal, enter_refusal, name_taken, or_else, child_refusal, unlink_refusal, mkdir_refusal, chdir_refusal, fd_refusal, refusal_with, place_of, IsInPlace, effect_with, refused, new_file, raised, lowered, emptied, truncated, written_kind, written, wrote, held, at_hold, raise_hold, enter_hold, drop_hold, removed, removed_child, made, opened_at, opened_in, opened_new, at_dir, is_absent, is_nothing, IsNewNode, MayChoose, StepWith}
-use Rattle.tree_laws.proofs.Maps.{either, eq_self, eq_not, put_same, and_true, or_none}
-use Rattle.tree_laws.specs.WellFormed.{folder, links_of, links_in, raised_at, one_if, IsThere, IsWellFormed}
-use Rattle.tree_laws.specs.Leaves.{IsFound}
-use Rattle.tree_laws.proofs.Sums.{one_yes, one_no}
-use Rattle.tree_laws.proofs.Nodes.{live_some, settled_well}
-use Rattle.tree_laws.proofs.Walks.{look_in}
+use Rattle.tree_laws.proofs.Vocabulary.{◌≡◌, ◌≢◌, ℕ, ◌<◌, Bool, true, false, ◌&&◌, ◌||◌, not, ◌==◌, inl, inr, refl, sym, ◌∙◌, ap, subst, arith, List, [], ◌∷◌, length, Option, Some, None, nat_lt, if◌then◌else◌, nat_tests, Cause, DotName, Node, Kind, Directory, File, Device, OpenFile, Hold, Action, Open, Truncate, Read, WritePart, Find, Bump, Enter, Unbump, Unlink, Mkdir, Chdir, Dup, Close, Fstat, Inherit, StepAnswer, Opened, Bytes, Status, NewFd, Done, Failed, NoRoom, hart_count, Name, Tree, put, same_name, dot, dotdot, is_directory, live_directory, all_slots, first_slot, look, resolve, parent, settle, node_or, node_at, file_at, is_file, is_open_file, holds_raised, has_room, creates, find_refusal, enter_refusal, name_taken, or_else, child_refusal, unlink_refusal, mkdir_refusal, chdir_refusal, fd_refusal, refusal_with, place_of, IsInPlace, effect_with, refused, new_file, raised, lowered, emptied, truncated, written_kind, written, wrote, held, at_hold, raise_hold, enter_hold, drop_hold, removed, removed_child, made, opened_at, opened_in, opened_new, at_dir, is_absent, is_nothing, IsNewNode, MayChoose, StepWith, folder, links_of, links_in, raised_at, one_if, IsThere, IsWellFormed, IsFound}
+use Rattle.tree_laws.proofs.Basics.{either, eq_self, eq_not, put_same, and_true, or_none, one_yes, one_no, live_some, settled_well, look_in, well_content, well_same, well_counted, well_entered, well_file, not_folder, not_raised, is_raised, raises_part, with_new}
 use Rattle.tree_laws.proofs.Facts.{InMap, in_map, look_live, resolve_map, parent_live}
-use Rattle.tree_laws.proofs.Formed.{well_content, well_same, well_counted, well_entered, well_file, not_folder, not_raised, is_raised, raises_part, with_new}
 use Rattle.tree_laws.proofs.Placed.{well_directory, well_removed}
 use Rattle.tree_laws.proofs.Opened.{file_is, well_opened, well_moved, well_dup, well_closed, well_inherit, well_chdir, well_hold}
 

@@ -1,3 +1,6 @@
+pub mod Basics
+pub mod Lemmas
+pub mod Vocabulary
 pub mod Maps
 pub mod Sums
 pub mod Slots

@@ -1,6 +1,5 @@
 -- Places in lists.
-use Rattle.std.proofs.Common.{◌≡◌, ℕ, zero, suc, ◌<◌, ◌⊎◌, inl, inr, refl, ap, arith, List, [], ◌∷◌, ◌++◌, length, map, Some, None}
-use Rattle.std.specs.Prelude.{slice_get}
+use Rattle.tree_laws.proofs.Vocabulary.{◌≡◌, ℕ, zero, suc, ◌<◌, ◌⊎◌, inl, inr, refl, ap, arith, List, [], ◌∷◌, ◌++◌, length, map, Some, None, slice_get}
 
 pub get_left : {A : Type 0} → (xs ys : List A) (i : ℕ) (v : A) → slice_get xs i ≡ Some v → slice_get (xs ++ ys) i ≡ Some v
 get_left [] ys i v h = absurd cc

@@ -1,20 +1,8 @@
 -- What a hart's own move does.
-use Rattle.std.proofs.Common.{◌≡◌, ◌≢◌, ℕ, ◌<◌, true, false, inl, refl, sym, ◌∙◌, ap, subst, List, [], ◌∷◌, ◌++◌, append_assoc, Option, Some, None}
-use Rattle.plain_tree.specs.declared.call.Call.{Call}
-use Rattle.plain_tree.specs.declared.step.Action.{Action}
-use Rattle.plain_tree.specs.Widths.{hart_count}
-use Rattle.plain_tree.specs.Tree.{Name, Tree, put, elements, live_directory, look, follow, start_of, resolve, parent, parent_of}
-use Rattle.plain_tree.specs.Steps.{path_of, follows_path, IsInPlace}
-use Rattle.plain_tree.specs.Calls.{Act, next_of}
-use Rattle.tree_laws.specs.WellFormed.{IsWellFormed}
-use Rattle.tree_laws.proofs.Maps.{put_same, put_other}
-use Rattle.tree_laws.proofs.Walks.{follow_on, follow_stop, follow_end, follow_one, parent_nil, parent_on, parent_stop, parent_here}
+use Rattle.tree_laws.proofs.Vocabulary.{◌≡◌, ◌≢◌, ℕ, ◌<◌, true, false, inl, refl, sym, ◌∙◌, ap, subst, List, [], ◌∷◌, ◌++◌, append_assoc, Option, Some, None, Call, Action, hart_count, Name, Tree, put, elements, live_directory, look, follow, start_of, resolve, parent, parent_of, path_of, follows_path, IsInPlace, Act, next_of, IsWellFormed, Deed, Walk, Stage, Move, Acts, GoesTo, Begins, Looks, Plays, fail, walks_at, after, Begin, Look, Quit, Own, lost, lost_of, PlaysAny, BeginsNext}
+use Rattle.tree_laws.proofs.Basics.{put_same, put_other, follow_on, follow_stop, follow_end, follow_one, parent_nil, parent_on, parent_stop, parent_here, WalkOk, Left, left_same, StepBy, lost_fails}
 use Rattle.tree_laws.proofs.Kept.{step_well, step_hart, path_found}
 use Rattle.tree_laws.proofs.Frames.{step_frame}
-use Rattle.tree_laws.specs.Moves.{Deed, Walk, Stage, Move, Acts, GoesTo, Begins, Looks, Plays, fail, walks_at, after}
-use Rattle.tree_laws.specs.Moves.Move.{Begin, Look, Quit, Own}
-use Rattle.tree_laws.specs.Runs.{lost, lost_of, PlaysAny, BeginsNext}
-use Rattle.tree_laws.proofs.Walked.{WalkOk, Left, left_same, StepBy, lost_fails}
 
 abbrev pub WalkAt : Tree → ℕ → Call → List Act → Option Walk → Type 0
 WalkAt t h c x None = Unit {0}

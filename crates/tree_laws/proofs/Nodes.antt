@@ -1,14 +1,6 @@
 -- Nodes as the forest sees them, and what settling leaves.
-use Rattle.std.proofs.Common.{◌≡◌, ◌≢◌, ℕ, ◌<◌, ◌≤◌, Bool, true, false, ◌||◌, ◌==◌, ◌⊎◌, inl, inr, refl, sym, ◌∙◌, ap, subst, arith, Option, Some, None, nat_lt}
-use Rattle.std.proofs.lemmas.Bool.Decides.{nat_tests}
-use Rattle.plain_tree.specs.declared.node.Node.{Node}
-use Rattle.plain_tree.specs.declared.tree.OpenFile.{OpenFile}
-use Rattle.plain_tree.specs.declared.tree.Hold.{Hold}
-use Rattle.plain_tree.specs.Widths.{hart_count, descriptor_count}
-use Rattle.plain_tree.specs.Tree.{Tree, put, any_below, live_directory, is_live, all_slots, fd_names, file_names, hold_names, is_named, settle}
-use Rattle.plain_tree.specs.Steps.{node_or}
+use Rattle.tree_laws.proofs.Vocabulary.{◌≡◌, ◌≢◌, ℕ, ◌<◌, ◌≤◌, Bool, true, false, ◌||◌, ◌==◌, ◌⊎◌, inl, inr, refl, sym, ◌∙◌, ap, subst, arith, Option, Some, None, nat_lt, nat_tests, Node, OpenFile, Hold, hart_count, descriptor_count, Tree, put, any_below, live_directory, is_live, all_slots, fd_names, file_names, hold_names, is_named, settle, node_or, Slots, Folders, folder, links_of, folders_of, links_in, raises, IsForest, IsWellFormed}
 use Rattle.tree_laws.proofs.Maps.{either, same_or, eq_self, put_is, put_same, put_other, and_true, or_left, or_right, any_at}
-use Rattle.tree_laws.specs.WellFormed.{Slots, Folders, folder, links_of, folders_of, links_in, raises, IsForest, IsWellFormed}
 
 pub folder_live : (v : Option Node) → live_directory v ≡ true → folder v ≡ Some (all_slots v)
 folder_live v h = rw h refl

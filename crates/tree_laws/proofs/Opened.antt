@@ -1,16 +1,6 @@
 -- What descriptors, open files, holds and current directories may become.
-use Rattle.std.proofs.Common.{◌≡◌, ◌≢◌, ℕ, ◌+◌, ◌<◌, true, false, ◌||◌, not, ◌==◌, ◌⊎◌, inl, inr, refl, sym, ◌∙◌, ap, subst, arith, Option, Some, None, nat_lt, if◌then◌else◌}
-use Rattle.std.proofs.lemmas.Bool.Decides.{nat_tests}
-use Rattle.plain_tree.specs.declared.node.Node.{Node}
-use Rattle.plain_tree.specs.declared.tree.OpenFile.{OpenFile}
-use Rattle.plain_tree.specs.declared.tree.Hold.{Hold}
-use Rattle.plain_tree.specs.Widths.{hart_count, descriptor_count}
-use Rattle.plain_tree.specs.Tree.{Tree, put, any_below, is_directory, and_then}
-use Rattle.plain_tree.specs.Steps.{node_or, node_at, file_at, has_room, lowest, with_file, moved, has_fd, closed, at_dir, has, write_only, read_write}
-use Rattle.tree_laws.proofs.Maps.{either, eq_self, put_is, put_same, put_other, any_at}
-use Rattle.tree_laws.specs.WellFormed.{folders_of, links_in, raised_at, raises, IsForest, IsThere, IsWellFormed}
-use Rattle.tree_laws.proofs.Nodes.{everywhere}
-use Rattle.tree_laws.proofs.Formed.{well_held, well_cwd, well_files, raises_put}
+use Rattle.tree_laws.proofs.Vocabulary.{◌≡◌, ◌≢◌, ℕ, ◌+◌, ◌<◌, true, false, ◌||◌, not, ◌==◌, ◌⊎◌, inl, inr, refl, sym, ◌∙◌, ap, subst, arith, Option, Some, None, nat_lt, if◌then◌else◌, nat_tests, Node, OpenFile, Hold, hart_count, descriptor_count, Tree, put, any_below, is_directory, and_then, node_or, node_at, file_at, has_room, lowest, with_file, moved, has_fd, closed, at_dir, has, write_only, read_write, folders_of, links_in, raised_at, raises, IsForest, IsThere, IsWellFormed}
+use Rattle.tree_laws.proofs.Basics.{either, eq_self, put_is, put_same, put_other, any_at, everywhere, well_held, well_cwd, well_files, raises_put}
 
 abbrev pub new_open : ℕ → ℕ → OpenFile
 new_open n flags = record { number = n; offset = 0; readable = not (has flags write_only); writable = has flags write_only || has flags read_write }

@@ -1,22 +1,7 @@
 -- A directory is made, and a name is removed.
-use Rattle.std.proofs.Common.{◌≡◌, ◌≢◌, ℕ, suc, ◌+◌, ◌-◌, ◌<◌, ◌≤◌, Bool, true, false, ◌&&◌, ◌==◌, inl, inr, refl, sym, ◌∙◌, ap, subst, arith, [], drop, Option, Some, None, nat_lt, if◌then◌else◌}
-use Rattle.std.proofs.lemmas.Bool.Decides.{nat_tests}
-use Rattle.plain_tree.specs.declared.answer.Cause.{Cause}
-use Rattle.plain_tree.specs.declared.node.Slot.{Slot}
-use Rattle.plain_tree.specs.declared.node.Node.{Node}
-use Rattle.plain_tree.specs.declared.node.Kind.{Kind}
-use Rattle.plain_tree.specs.declared.node.Kind.TheVariants.{Directory, File, Device}
-use Rattle.plain_tree.specs.Widths.{root}
-use Rattle.plain_tree.specs.Tree.{Name, Tree, put, same_name, dot, dotdot, is_directory, slots_of, live_directory, is_live, all_slots, first_slot, look}
-use Rattle.plain_tree.specs.Steps.{node_or, node_at, with_nodes, first_free, cleared, any_used, not_empty, raised, lowered, new_directory}
-use Rattle.tree_laws.proofs.Maps.{either, same_or, eq_self, eq_not, put_is, put_same, put_other, and_true}
-use Rattle.tree_laws.specs.WellFormed.{Slots, Folders, folder, links_of, folders_of, links_in, up_in, past, count_in, one_if, mentions, children, raises, IsForest, IsWellFormed}
-use Rattle.tree_laws.proofs.Sums.{one_yes, one_no, count_entered, count_unused}
-use Rattle.tree_laws.proofs.Slots.{Dots}
-use Rattle.tree_laws.proofs.Forest.{cleared_forest, grown_forest, shrunk_forest, apart, plain_or, mentions_part, childless, entered_shape, shape_rest}
-use Rattle.tree_laws.proofs.Nodes.{folder_live, folder_dead, folder_some, folder_none, folder_links, linked_live, live_some, some_node, everywhere, folders_put, put_self}
+use Rattle.tree_laws.proofs.Vocabulary.{◌≡◌, ◌≢◌, ℕ, suc, ◌+◌, ◌-◌, ◌<◌, ◌≤◌, Bool, true, false, ◌&&◌, ◌==◌, inl, inr, refl, sym, ◌∙◌, ap, subst, arith, [], drop, Option, Some, None, nat_lt, if◌then◌else◌, nat_tests, Cause, Slot, Node, Kind, Directory, File, Device, root, Name, Tree, put, same_name, dot, dotdot, is_directory, slots_of, live_directory, is_live, all_slots, first_slot, look, node_or, node_at, with_nodes, first_free, cleared, any_used, not_empty, raised, lowered, new_directory, Slots, Folders, folder, links_of, folders_of, links_in, up_in, past, count_in, one_if, mentions, children, raises, IsForest, IsWellFormed}
+use Rattle.tree_laws.proofs.Basics.{either, same_or, eq_self, eq_not, put_is, put_same, put_other, and_true, one_yes, one_no, count_entered, count_unused, Dots, cleared_forest, grown_forest, shrunk_forest, apart, plain_or, mentions_part, childless, entered_shape, shape_rest, folder_live, folder_dead, folder_some, folder_none, folder_links, linked_live, live_some, some_node, everywhere, folders_put, put_self, InRange, Keeps, range_put, keeps_put, keeps_on, well_nodes, not_folder, with_new, new_apart, new_keeps, new_range, new_links, new_folders, file_forest}
 use Rattle.tree_laws.proofs.Facts.{entry_found, entry_up, entry_apart, entry_linked}
-use Rattle.tree_laws.proofs.Formed.{InRange, Keeps, range_put, keeps_put, keeps_on, well_nodes, not_folder, with_new, new_apart, new_keeps, new_range, new_links, new_folders, file_forest}
 
 both_true : (a b : Bool) → a ≡ true → b ≡ true → (a && b) ≡ true
 both_true a b p q = grind arith

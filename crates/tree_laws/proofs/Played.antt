@@ -1,25 +1,6 @@
 -- Runs that are computed: what a script of moves does, and that it is a run where each move is allowed.
-use Rattle.std.proofs.Common.{◌≡◌, ◌≢◌, ℕ, zero, suc, ◌+◌, ◌*◌, ◌<◌, Bool, true, false, ◌&&◌, ◌||◌, not, ◌==◌, refl, ap, subst, arith, List, [], ◌∷◌, Option, Some, None, nat_lt, if◌then◌else◌}
-use Rattle.std.proofs.lemmas.Bool.Decides.{nat_tests}
-use Rattle.plain_tree.specs.declared.answer.Cause.{Cause}
-use Rattle.plain_tree.specs.declared.answer.Reply.{Reply}
-use Rattle.plain_tree.specs.declared.call.Call.{Call}
-use Rattle.plain_tree.specs.declared.step.Action.{Action}
-use Rattle.plain_tree.specs.declared.step.Action.TheVariants.{Open, Truncate, Read, WritePart, Find, Bump, Enter, Unbump, Unlink, Mkdir, Chdir, Dup, Close, Fstat, Inherit}
-use Rattle.plain_tree.specs.declared.step.StepAnswer.{StepAnswer}
-use Rattle.plain_tree.specs.declared.step.StepAnswer.TheVariants.{Opened, Bytes, Stat as Status, Fd as NewFd, Done, Failed, Full as NoRoom}
-use Rattle.plain_tree.specs.declared.tree.OpenFile.{OpenFile}
-use Rattle.plain_tree.specs.Widths.{hart_count, descriptor_count}
-use Rattle.plain_tree.specs.Tree.{Name, Tree, put, any_below, elements, live_directory, look, start_of, resolve, parent, settle}
-use Rattle.plain_tree.specs.Steps.{path_of, follows_path, makes_node, opens_one, is_nothing, place_of, IsInPlace, IsLeastUnused, MayChoose, StepWith, refusal_with, refused, effect_with, answer_with}
-use Rattle.plain_tree.specs.Calls.{Act, next_of, reply_of, had_room}
-use Rattle.tree_laws.proofs.Maps.{eq_self, eq_not, and_true, any_none}
-use Rattle.tree_laws.specs.Moves.{Deed, Walk, Stage, Move, Acts, Begins, Looks, walks_at, fail, after}
-use Rattle.tree_laws.specs.Moves.Move.{Begin, Look, Quit, Own}
-use Rattle.tree_laws.specs.History.{HartStanding, starts}
-use Rattle.tree_laws.specs.History.HartStanding.{Free, Busy}
-use Rattle.tree_laws.specs.Runs.{World, Event, PlaysAny, BeginsNext, stepped, Happens, Runs}
-use Rattle.tree_laws.specs.Runs.Event.{Starts, Steps, Nothing}
+use Rattle.tree_laws.proofs.Vocabulary.{◌≡◌, ◌≢◌, ℕ, zero, suc, ◌+◌, ◌*◌, ◌<◌, Bool, true, false, ◌&&◌, ◌||◌, not, ◌==◌, refl, ap, subst, arith, List, [], ◌∷◌, Option, Some, None, nat_lt, if◌then◌else◌, nat_tests, Cause, Reply, Call, Action, Open, Truncate, Read, WritePart, Find, Bump, Enter, Unbump, Unlink, Mkdir, Chdir, Dup, Close, Fstat, Inherit, StepAnswer, Opened, Bytes, Status, NewFd, Done, Failed, NoRoom, OpenFile, hart_count, descriptor_count, Name, Tree, put, any_below, elements, live_directory, look, start_of, resolve, parent, settle, path_of, follows_path, makes_node, opens_one, is_nothing, place_of, IsInPlace, IsLeastUnused, MayChoose, StepWith, refusal_with, refused, effect_with, answer_with, Act, next_of, reply_of, had_room, Deed, Walk, Stage, Move, Acts, Begins, Looks, walks_at, fail, after, Begin, Look, Quit, Own, HartStanding, starts, Free, Busy, World, Event, PlaysAny, BeginsNext, stepped, Happens, Runs, Starts, Steps, Nothing}
+use Rattle.tree_laws.proofs.Basics.{eq_self, eq_not, and_true, any_none}
 
 -- a move without the step that it is for
 pub data Plan : Type 0 where

@@ -1,17 +1,6 @@
 -- Each live node has a path from the root.
-use Rattle.std.proofs.Common.{◌≡◌, ℕ, zero, suc, ◌<◌, ◌≤◌, true, ◌==◌, inl, inr, sym, ◌∙◌, ap, subst, arith, [], ◌∷◌, ◌++◌, drop, Option, Some, None}
-use Rattle.std.proofs.lemmas.Bool.Decides.{nat_tests}
-use Rattle.plain_tree.specs.declared.node.Slot.{Slot}
-use Rattle.plain_tree.specs.declared.node.Node.{Node}
-use Rattle.plain_tree.specs.Widths.{root}
-use Rattle.plain_tree.specs.Tree.{Name, Tree, same_name, dot, dotdot, first_slot, is_live, look}
-use Rattle.plain_tree.specs.Explains.{IsReached}
-use Rattle.tree_laws.proofs.Maps.{either, same_or, eq_is}
-use Rattle.tree_laws.specs.WellFormed.{Slots, Folders, folder, folders_of, links_in, links_of, up_in, past, sum_below, one_if, count_in, mentions, raises, NamesOnce, IsForest, IsWellFormed}
-use Rattle.tree_laws.proofs.Sums.{one_no, count_nil}
-use Rattle.tree_laws.proofs.Slots.{same_is, same_self, slot_here, slot_past, slot_none, Dots}
-use Rattle.tree_laws.proofs.Forest.{plain_or}
-use Rattle.tree_laws.proofs.Walks.{follow_on, follow_end, follow_one}
+use Rattle.tree_laws.proofs.Vocabulary.{◌≡◌, ℕ, zero, suc, ◌<◌, ◌≤◌, true, ◌==◌, inl, inr, sym, ◌∙◌, ap, subst, arith, [], ◌∷◌, ◌++◌, drop, Option, Some, None, nat_tests, Slot, Node, root, Name, Tree, same_name, dot, dotdot, first_slot, is_live, look, IsReached, Slots, Folders, folder, folders_of, links_in, links_of, up_in, past, sum_below, one_if, count_in, mentions, raises, NamesOnce, IsForest, IsWellFormed}
+use Rattle.tree_laws.proofs.Basics.{either, same_or, eq_is, one_no, count_nil, same_is, same_self, slot_here, slot_past, slot_none, Dots, plain_or, follow_on, follow_end, follow_one}
 use Rattle.tree_laws.proofs.Frames.{look_by}
 
 -- a sum has a term

@@ -1,11 +1,5 @@
 -- Computed runs.
-use Rattle.std.proofs.Common.{refl}
-use Rattle.plain_tree.specs.Tree.{pieces, put, any_below, same_name, first_slot, look, follow, parent_from, parent_of, file_in, is_named, settle, tree_of}
-use Rattle.plain_tree.specs.Steps.{entries, any_used, lowest_from, refusal_with, place_of, first_free, cleared, has_fd, effect_with, answer_with}
-use Rattle.plain_tree.specs.Calls.{last_cause, next_of, first_cause, reply_of, had_room}
-use Rattle.plain_tree.specs.Fresh.{fresh}
-use Rattle.tree_laws.specs.Runs.{World, all_fall, opened}
-use Rattle.tree_laws.specs.Examples.{removed_under, made_again, opens_below_a, WalkerFails, WalkerStaysFailed, WalkerFailsAtAFile}
+use Rattle.tree_laws.proofs.Vocabulary.{refl, pieces, put, any_below, same_name, first_slot, look, follow, parent_from, parent_of, file_in, is_named, settle, tree_of, entries, any_used, lowest_from, refusal_with, place_of, first_free, cleared, has_fd, effect_with, answer_with, last_cause, next_of, first_cause, reply_of, had_room, fresh, World, all_fall, opened, removed_under, made_again, opens_below_a, WalkerFails, WalkerStaysFailed, WalkerFailsAtAFile}
 use Rattle.tree_laws.proofs.Played.{first_unused, acted, moved, played, may_all, events_of, end_of, script_of, events_run}
 
 abbrev first : World

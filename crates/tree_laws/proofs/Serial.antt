@@ -1,24 +1,6 @@
 -- Where one hart alone makes calls, the list is its calls' sequences one after the other.
-use Rattle.std.proofs.Common.{◌≡◌, ◌≢◌, ℕ, zero, suc, ◌<◌, ◌≤◌, ◌==◌, inl, inr, refl, sym, ◌∙◌, ap, subst, arith, List, [], ◌∷◌, ◌++◌, append_assoc, append-nil, map, length, Option, Some, None}
-use Rattle.plain_tree.specs.declared.answer.Reply.{Reply}
-use Rattle.plain_tree.specs.declared.call.Call.{Call}
-use Rattle.plain_tree.specs.declared.trace.Trace.{Trace}
-use Rattle.plain_tree.specs.declared.trace.TracedCall.{TracedCall}
-use Rattle.plain_tree.specs.declared.trace.Placed.{Placed}
-use Rattle.plain_tree.specs.TreeData.{TreeData}
-use Rattle.plain_tree.specs.Widths.{hart_count}
-use Rattle.plain_tree.specs.Tree.{Tree, tree_of, put}
-use Rattle.plain_tree.specs.Calls.{Act}
-use Rattle.plain_tree.specs.Explains.{trace_of, ends_at}
-use Rattle.tree_laws.specs.WellFormed.{IsWellFormed}
-use Rattle.tree_laws.proofs.Maps.{either, same_or, eq_self, eq_not, put_same}
-use Rattle.tree_laws.specs.Moves.{Deed, Stage}
-use Rattle.tree_laws.specs.History.{HartStanding, History, writes, writes_any, tells, tells_any, entry_of}
-use Rattle.tree_laws.specs.History.HartStanding.{Free, Busy}
-use Rattle.tree_laws.specs.Runs.{World, Event, lost_of, unless, falls, all_fall, moves_on, finishes, Happens, Runs, Alone, IsStartBy, opened, shown_of}
-use Rattle.tree_laws.specs.Runs.Event.{Starts, Steps, Nothing}
-use Rattle.tree_laws.specs.MoveLaws.{of_call, in_turn}
-use Rattle.tree_laws.proofs.Lists.{map_length, more_length}
+use Rattle.tree_laws.proofs.Vocabulary.{◌≡◌, ◌≢◌, ℕ, zero, suc, ◌<◌, ◌≤◌, ◌==◌, inl, inr, refl, sym, ◌∙◌, ap, subst, arith, List, [], ◌∷◌, ◌++◌, append_assoc, append-nil, map, length, Option, Some, None, Reply, Call, Trace, TracedCall, Placed, TreeData, hart_count, Tree, tree_of, put, Act, trace_of, ends_at, IsWellFormed, Deed, Stage, HartStanding, History, writes, writes_any, tells, tells_any, entry_of, Free, Busy, World, Event, lost_of, unless, falls, all_fall, moves_on, finishes, Happens, Runs, Alone, IsStartBy, opened, shown_of, Starts, Steps, Nothing, of_call, in_turn}
+use Rattle.tree_laws.proofs.Basics.{either, same_or, eq_self, eq_not, put_same, map_length, more_length}
 use Rattle.tree_laws.proofs.History.{Inv, OwnOk, IsHart, apart_alone, start_alone, happens_ok, opened_ok, run_trace, writes_calls, tells_there, falls_calls}
 
 of_append : (id : ℕ) (xs ys : List Placed) → of_call id (xs ++ ys) ≡ of_call id xs ++ of_call id ys

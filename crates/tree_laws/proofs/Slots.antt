@@ -1,10 +1,6 @@
 -- Slots: what entering and clearing a name do to the others.
-use Rattle.std.proofs.Common.{◌≡◌, ℕ, ◌+◌, true, false, ◌==◌, inl, inr, refl, sym, ◌∙◌, subst, arith, [], ◌∷◌, Some, None}
-use Rattle.plain_tree.specs.declared.node.Slot.{Slot}
-use Rattle.plain_tree.specs.Tree.{Name, same_name, dot, dotdot, first_slot}
-use Rattle.plain_tree.specs.Steps.{first_free, cleared, any_used, is_used}
+use Rattle.tree_laws.proofs.Vocabulary.{◌≡◌, ℕ, ◌+◌, true, false, ◌==◌, inl, inr, refl, sym, ◌∙◌, subst, arith, [], ◌∷◌, Some, None, Slot, Name, same_name, dot, dotdot, first_slot, first_free, cleared, any_used, is_used, Slots, NamesOnce, count_in, one_if}
 use Rattle.tree_laws.proofs.Maps.{either, eq_self, eq_is, and_true, or_none}
-use Rattle.tree_laws.specs.WellFormed.{Slots, NamesOnce, count_in, one_if}
 use Rattle.tree_laws.proofs.Sums.{count_cleared, one_yes}
 
 pub same_is : (a b : Name) → same_name a b ≡ true → a ≡ b

@@ -1,10 +1,6 @@
 -- Sums over a range of numbers, and how often slots name a node.
-use Rattle.std.proofs.Common.{◌≡◌, ◌≢◌, ℕ, zero, suc, ◌+◌, ◌<◌, ◌≤◌, Bool, true, false, ◌==◌, inl, inr, refl, sym, subst, arith, List, [], ◌∷◌, Option, Some, None}
-use Rattle.plain_tree.specs.declared.node.Slot.{Slot}
-use Rattle.plain_tree.specs.Tree.{Name, same_name, first_slot}
-use Rattle.plain_tree.specs.Steps.{first_free, cleared, any_used, is_used}
+use Rattle.tree_laws.proofs.Vocabulary.{◌≡◌, ◌≢◌, ℕ, zero, suc, ◌+◌, ◌<◌, ◌≤◌, Bool, true, false, ◌==◌, inl, inr, refl, sym, subst, arith, List, [], ◌∷◌, Option, Some, None, Slot, Name, same_name, first_slot, first_free, cleared, any_used, is_used, sum_below, one_if, count_in}
 use Rattle.tree_laws.proofs.Maps.{either, same_or, or_none}
-use Rattle.tree_laws.specs.WellFormed.{sum_below, one_if, count_in}
 
 pub sum_same : (n : ℕ) (f g : ℕ → ℕ) → ((k : ℕ) → k < n → g k ≡ f k) → sum_below n g ≡ sum_below n f
 unfolding sum_below

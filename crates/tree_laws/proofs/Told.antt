@@ -1,17 +1,6 @@
 -- What calls are told: the failing step of a lost walk when it is given up, everything else at once.
-use Rattle.std.proofs.Common.{◌≡◌, ℕ, ◌<◌, refl, ◌∙◌, ap, List, [], ◌∷◌, ◌++◌, append-nil, Option, Some, None}
-use Rattle.plain_tree.specs.declared.answer.Reply.{Reply}
-use Rattle.plain_tree.specs.declared.call.Call.{Call}
-use Rattle.plain_tree.specs.Widths.{hart_count}
-use Rattle.plain_tree.specs.Tree.{Tree}
-use Rattle.plain_tree.specs.Calls.{Act}
-use Rattle.plain_tree.specs.Explains.{acts_of}
-use Rattle.tree_laws.specs.Moves.{Deed, Stage, Step, begins, IsNext, after, MayEnd, IsPlayed, told_by}
-use Rattle.tree_laws.specs.History.{HartStanding, History, writes_any, tells_any}
-use Rattle.tree_laws.specs.History.HartStanding.{Busy}
-use Rattle.tree_laws.specs.Runs.{World, lost_of, unless, moves_on}
-use Rattle.tree_laws.specs.MoveLaws.{Tells}
-use Rattle.tree_laws.proofs.Book.{list_has}
+use Rattle.tree_laws.proofs.Vocabulary.{◌≡◌, ℕ, ◌<◌, refl, ◌∙◌, ap, List, [], ◌∷◌, ◌++◌, append-nil, Option, Some, None, Reply, Call, hart_count, Tree, Act, acts_of, Deed, Stage, MoveStep as Step, begins, IsNext, after, MayEnd, IsPlayed, told_by, HartStanding, History, writes_any, tells_any, Busy, World, lost_of, unless, moves_on, Tells}
+use Rattle.tree_laws.proofs.Basics.{list_has}
 use Rattle.tree_laws.proofs.History.{Inv, lately, writes_calls, tells_here, tells_there, falls_calls, finish_here, finish_there}
 
 with_late : (o : Option Deed) (x : List Act) → x ++ lately o ≡ after o x

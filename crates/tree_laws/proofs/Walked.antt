@@ -1,21 +1,7 @@
 -- A walk's path so far leads to its node while that is a live directory; when another hart's step kills it the walk fails just then.
-use Rattle.std.proofs.Common.{◌≡◌, ℕ, Bool, true, false, ◌&&◌, not, ◌⊎◌, inl, inr, refl, sym, ◌∙◌, ap, subst, List, [], ◌∷◌, ◌++◌, length, Option, Some, None, nat_lt}
-use Rattle.plain_tree.specs.declared.answer.Cause.{Cause}
-use Rattle.plain_tree.specs.declared.answer.Cause.TheVariants.{NoEntry}
-use Rattle.plain_tree.specs.declared.call.Call.{Call}
-use Rattle.plain_tree.specs.declared.call.Call.TheVariants.{Open as OpenCall, Read as ReadCall, Write as WriteCall, Link as LinkCall, Unlink as UnlinkCall, Mkdir as MkdirCall, Chdir as ChdirCall, Dup as DupCall, Fstat as FstatCall, Close as CloseCall, Inherit as InheritCall}
-use Rattle.plain_tree.specs.declared.step.Action.{Action}
-use Rattle.plain_tree.specs.declared.step.Action.TheVariants.{Open, Truncate, Read, WritePart, Find, Bump, Enter, Unbump, Unlink, Mkdir, Chdir, Dup, Close, Fstat, Inherit}
-use Rattle.plain_tree.specs.declared.step.StepAnswer.{StepAnswer}
-use Rattle.plain_tree.specs.declared.step.StepAnswer.TheVariants.{Opened, Bytes, Stat as Status, Fd as NewFd, Done, Failed, Full as NoRoom}
-use Rattle.plain_tree.specs.declared.tree.Hold.{Hold}
-use Rattle.plain_tree.specs.Widths.{hart_count}
-use Rattle.plain_tree.specs.Tree.{Name, Tree, elements, climbs, climbs_in, pieces, live_directory, follow, start_of, resolve, parent, parent_of}
-use Rattle.plain_tree.specs.Steps.{path_of, follows_path, refusal_with, refused, place_of, holds_raised, IsInPlace, Step, creates, has, empty_it}
-use Rattle.plain_tree.specs.Calls.{Act, next_of, call_climbs, last_cause, next_piece, once, to_truncate, if_done, if_failed, piece, piece_count}
+use Rattle.tree_laws.proofs.Vocabulary.{◌≡◌, ℕ, Bool, true, false, ◌&&◌, not, ◌⊎◌, inl, inr, refl, sym, ◌∙◌, ap, subst, List, [], ◌∷◌, ◌++◌, length, Option, Some, None, nat_lt, Cause, NoEntry, Call, OpenCall, ReadCall, WriteCall, LinkCall, UnlinkCall, MkdirCall, ChdirCall, DupCall, FstatCall, CloseCall, InheritCall, Action, Open, Truncate, Read, WritePart, Find, Bump, Enter, Unbump, Unlink, Mkdir, Chdir, Dup, Close, Fstat, Inherit, StepAnswer, Opened, Bytes, Status, NewFd, Done, Failed, NoRoom, Hold, hart_count, Name, Tree, elements, climbs, climbs_in, pieces, live_directory, follow, start_of, resolve, parent, parent_of, path_of, follows_path, refusal_with, refused, place_of, holds_raised, IsInPlace, Step, creates, has, empty_it, Act, next_of, call_climbs, last_cause, next_piece, once, to_truncate, if_done, if_failed, piece, piece_count, Deed, Walk, fail}
 use Rattle.tree_laws.proofs.Maps.{either, or_none}
 use Rattle.tree_laws.proofs.Walks.{follow_on, follow_off, follow_stop, look_bad, parent_on, parent_off, parent_bad, climbs_front}
-use Rattle.tree_laws.specs.Moves.{Deed, Walk, fail}
 
 -- The call's next step is the walk's, and while the walk's node is a live directory the path so far leads to it.
 pub record WalkOk (t : Tree) (h : ℕ) (c : Call) (x : List Act) (w : Walk) : Type 0 where

@@ -1,7 +1,5 @@
 -- Paths without "..": what settling, and what a removal, do to them.
-use Rattle.std.proofs.Common.{◌≡◌, ◌≢◌, ℕ, Bool, true, false, ◌||◌, ◌⊎◌, inl, inr, refl, sym, ◌∙◌, subst, arith, List, [], ◌∷◌, ◌++◌, Option, Some, None}
-use Rattle.plain_tree.specs.declared.node.Node.{Node}
-use Rattle.plain_tree.specs.Tree.{Name, Tree, same_name, dotdot, first_slot, live_directory, is_live, all_slots, look, follow, parent_from, parent_of, climbs_in, settle, is_named}
+use Rattle.tree_laws.proofs.Vocabulary.{◌≡◌, ◌≢◌, ℕ, Bool, true, false, ◌||◌, ◌⊎◌, inl, inr, refl, sym, ◌∙◌, subst, arith, List, [], ◌∷◌, ◌++◌, Option, Some, None, Node, Name, Tree, same_name, dotdot, first_slot, live_directory, is_live, all_slots, look, follow, parent_from, parent_of, climbs_in, settle, is_named}
 use Rattle.tree_laws.proofs.Maps.{either, same_or, and_true, or_none}
 
 abbrev Nodes : Type 0

@@ -1,11 +1,6 @@
 -- What each action makes of a tree before it settles, and what it answers, where it isn't refused.
 use Rattle.std.specs.Prelude.{◌≡◌, ℕ, List, length, Option, Some, None, if◌then◌else◌}
-use Rattle.plain_tree.specs.declared.step.Action.{Action}
-use Rattle.plain_tree.specs.declared.step.Action.TheVariants.{Open, Truncate, Read, WritePart, Find, Bump, Enter, Unbump, Unlink, Mkdir, Chdir, Dup, Close, Fstat, Inherit}
-use Rattle.plain_tree.specs.declared.step.StepAnswer.{StepAnswer}
-use Rattle.plain_tree.specs.declared.step.StepAnswer.TheVariants.{Bytes, Fd as NewFd, Done}
-use Rattle.plain_tree.specs.Tree.{Name, Tree, put, look, and_then}
-use Rattle.plain_tree.specs.Steps.{creates, file_at, part, moved, truncated, wrote, held, at_hold, raise_hold, enter_hold, drop_hold, raised, lowered, removed, made, at_dir, closed, lowest, opened_new, opened_at, opened, stat_answer, effect_with, answer_with}
+use Rattle.tree_laws.specs.Vocabulary.{Action, Open, Truncate, Read, WritePart, Find, Bump, Enter, Unbump, Unlink, Mkdir, Chdir, Dup, Close, Fstat, Inherit, StepAnswer, Bytes, NewFd, Done, Name, Tree, put, look, and_then, creates, file_at, part, moved, truncated, wrote, held, at_hold, raise_hold, enter_hold, drop_hold, raised, lowered, removed, made, at_dir, closed, lowest, opened_new, opened_at, opened, stat_answer, effect_with, answer_with}
 
 -- the step makes this tree and gives this answer, whatever its path leads to (res), and its parent with the last element (par)
 abbrev pub Makes : Action → (Tree → ℕ → Option ℕ → Option (ℕ × Name) → ℕ → ℕ → Tree)

@@ -1,18 +1,6 @@
 -- Runs: one in which each call finishes, and three in which a walk is lost: twice its directory is removed under it.
 use Rattle.std.specs.Prelude.{◌≡◌, ℕ, true, List, [], ◌∷◌, ◌++◌, Some, None, codes}
-use Rattle.plain_tree.specs.declared.answer.Answer.{Answer}
-use Rattle.plain_tree.specs.declared.answer.Answer.TheVariants.{Fd, Count, Stat as Stated, Done as Finished, Failed as Refused}
-use Rattle.plain_tree.specs.declared.answer.Cause.TheVariants.{NoEntry}
-use Rattle.plain_tree.specs.declared.answer.NodeType.TheVariants.{File as AFile}
-use Rattle.plain_tree.specs.declared.call.Call.{Call}
-use Rattle.plain_tree.specs.declared.call.Call.TheVariants.{Open, Read, Write, Link, Unlink, Mkdir, Chdir, Dup, Fstat, Close, Inherit}
-use Rattle.plain_tree.specs.declared.step.Action.{Action}
-use Rattle.plain_tree.specs.declared.step.Action.TheVariants.{Open as OpenStep, Read as ReadStep, WritePart, Find, Bump, Enter, Unlink as UnlinkStep, Mkdir as MkdirStep, Chdir as ChdirStep, Dup as DupStep, Close as CloseStep, Fstat as FstatStep, Inherit as InheritStep}
-use Rattle.plain_tree.specs.declared.step.StepAnswer.{StepAnswer}
-use Rattle.plain_tree.specs.declared.step.StepAnswer.TheVariants.{Opened, Bytes, Stat as Status, Fd as NewFd, Done, Failed}
-use Rattle.plain_tree.specs.declared.trace.Placed.{Placed}
-use Rattle.plain_tree.specs.Tree.{tree_of}
-use Rattle.plain_tree.specs.Fresh.{fresh}
+use Rattle.tree_laws.specs.Vocabulary.{Answer, Fd, Count, Stated, Finished, Refused, NoEntry, AFile, Call, OpenCall as Open, ReadCall as Read, Write, Link, UnlinkCall as Unlink, MkdirCall as Mkdir, ChdirCall as Chdir, DupCall as Dup, FstatCall as Fstat, CloseCall as Close, InheritCall as Inherit, Action, Open as OpenStep, Read as ReadStep, WritePart, Find, Bump, Enter, Unlink as UnlinkStep, Mkdir as MkdirStep, Chdir as ChdirStep, Dup as DupStep, Close as CloseStep, Fstat as FstatStep, Inherit as InheritStep, StepAnswer, Opened, Bytes, Status, NewFd, Done, Failed, Placed, tree_of, fresh}
 use Rattle.tree_laws.specs.Moves.{Move}
 use Rattle.tree_laws.specs.Moves.Move.{Begin, Look, Quit, Own}
 use Rattle.tree_laws.specs.Runs.{World, Event, Runs, opened}

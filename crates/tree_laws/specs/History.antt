@@ -1,14 +1,7 @@
 -- The history so far: the list of tree steps that is kept beside the trace, and how each hart's call stands. Entries are appended, never
 -- changed.
 use Rattle.std.specs.Prelude.{ℕ, List, [], ◌∷◌, ◌++◌, length, Option, Some, None}
-use Rattle.plain_tree.specs.declared.answer.Reply.{Reply}
-use Rattle.plain_tree.specs.declared.call.Call.{Call}
-use Rattle.plain_tree.specs.declared.trace.Trace.{Trace}
-use Rattle.plain_tree.specs.declared.trace.Placed.{Placed}
-use Rattle.plain_tree.specs.Tree.{put}
-use Rattle.plain_tree.specs.Calls.{Act}
-use Rattle.plain_tree.specs.Explains.{noted}
-use Rattle.plain_tree.specs.Explains.Shown.{Started, Replied, Other}
+use Rattle.tree_laws.specs.Vocabulary.{Reply, Call, Trace, Placed, put, Act, noted, Started, Replied, Other}
 use Rattle.tree_laws.specs.Moves.{Deed}
 
 -- id: the call's place in the trace; told: its acts, as far as it was told

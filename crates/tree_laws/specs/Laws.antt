@@ -1,12 +1,6 @@
 -- The laws of the plain tree.
 use Rattle.std.specs.Prelude.{◌≡◌, ℕ, ◌<◌, ◌≤◌, true, false, List, Option, None}
-use Rattle.plain_tree.specs.declared.step.Action.{Action}
-use Rattle.plain_tree.specs.declared.step.StepAnswer.{StepAnswer}
-use Rattle.plain_tree.specs.Widths.{hart_count}
-use Rattle.plain_tree.specs.Tree.{Name, Tree, tree_of, put, is_live, is_named, resolve, parent}
-use Rattle.plain_tree.specs.Steps.{refusal_with, IsInPlace, MayChoose, effect_with, StepWith}
-use Rattle.plain_tree.specs.Explains.{IsReached}
-use Rattle.plain_tree.specs.Fresh.{fresh}
+use Rattle.tree_laws.specs.Vocabulary.{Action, StepAnswer, hart_count, Name, Tree, tree_of, put, is_live, is_named, resolve, parent, refusal_with, IsInPlace, MayChoose, effect_with, StepWith, IsReached, fresh}
 use Rattle.tree_laws.specs.WellFormed.{raises, IsWellFormed}
 use Rattle.tree_laws.specs.Leaves.{IsFound, LeavesFinding, Frame, IsNobodys}
 

@@ -1,9 +1,6 @@
 -- What a tree step leaves of the directories, and of the paths that other harts follow.
 use Rattle.std.specs.Prelude.{◌≡◌, ◌≢◌, ℕ, Bool, true, false, List, drop, Option, Some, None, ◌⊎◌}
-use Rattle.plain_tree.specs.declared.step.Action.{Action}
-use Rattle.plain_tree.specs.declared.step.Action.TheVariants.{Open, Truncate, Read, WritePart, Find, Bump, Enter, Unbump, Unlink, Mkdir, Chdir, Dup, Close, Fstat, Inherit}
-use Rattle.plain_tree.specs.Tree.{Name, Tree, climbs_in, live_directory, all_slots, look, follow, is_named}
-use Rattle.plain_tree.specs.Steps.{creates, any_used, makes_node, refusal_with}
+use Rattle.tree_laws.specs.Vocabulary.{Action, Open, Truncate, Read, WritePart, Find, Bump, Enter, Unbump, Unlink, Mkdir, Chdir, Dup, Close, Fstat, Inherit, Name, Tree, climbs_in, live_directory, all_slots, look, follow, is_named, creates, any_used, makes_node, refusal_with}
 
 -- the step may enter or clear a name
 abbrev pub names_change : Action → Bool

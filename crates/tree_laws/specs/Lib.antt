@@ -1,3 +1,4 @@
+pub mod Vocabulary
 pub mod WellFormed
 pub mod Leaves
 pub mod Actions

@@ -1,13 +1,6 @@
 -- Every run of moves is explained by the list that is kept.
 use Rattle.std.specs.Prelude.{◌≡◌, ◌≢◌, ℕ, zero, suc, ◌<◌, List, [], ◌∷◌, ◌++◌, map, filter, length, nat_lt, ◌==◌, Option, Some, None}
-use Rattle.plain_tree.specs.declared.answer.Reply.{Reply}
-use Rattle.plain_tree.specs.declared.call.Call.{Call}
-use Rattle.plain_tree.specs.declared.trace.Placed.{Placed}
-use Rattle.plain_tree.specs.TreeData.{TreeData}
-use Rattle.plain_tree.specs.Widths.{hart_count}
-use Rattle.plain_tree.specs.Tree.{Tree, tree_of}
-use Rattle.plain_tree.specs.Calls.{Act}
-use Rattle.plain_tree.specs.Explains.{Chain, acts_of, trace_of, Explains}
+use Rattle.tree_laws.specs.Vocabulary.{Reply, Call, Placed, TreeData, hart_count, Tree, tree_of, Act, Chain, acts_of, trace_of, Explains}
 use Rattle.tree_laws.specs.WellFormed.{IsWellFormed}
 use Rattle.tree_laws.specs.Moves.{Deed, Stage, Step, begins, IsNext, after, MayEnd, IsWholeCall, told_by}
 use Rattle.tree_laws.specs.History.HartStanding.{Free, Busy}

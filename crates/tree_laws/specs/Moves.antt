@@ -1,16 +1,6 @@
 -- The moves of calls on a tree, as a single hart sees them: walks, lookups, acts. A walk that was lost is told so when it is given up.
 use Rattle.std.specs.Prelude.{◌≡◌, ◌≢◌, ℕ, ◌<◌, true, false, List, [], ◌∷◌, ◌++◌, Option, Some, None}
-use Rattle.plain_tree.specs.declared.answer.Cause.TheVariants.{NoEntry}
-use Rattle.plain_tree.specs.declared.answer.Reply.{Reply}
-use Rattle.plain_tree.specs.declared.call.Call.{Call}
-use Rattle.plain_tree.specs.declared.step.Action.{Action}
-use Rattle.plain_tree.specs.declared.step.Action.TheVariants.{Inherit}
-use Rattle.plain_tree.specs.declared.step.StepAnswer.{StepAnswer}
-use Rattle.plain_tree.specs.declared.step.StepAnswer.TheVariants.{Failed}
-use Rattle.plain_tree.specs.Widths.{hart_count}
-use Rattle.plain_tree.specs.Tree.{Name, Tree, put, elements, live_directory, look, start_of, resolve, parent}
-use Rattle.plain_tree.specs.Steps.{path_of, follows_path, makes_node, refusal_with, IsInPlace, StepWith}
-use Rattle.plain_tree.specs.Calls.{Act, next_of, reply_of, had_room}
+use Rattle.tree_laws.specs.Vocabulary.{NoEntry, Reply, Call, Action, Inherit, StepAnswer, Failed, hart_count, Name, Tree, put, elements, live_directory, look, start_of, resolve, parent, path_of, follows_path, makes_node, refusal_with, IsInPlace, StepWith, Act, next_of, reply_of, had_room}
 
 -- A step with its answer, and the number that it may give a new node.
 pub record Deed : Type 0 where

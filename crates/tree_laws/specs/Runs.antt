@@ -1,12 +1,6 @@
 -- Runs: calls of many harts make their moves on one tree, and the history is written beside them.
 use Rattle.std.specs.Prelude.{◌≡◌, ℕ, zero, suc, ◌<◌, Bool, false, List, [], ◌∷◌, if◌then◌else◌, Option, Some, None}
-use Rattle.plain_tree.specs.declared.answer.Reply.{Reply}
-use Rattle.plain_tree.specs.declared.call.Call.{Call}
-use Rattle.plain_tree.specs.Widths.{hart_count}
-use Rattle.plain_tree.specs.Tree.{Tree, live_directory}
-use Rattle.plain_tree.specs.Calls.{Act, call_climbs}
-use Rattle.plain_tree.specs.Explains.{Shown, no_calls}
-use Rattle.plain_tree.specs.Explains.Shown.{Started, Replied, Other}
+use Rattle.tree_laws.specs.Vocabulary.{Reply, Call, hart_count, Tree, live_directory, Act, call_climbs, Shown, no_calls, Started, Replied, Other}
 use Rattle.tree_laws.specs.Moves.{Deed, Walk, Stage, Move, fail, Plays, begins, IsNext, after, MayEnd}
 use Rattle.tree_laws.specs.History.{History, writes_any, tells_any, starts, replies, passes}
 use Rattle.tree_laws.specs.History.HartStanding.{Free, Busy}

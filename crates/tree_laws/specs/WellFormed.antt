@@ -1,11 +1,6 @@
 -- A well-formed plain tree: live directories stand in one tree under the root, and counts are numbers of links.
 use Rattle.std.specs.Prelude.{◌≡◌, ◌≢◌, ℕ, zero, suc, ◌+◌, ◌<◌, ◌≤◌, Bool, true, false, ◌&&◌, not, List, [], ◌∷◌, drop, ◌==◌, if◌then◌else◌, Option, Some, None}
-use Rattle.plain_tree.specs.declared.node.Slot.{Slot}
-use Rattle.plain_tree.specs.declared.node.Node.{Node}
-use Rattle.plain_tree.specs.declared.tree.OpenFile.{OpenFile}
-use Rattle.plain_tree.specs.declared.tree.Hold.{Hold}
-use Rattle.plain_tree.specs.Widths.{hart_count, descriptor_count, root}
-use Rattle.plain_tree.specs.Tree.{Tree, dot, dotdot, is_directory, live_directory, all_slots, first_slot}
+use Rattle.tree_laws.specs.Vocabulary.{Slot, Node, OpenFile, Hold, hart_count, descriptor_count, root, Tree, dot, dotdot, is_directory, live_directory, all_slots, first_slot}
 
 abbrev pub Slots : Type 0
 Slots = List (Option Slot)

@@ -1,7 +1,5 @@
 -- "." and "..", by their bytes.
-use Rattle.std.proofs.Common.{◌≡◌, ℕ, suc, Bool, true, false, ◌&&◌, ◌||◌, nat_eq, List, [], ◌∷◌, length, get_or, refl, sym, arith}
-use Rattle.plain_tree.specs.Tree.{same_name}
-use Rattle.whole_calls.specs.Calls.{is_dots}
+use Rattle.whole_calls.proofs.Vocabulary.{◌≡◌, ℕ, suc, Bool, true, false, ◌&&◌, ◌||◌, nat_eq, List, [], ◌∷◌, length, get_or, refl, sym, arith, same_name, is_dots}
 
 by_one : (b : Bool) → ((b && true) || (b && false)) ≡ b
 by_one true = refl

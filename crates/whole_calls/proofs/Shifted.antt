@@ -1,19 +1,7 @@
 -- Two paths, one behind the other, as one text.
-use Rattle.std.proofs.Common.{◌≡◌, ℕ, ◌+◌, ◌-◌, ◌≤◌, List, ◌++◌, length, take, drop, refl, sym, subst, ap, ◌∙◌, inl, inr, arith, length-append, length-drop}
-use Rattle.std.proofs.lemmas.List.{append-nil, drop-append-le, take-append-le}
-use Rattle.std.proofs.Math.Seq.{drop-append-add}
-use Rattle.plain_tree.specs.Tree.{Name}
-use Rattle.inode_machine.specs.Inodes.{AtName}
-use Rattle.inode_machine.specs.World.Op.{Take}
-use Rattle.path_walk.specs.Asks.{op_in, IsNamed, IsNamedInTwo, OnlySeeks}
-use Rattle.path_walk.specs.Elements.{name_in, shifted, IsElement, IsInOne}
-use Rattle.path_walk.specs.Names.{IsName}
-use Rattle.whole_calls.specs.Wholes.{first_in, second_in, text_in}
-use Rattle.path_walk.specs.declared.asks.Ask.{Ask}
+use Rattle.whole_calls.proofs.Vocabulary.{◌≡◌, ℕ, ◌+◌, ◌-◌, ◌≤◌, List, ◌++◌, length, take, drop, refl, sym, subst, ap, ◌∙◌, inl, inr, arith, length-append, length-drop, append-nil, drop-append-le, take-append-le, drop-append-add, Name, AtName, Take, op_in, IsNamed, IsNamedInTwo, OnlySeeks, name_in, shifted, IsElement, IsInOne, IsName, first_in, second_in, text_in, Ask, Element, Whole}
 use Rattle.path_walk.specs.declared.asks.Ask.TheVariants as ask
 use Rattle.path_walk.specs.declared.asks.Query.TheVariants as query
-use Rattle.path_walk.specs.declared.elements.Element.{Element}
-use Rattle.whole_calls.specs.declared.whole.Whole.{Whole}
 use Rattle.whole_calls.specs.declared.whole.Whole.TheVariants as whole
 
 module _ (front path : List ℕ) (e : Element) where

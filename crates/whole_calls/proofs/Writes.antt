@@ -1,11 +1,5 @@
 -- Piece by piece.
-use Rattle.std.proofs.Common.{◌≡◌, ◌≢◌, ℕ, zero, suc, ◌+◌, ◌-◌, List, [], ◌∷◌, length, refl, ap, arith}
-use Rattle.plain_tree.specs.declared.answer.Reply.{Reply}
-use Rattle.atomic_programs.specs.Prog.{Do, unmarked}
-use Rattle.inode_machine.specs.World.Op.{Join}
-use Rattle.inode_machine.specs.Parts.{P}
-use Rattle.inode_machine.specs.Descriptors.{write_from, write_piece, write_program}
-use Rattle.whole_calls.specs.Writes.{more_of, write_of}
+use Rattle.whole_calls.proofs.Vocabulary.{◌≡◌, ◌≢◌, ℕ, zero, suc, ◌+◌, ◌-◌, List, [], ◌∷◌, length, refl, ap, arith, Reply, Do, unmarked, Join, P, write_from, write_piece, write_program, more_of, write_of}
 use Rattle.whole_calls.specs.declared.writing.Write.TheVariants as writing
 
 pub from_is : (fd n : ℕ) (bytes : List ℕ) (more i : ℕ) → write_piece fd n bytes i (more_of fd bytes n more i) ≡ write_from fd n bytes more i

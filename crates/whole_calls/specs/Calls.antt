@@ -1,23 +1,10 @@
 -- What is left of each call.
 use Rattle.std.specs.Prelude.{◌≡◌, ◌≤◌, ℕ, ◌+◌, ◌-◌, ◌||◌, Bool, List, [], length, Option, Some, None}
-use Rattle.plain_tree.specs.Tree.{Name, elements, same_name, dot, dotdot}
-use Rattle.plain_tree.specs.declared.answer.Answer.{Answer as CallAnswer}
-use Rattle.plain_tree.specs.declared.answer.Cause.TheVariants.{NoEntry}
-use Rattle.plain_tree.specs.declared.answer.Reply.{Reply}
+use Rattle.whole_calls.specs.Vocabulary.{Name, elements, same_name, dot, dotdot, CallAnswer, NoEntry, Reply, Do, unmarked, name_in, IsElement, Face, Give, Store, Settle, Join, P, failed, done, drop, give_up, tail, say, stopped, dup_program, stat_program, chdir_at, face_of, reply_to, After, Stands, most_left, walk_of, Turn, Element, Walk}
 use Rattle.plain_tree.specs.declared.call.Call.TheVariants as calls
 use Rattle.plain_tree.specs.declared.step.Action.TheVariants as steps
-use Rattle.atomic_programs.specs.Prog.{Do, unmarked}
-use Rattle.path_walk.specs.Elements.{name_in, IsElement}
-use Rattle.inode_machine.specs.Inodes.{Face}
-use Rattle.inode_machine.specs.World.Op.{Give, Store, Settle, Join}
-use Rattle.inode_machine.specs.Parts.{P, failed, done, drop, give_up, tail, say, stopped}
-use Rattle.inode_machine.specs.Descriptors.{dup_program, stat_program}
-use Rattle.inode_machine.specs.Moving.{chdir_at}
 use Rattle.inode_machine.specs.Naming as naming
-use Rattle.path_walk.specs.Asks.{face_of, reply_to}
 use Rattle.whole_calls.specs.Ends.{dropping_of, ending_of}
-use Rattle.path_walk.specs.Walks.{After, Stands, most_left, walk_of}
-use Rattle.path_walk.specs.declared.asks.Turn.{Turn}
 use Rattle.path_walk.specs.declared.asks.Turn.TheVariants as turn
 use Rattle.whole_calls.specs.declared.chdir.Chdir.{Chdir}
 use Rattle.whole_calls.specs.declared.chdir.Chdir.TheVariants as chdir
@@ -25,11 +12,9 @@ use Rattle.whole_calls.specs.declared.descriptors.Dup.{Dup}
 use Rattle.whole_calls.specs.declared.descriptors.Dup.TheVariants as dup
 use Rattle.whole_calls.specs.declared.descriptors.Fstat.{Fstat}
 use Rattle.whole_calls.specs.declared.descriptors.Fstat.TheVariants as fstat
-use Rattle.path_walk.specs.declared.elements.Element.{Element}
 use Rattle.whole_calls.specs.declared.unlink.Unlink.{Unlink}
 use Rattle.whole_calls.specs.declared.unlink.Unlink.TheVariants as unlink
 use Rattle.path_walk.specs.declared.walk.Goal.TheVariants as goal
-use Rattle.path_walk.specs.declared.walk.Walk.{Walk}
 use Rattle.path_walk.specs.declared.walk.Walk.TheVariants as walking
 
 -- the longest list

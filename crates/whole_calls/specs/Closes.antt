@@ -1,12 +1,7 @@
 -- What is left of a close, and of an inherit.
 use Rattle.std.specs.Prelude.{ℕ}
-use Rattle.plain_tree.specs.declared.answer.Reply.{Reply}
+use Rattle.whole_calls.specs.Vocabulary.{Reply, Ret, Do, unmarked, Lend, Release, Join, Leave, P, done, drop, say, close_program, inherit_end, lend_from, lend_on, lends, lent_directory}
 use Rattle.plain_tree.specs.declared.call.Call.TheVariants as calls
-use Rattle.atomic_programs.specs.Prog.{Ret, Do, unmarked}
-use Rattle.inode_machine.specs.World.Op.{Lend, Release, Join, Leave}
-use Rattle.inode_machine.specs.Parts.{P, done, drop, say}
-use Rattle.inode_machine.specs.Descriptors.{close_program}
-use Rattle.inode_machine.specs.Moving.{inherit_end, lend_from, lend_on, lends, lent_directory}
 use Rattle.whole_calls.specs.Ends.{dropping_of}
 use Rattle.whole_calls.specs.declared.close.Close.{Close}
 use Rattle.whole_calls.specs.declared.close.Close.TheVariants as closing

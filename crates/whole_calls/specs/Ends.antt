@@ -1,13 +1,6 @@
 -- What is left of a call that ends.
 use Rattle.std.specs.Prelude.{ℕ, List, Option, Some, None}
-use Rattle.plain_tree.specs.declared.answer.Reply.{Reply}
-use Rattle.plain_tree.specs.declared.call.Call.{Call}
-use Rattle.atomic_programs.specs.Prog.{Do, unmarked}
-use Rattle.inode_machine.specs.Inodes.{AtNothing}
-use Rattle.inode_machine.specs.World.Op.{Take, Give, Free, Forget, Leave}
-use Rattle.inode_machine.specs.World.Mark.{Frees}
-use Rattle.inode_machine.specs.Parts.{P, drop, give_up, free_listed, free_all, tail, say}
-use Rattle.path_walk.specs.Asks.{reply_to}
+use Rattle.whole_calls.specs.Vocabulary.{Reply, Call, Do, unmarked, AtNothing, Take, Give, Free, Forget, Leave, Frees, P, drop, give_up, free_listed, free_all, tail, say, reply_to}
 use Rattle.whole_calls.specs.declared.dropping.Dropping.{Dropping}
 use Rattle.whole_calls.specs.declared.dropping.Dropping.TheVariants as dropping
 use Rattle.whole_calls.specs.declared.ending.Freeing.{Freeing}

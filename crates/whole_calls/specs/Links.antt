@@ -1,29 +1,14 @@
 -- What is left of a link.
 use Rattle.std.specs.Prelude.{◌≡◌, ◌≤◌, ℕ, ◌+◌, ◌-◌, List, [], length, Option, Some, None, if◌then◌else◌}
-use Rattle.plain_tree.specs.Tree.{Name, elements}
-use Rattle.plain_tree.specs.declared.answer.Answer.{Answer as CallAnswer}
-use Rattle.plain_tree.specs.declared.answer.Cause.TheVariants.{NoEntry, IsDirectory}
-use Rattle.plain_tree.specs.declared.answer.Reply.{Reply}
+use Rattle.whole_calls.specs.Vocabulary.{Name, elements, CallAnswer, NoEntry, IsDirectory, Reply, Action, Do, name_in, IsElement, Face, is_directory_sort, Store, Enter, P, own_step, failed, done, drop, give_up, tail, stopped, bump_refused, enters, link_at, link_in, link_name, link_program, link_raise, lower, named_on, face_of, reply_to, After, Stands, most_left, walk_of, Turn, Element, Walk}
 use Rattle.plain_tree.specs.declared.call.Call.TheVariants as calls
-use Rattle.plain_tree.specs.declared.step.Action.{Action}
 use Rattle.plain_tree.specs.declared.step.Action.TheVariants as steps
-use Rattle.atomic_programs.specs.Prog.{Do}
-use Rattle.path_walk.specs.Elements.{name_in, IsElement}
-use Rattle.inode_machine.specs.Inodes.{Face, is_directory_sort}
-use Rattle.inode_machine.specs.World.Op.{Store, Enter}
-use Rattle.inode_machine.specs.Parts.{P, own_step, failed, done, drop, give_up, tail, stopped}
-use Rattle.inode_machine.specs.Naming.{bump_refused, enters, link_at, link_in, link_name, link_program, link_raise, lower, named_on}
-use Rattle.path_walk.specs.Asks.{face_of, reply_to}
 use Rattle.whole_calls.specs.Calls.{most_listed}
 use Rattle.whole_calls.specs.Ends.{dropping_of, ending_of}
-use Rattle.path_walk.specs.Walks.{After, Stands, most_left, walk_of}
-use Rattle.path_walk.specs.declared.asks.Turn.{Turn}
 use Rattle.path_walk.specs.declared.asks.Turn.TheVariants as turn
-use Rattle.path_walk.specs.declared.elements.Element.{Element}
 use Rattle.whole_calls.specs.declared.link.Link.{Link}
 use Rattle.whole_calls.specs.declared.link.Link.TheVariants as linking
 use Rattle.path_walk.specs.declared.walk.Goal.TheVariants as goal
-use Rattle.path_walk.specs.declared.walk.Walk.{Walk}
 
 pub data LinkStage : Type 0 where
   Fresh : LinkStage

@@ -1,23 +1,10 @@
 -- What is left of a mkdir.
 use Rattle.std.specs.Prelude.{ℕ, ◌+◌, List, Option, Some, None, if◌then◌else◌}
-use Rattle.plain_tree.specs.Tree.{Name}
-use Rattle.plain_tree.specs.declared.answer.Cause.TheVariants.{NoEntry}
-use Rattle.plain_tree.specs.declared.answer.Full.TheVariants.{MemInodes, Blocks}
-use Rattle.plain_tree.specs.declared.answer.Reply.{Reply}
+use Rattle.whole_calls.specs.Vocabulary.{Name, NoEntry, MemInodes, Blocks, Reply, Do, unmarked, name_in, OfDirectory, Face, Orphans, Claim, Forget, Store, Fill, Enter, P, mends_if_full, failed, full, done, give_up, tail, stopped, entered_file, mends_unless_new, unmake, mkdir_in, mkdir_other, mkdir_program, mkdir_with, name_directory, face_of, reply_to, After, walk_of}
 use Rattle.plain_tree.specs.declared.call.Call.TheVariants as calls
 use Rattle.plain_tree.specs.declared.step.Action.TheVariants as steps
-use Rattle.atomic_programs.specs.Prog.{Do, unmarked}
-use Rattle.path_walk.specs.Elements.{name_in}
-use Rattle.inode_machine.specs.Inodes.{OfDirectory, Face}
-use Rattle.inode_machine.specs.World.{Orphans}
-use Rattle.inode_machine.specs.World.Op.{Claim, Forget, Store, Fill, Enter}
-use Rattle.inode_machine.specs.Parts.{P, mends_if_full, failed, full, done, give_up, tail, stopped}
-use Rattle.inode_machine.specs.Opening.{entered_file, mends_unless_new, unmake}
-use Rattle.inode_machine.specs.Naming.{mkdir_in, mkdir_other, mkdir_program, mkdir_with, name_directory}
-use Rattle.path_walk.specs.Asks.{face_of, reply_to}
 use Rattle.whole_calls.specs.Calls.{Stage, Fresh, Walks, Names, Past}
 use Rattle.whole_calls.specs.Ends.{ending_of}
-use Rattle.path_walk.specs.Walks.{After, walk_of}
 use Rattle.whole_calls.specs.declared.opens.NewName.{NewName}
 use Rattle.whole_calls.specs.declared.mkdir.Mkdir.{Mkdir}
 use Rattle.whole_calls.specs.declared.mkdir.Mkdir.TheVariants as making

@@ -1,27 +1,13 @@
 -- What is left of an open.
 use Rattle.std.specs.Prelude.{ℕ, Bool, true, false, List, Option, Some, None, if◌then◌else◌}
-use Rattle.plain_tree.specs.Steps.{creates}
-use Rattle.plain_tree.specs.Tree.{Name}
-use Rattle.plain_tree.specs.declared.answer.Full.TheVariants.{MemInodes}
-use Rattle.plain_tree.specs.declared.answer.Reply.{Reply}
+use Rattle.whole_calls.specs.Vocabulary.{creates, Name, MemInodes, Reply, Do, unmarked, name_in, Sort, Mark, Orphans, Claim, Forget, Up, Store, Enter, Empty, Install, P, own_step, mends_if_full, full, give_up, tail, stopped, create_in, empties, entered_file, file_for, installed_on, installs, make_on, make_other, mends_unless_new, make_with, open_at, open_end, open_made, open_program, take_descriptor, truncates, reply_to, sort_of, OfFile, After, walk_of, Goal}
 use Rattle.plain_tree.specs.declared.call.Call.TheVariants as calls
 use Rattle.plain_tree.specs.declared.step.Action.TheVariants as steps
-use Rattle.atomic_programs.specs.Prog.{Do, unmarked}
-use Rattle.path_walk.specs.Elements.{name_in}
-use Rattle.inode_machine.specs.Inodes.{Sort}
-use Rattle.inode_machine.specs.World.{Mark, Orphans}
-use Rattle.inode_machine.specs.World.Op.{Claim, Forget, Up, Store, Enter, Empty, Install}
-use Rattle.inode_machine.specs.Parts.{P, own_step, mends_if_full, full, give_up, tail, stopped}
-use Rattle.inode_machine.specs.Opening.{create_in, empties, entered_file, file_for, installed_on, installs, make_on, make_other, mends_unless_new, make_with, open_at, open_end, open_made, open_program, take_descriptor, truncates}
-use Rattle.path_walk.specs.Asks.{reply_to, sort_of}
 use Rattle.whole_calls.specs.Calls.{Stage, Fresh, Walks, Names, Past}
 use Rattle.whole_calls.specs.Ends.{dropping_of, ending_of}
-use Rattle.inode_machine.specs.Inodes.{OfFile}
-use Rattle.path_walk.specs.Walks.{After, walk_of}
 use Rattle.whole_calls.specs.declared.opens.Found.{Found}
 use Rattle.whole_calls.specs.declared.opens.Open.{Open}
 use Rattle.whole_calls.specs.declared.opens.Open.TheVariants as opening
-use Rattle.path_walk.specs.declared.walk.Goal.{Goal}
 use Rattle.path_walk.specs.declared.walk.Goal.TheVariants as goal
 
 abbrev pub open_goal : ℕ → Goal

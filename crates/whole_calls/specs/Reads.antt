@@ -1,17 +1,9 @@
 -- What is left of a read.
 use Rattle.std.specs.Prelude.{◌≡◌, ◌≤◌, ℕ, ◌++◌, List, take, drop, length}
-use Rattle.plain_tree.specs.declared.answer.Answer.{Answer as CallAnswer}
+use Rattle.whole_calls.specs.Vocabulary.{CallAnswer, Reply, LocksIt, P, say, read_on, read_program, count_in, reply_to, IsNamed, Ask, Heard, Turn}
 use Rattle.plain_tree.specs.declared.answer.Answer.TheVariants as answers
-use Rattle.plain_tree.specs.declared.answer.Reply.{Reply}
 use Rattle.plain_tree.specs.declared.call.Call.TheVariants as calls
-use Rattle.inode_machine.specs.World.{LocksIt}
-use Rattle.inode_machine.specs.Parts.{P, say}
-use Rattle.inode_machine.specs.Descriptors.{read_on, read_program}
-use Rattle.path_walk.specs.Asks.{count_in, reply_to, IsNamed}
-use Rattle.path_walk.specs.declared.asks.Ask.{Ask}
 use Rattle.path_walk.specs.declared.asks.Ask.TheVariants as ask
-use Rattle.path_walk.specs.declared.asks.Heard.{Heard}
-use Rattle.path_walk.specs.declared.asks.Turn.{Turn}
 use Rattle.path_walk.specs.declared.asks.Turn.TheVariants as turn
 use Rattle.whole_calls.specs.declared.reading.Read.{Read}
 use Rattle.whole_calls.specs.declared.reading.Read.TheVariants as reading

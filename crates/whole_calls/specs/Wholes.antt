@@ -1,14 +1,8 @@
 -- What is left of a call, whichever it is.
 use Rattle.std.specs.Prelude.{◌≢◌, ◌≤◌, ◌<◌, ◌^◌, ◌+◌, ℕ, Bool, List, [], ◌++◌, length, All}
-use Rattle.plain_tree.specs.Tree.{elements}
-use Rattle.plain_tree.specs.declared.answer.Answer.{Answer as CallAnswer}
-use Rattle.plain_tree.specs.declared.answer.Reply.{Reply}
-use Rattle.plain_tree.specs.declared.call.Call.{Call}
+use Rattle.whole_calls.specs.Vocabulary.{elements, CallAnswer, Reply, Call, Action, P, stepped, IsNamed, IsNamedInTwo, Ask, Heard}
 use Rattle.plain_tree.specs.declared.call.Call.TheVariants as calls
-use Rattle.plain_tree.specs.declared.step.Action.{Action}
 use Rattle.plain_tree.specs.declared.step.Action.TheVariants as steps
-use Rattle.inode_machine.specs.Parts.{P}
-use Rattle.path_walk.specs.Asks.{stepped, IsNamed, IsNamedInTwo}
 use Rattle.whole_calls.specs.Calls.{Fits, chdir_of, chdir_stage, dup_of, most_listed, stat_of, unlink_of, unlink_stage}
 use Rattle.whole_calls.specs.Closes.{close_of, inherit_of}
 use Rattle.whole_calls.specs.Links.{LinkFits, link_action, link_of, link_stage}
@@ -16,8 +10,6 @@ use Rattle.whole_calls.specs.Makes.{mkdir_of, mkdir_stage}
 use Rattle.whole_calls.specs.Opens.{open_of, open_stage}
 use Rattle.whole_calls.specs.Reads.{HasRoomIn, ReadAsks, ReadFits, read_of}
 use Rattle.whole_calls.specs.Writes.{WriteAsks, WriteFits, write_of}
-use Rattle.path_walk.specs.declared.asks.Ask.{Ask}
-use Rattle.path_walk.specs.declared.asks.Heard.{Heard}
 use Rattle.whole_calls.specs.declared.whole.Whole.{Whole}
 use Rattle.whole_calls.specs.declared.whole.Whole.TheVariants as whole
 

@@ -1,18 +1,8 @@
 -- What is left of a write.
 use Rattle.std.specs.Prelude.{◌≡◌, ◌≤◌, ℕ, zero, suc, ◌+◌, ◌*◌, List, [], length}
-use Rattle.plain_tree.specs.Calls.{piece, piece_count}
-use Rattle.plain_tree.specs.Widths.{piece_len}
-use Rattle.plain_tree.specs.declared.answer.Answer.{Answer as CallAnswer}
-use Rattle.plain_tree.specs.declared.answer.Reply.{Reply}
+use Rattle.whole_calls.specs.Vocabulary.{piece, piece_count, piece_len, CallAnswer, Reply, Do, unmarked, JoinFile, WriteFile, Join, Leave, P, say, joined_on, refused_to, write_from, write_piece, write_program, write_reply, writes, wrote_on, reply_to, wrote_of, IsNamed, Ask, Turn}
 use Rattle.plain_tree.specs.declared.call.Call.TheVariants as calls
-use Rattle.atomic_programs.specs.Prog.{Do, unmarked}
-use Rattle.inode_machine.specs.World.Op.{JoinFile, WriteFile, Join, Leave}
-use Rattle.inode_machine.specs.Parts.{P, say}
-use Rattle.inode_machine.specs.Descriptors.{joined_on, refused_to, write_from, write_piece, write_program, write_reply, writes, wrote_on}
-use Rattle.path_walk.specs.Asks.{reply_to, wrote_of, IsNamed}
-use Rattle.path_walk.specs.declared.asks.Ask.{Ask}
 use Rattle.path_walk.specs.declared.asks.Ask.TheVariants as ask
-use Rattle.path_walk.specs.declared.asks.Turn.{Turn}
 use Rattle.path_walk.specs.declared.asks.Turn.TheVariants as turn
 use Rattle.whole_calls.specs.declared.writing.Piece.{Piece}
 use Rattle.whole_calls.specs.declared.writing.Write.{Write}

@@ -2,10 +2,8 @@
 ghost use Rattle.std.specs.Prelude.{◌≡◌, ◌≢◌, ◌≤◌, ◌+◌, ℕ, All, [], List, Option, Some, length, false};
 ghost use Rattle.plain_tree.specs.declared.call.Call.TheVariants as calls;
 ghost use Rattle.plain_tree.specs.declared.step.Action.TheVariants as steps;
-ghost use Rattle.path_walk.specs.Asks.{asks, hears, mark_at, marked_as, op_in, stepped, turned, IsNamed};
+ghost use Rattle.whole_calls.specs.Vocabulary.{asks, hears, mark_at, marked_as, op_in, stepped, turned, IsNamed, chdir_program, StandsAt, most_walked, walked_to};
 ghost use Rattle.whole_calls.specs.Calls.{chdir_of, chdir_stage, Fits, FitsOn, Fresh, chdir_after};
-ghost use Rattle.inode_machine.specs.Moving.{chdir_program};
-ghost use Rattle.path_walk.specs.Walks.{StandsAt, most_walked, walked_to};
 ghost use Rattle.path_walk.specs.declared.walk.Goal.TheVariants as goals;
 
 use crate::dropping::Dropping;

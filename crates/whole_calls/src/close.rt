@@ -2,10 +2,8 @@
 ghost use Rattle.std.specs.Prelude.{◌≡◌, ◌≤◌, ℕ, [], List, Option, Some};
 ghost use Rattle.plain_tree.specs.declared.call.Call.TheVariants as calls;
 ghost use Rattle.plain_tree.specs.declared.step.Action.TheVariants as steps;
-ghost use Rattle.path_walk.specs.Asks.{asks, hears, loan_of, mark_at, marked_as, op_in, stepped, turned, IsNamed};
+ghost use Rattle.whole_calls.specs.Vocabulary.{asks, hears, loan_of, mark_at, marked_as, op_in, stepped, turned, IsNamed, close_program, inherit_program, lend_from, lend_on};
 ghost use Rattle.whole_calls.specs.Closes.{close_of, inherit_of};
-ghost use Rattle.inode_machine.specs.Descriptors.{close_program};
-ghost use Rattle.inode_machine.specs.Moving.{inherit_program, lend_from, lend_on};
 
 use crate::dropping::Dropping;
 use path_walk::{Ask, Heard, Loan, Mark, Turn};

@@ -2,11 +2,9 @@
 ghost use Rattle.std.specs.Prelude.{◌≡◌, ℕ, [], List, Option, Some};
 ghost use Rattle.plain_tree.specs.declared.call.Call.TheVariants as calls;
 ghost use Rattle.plain_tree.specs.declared.step.Action.TheVariants as steps;
-ghost use Rattle.path_walk.specs.Asks.{asks, hears, mark_at, marked_as, op_in, stepped, turned, face_of, IsNamed};
+ghost use Rattle.whole_calls.specs.Vocabulary.{asks, hears, mark_at, marked_as, op_in, stepped, turned, face_of, IsNamed, dup_program, stat_program, stat_of_face};
 ghost use Rattle.whole_calls.specs.Calls.{dup_of, stat_of};
-ghost use Rattle.inode_machine.specs.Descriptors.{dup_program, stat_program};
 ghost use Rattle.plain_tree.specs.declared.answer.Answer.TheVariants as answers;
-ghost use Rattle.inode_machine.specs.Inodes.{stat_of_face};
 
 use path_walk::{Ask, Face, Heard, Mark, Sort, Turn};
 use plain_tree::{Answer, Cause, Full, NodeType, Stat};

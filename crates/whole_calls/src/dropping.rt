@@ -1,10 +1,7 @@
 //! A reference dropped.
 ghost use Rattle.std.specs.Prelude.{◌≡◌, ℕ, List, Option, Some};
-ghost use Rattle.plain_tree.specs.declared.answer.Reply.{Reply};
-ghost use Rattle.plain_tree.specs.declared.step.Action.{Action};
-ghost use Rattle.path_walk.specs.Asks.{asks, hears, mark_at, marked_as, op_in, IsNamed};
+ghost use Rattle.whole_calls.specs.Vocabulary.{Reply, Action, asks, hears, mark_at, marked_as, op_in, IsNamed, P};
 ghost use Rattle.whole_calls.specs.Ends.{after_drop, dropping_of};
-ghost use Rattle.inode_machine.specs.Parts.{P};
 
 use path_walk::{Ask, Heard, Mark};
 

@@ -1,11 +1,7 @@
 //! The end of a call with a transaction.
 ghost use Rattle.std.specs.Prelude.{◌≡◌, ℕ, List, Option, Some};
-ghost use Rattle.plain_tree.specs.declared.answer.Reply.{Reply};
-ghost use Rattle.plain_tree.specs.declared.call.Call.{Call};
-ghost use Rattle.plain_tree.specs.declared.step.Action.{Action};
-ghost use Rattle.path_walk.specs.Asks.{asks, hears, mark_at, marked_as, op_in, reply_to, stepped, turned, IsNamed};
+ghost use Rattle.whole_calls.specs.Vocabulary.{Reply, Call, Action, asks, hears, mark_at, marked_as, op_in, reply_to, stepped, turned, IsNamed, P, free_all, say, tail};
 ghost use Rattle.whole_calls.specs.Ends.{after_free, ending_of, freeing_of};
-ghost use Rattle.inode_machine.specs.Parts.{P, free_all, say, tail};
 
 use crate::dropping::Dropping;
 use path_walk::{Ask, Heard, Mark, Numbers, Query, Turn};

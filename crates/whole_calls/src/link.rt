@@ -1,16 +1,9 @@
 //! link: the count goes up first, and down again where the name can't be entered.
 ghost use Rattle.std.specs.Prelude.{◌≡◌, ◌≢◌, ◌≤◌, ◌+◌, ◌++◌, ℕ, All, [], List, Option, Some, length, false};
-ghost use Rattle.plain_tree.specs.Tree.{elements};
+ghost use Rattle.whole_calls.specs.Vocabulary.{elements, asks, entered_of, face_of, hears, mark_at, marked_as, op_in, reply_to, sight_of, stepped, turned, IsNamedInTwo, name_in, IsElement, face_or, bump_refused, link_at, link_found, link_program, lower, named_on, give_up, tail, StandsAt, most_walked, walked_to, Heard};
 ghost use Rattle.plain_tree.specs.declared.call.Call.TheVariants as calls;
 ghost use Rattle.plain_tree.specs.declared.step.Action.TheVariants as steps;
-ghost use Rattle.path_walk.specs.Asks.{asks, entered_of, face_of, hears, mark_at, marked_as, op_in, reply_to, sight_of, stepped, turned, IsNamedInTwo};
-ghost use Rattle.path_walk.specs.Elements.{name_in, IsElement};
-ghost use Rattle.inode_machine.specs.Inodes.{face_or};
 ghost use Rattle.whole_calls.specs.Links.{link_action, link_of, new_after, old_after, link_stage, LinkFits, LinkFitsOn, Fresh, Past, took};
-ghost use Rattle.inode_machine.specs.Naming.{bump_refused, link_at, link_found, link_program, lower, named_on};
-ghost use Rattle.inode_machine.specs.Parts.{give_up, tail};
-ghost use Rattle.path_walk.specs.Walks.{StandsAt, most_walked, walked_to};
-ghost use Rattle.path_walk.specs.declared.asks.Heard.{Heard};
 ghost use Rattle.whole_calls.specs.declared.link.Link.TheVariants as linking;
 ghost use Rattle.path_walk.specs.declared.walk.Goal.TheVariants as goals;
 

@@ -1,17 +1,10 @@
 //! mkdir: the new directory with its two entries first, then its name and its parent's count.
 ghost use Rattle.std.specs.Prelude.{◌≡◌, ◌≢◌, ◌≤◌, ◌+◌, ℕ, All, [], List, Option, Some, length, false};
-ghost use Rattle.plain_tree.specs.Tree.{elements};
+ghost use Rattle.whole_calls.specs.Vocabulary.{elements, asks, claimed_of, entered_of, face_of, hears, mark_at, marked_as, op_in, reply_to, sight_of, stepped, turned, IsNamed, name_in, IsElement, face_or, mkdir_on, mkdir_program, mkdir_refused, mkdir_with, name_directory, give_up, tail, StandsAt, most_walked, walked_to, Heard};
 ghost use Rattle.plain_tree.specs.declared.call.Call.TheVariants as calls;
 ghost use Rattle.plain_tree.specs.declared.step.Action.TheVariants as steps;
-ghost use Rattle.path_walk.specs.Asks.{asks, claimed_of, entered_of, face_of, hears, mark_at, marked_as, op_in, reply_to, sight_of, stepped, turned, IsNamed};
 ghost use Rattle.whole_calls.specs.Calls.{Fits, FitsOn, Fresh, Past};
-ghost use Rattle.path_walk.specs.Elements.{name_in, IsElement};
-ghost use Rattle.inode_machine.specs.Inodes.{face_or};
 ghost use Rattle.whole_calls.specs.Makes.{mkdir_after, mkdir_of, mkdir_stage};
-ghost use Rattle.inode_machine.specs.Naming.{mkdir_on, mkdir_program, mkdir_refused, mkdir_with, name_directory};
-ghost use Rattle.inode_machine.specs.Parts.{give_up, tail};
-ghost use Rattle.path_walk.specs.Walks.{StandsAt, most_walked, walked_to};
-ghost use Rattle.path_walk.specs.declared.asks.Heard.{Heard};
 ghost use Rattle.whole_calls.specs.declared.mkdir.Mkdir.TheVariants as making;
 ghost use Rattle.path_walk.specs.declared.walk.Goal.TheVariants as goals;
 

@@ -1,18 +1,10 @@
 //! open: what is there is opened, or a new file made.
 ghost use Rattle.std.specs.Prelude.{◌≡◌, ◌≢◌, ◌≤◌, ◌+◌, ℕ, All, [], List, Option, Some, length, ◌==◌, false};
-ghost use Rattle.plain_tree.specs.Steps.{creates, has};
-ghost use Rattle.plain_tree.specs.Tree.{elements};
+ghost use Rattle.whole_calls.specs.Vocabulary.{creates, has, elements, asks, claimed_of, entered_of, face_of, hears, mark_at, marked_as, op_in, reply_to, sight_of, sort_of, stepped, turned, IsNamed, name_in, IsElement, face_or, open_refusal, create_found, empties, make_on, make_with, open_face, open_program, give_up, tail, StandsAt, most_walked, walked_to, Heard};
 ghost use Rattle.plain_tree.specs.declared.call.Call.TheVariants as calls;
 ghost use Rattle.plain_tree.specs.declared.step.Action.TheVariants as steps;
-ghost use Rattle.path_walk.specs.Asks.{asks, claimed_of, entered_of, face_of, hears, mark_at, marked_as, op_in, reply_to, sight_of, sort_of, stepped, turned, IsNamed};
 ghost use Rattle.whole_calls.specs.Calls.{Fits, FitsOn, Fresh, Past};
-ghost use Rattle.path_walk.specs.Elements.{name_in, IsElement};
-ghost use Rattle.inode_machine.specs.Inodes.{face_or, open_refusal};
-ghost use Rattle.inode_machine.specs.Opening.{create_found, empties, make_on, make_with, open_face, open_program};
 ghost use Rattle.whole_calls.specs.Opens.{installed, open_after, open_goal, open_of, open_stage};
-ghost use Rattle.inode_machine.specs.Parts.{give_up, tail};
-ghost use Rattle.path_walk.specs.Walks.{StandsAt, most_walked, walked_to};
-ghost use Rattle.path_walk.specs.declared.asks.Heard.{Heard};
 ghost use Rattle.whole_calls.specs.declared.opens.Open.TheVariants as opening;
 
 use crate::dropping::Dropping;

@@ -2,15 +2,9 @@
 ghost use Rattle.std.specs.Prelude.{◌≡◌, ◌≢◌, ◌≤◌, ◌+◌, ℕ, All, [], List, Option, Some, length, false};
 ghost use Rattle.plain_tree.specs.declared.call.Call.TheVariants as calls;
 ghost use Rattle.plain_tree.specs.declared.step.Action.TheVariants as steps;
-ghost use Rattle.path_walk.specs.Asks.{asks, face_of, hears, mark_at, marked_as, op_in, stepped, turned, reply_to, sight_of, IsNamed};
+ghost use Rattle.whole_calls.specs.Vocabulary.{asks, face_of, hears, mark_at, marked_as, op_in, stepped, turned, reply_to, sight_of, IsNamed, is_directory_sort, face_or, unlink_program, unlink_found, StandsAt, most_walked, walked_to, give_up, tail, name_in, elements};
 ghost use Rattle.whole_calls.specs.Calls.{Fits, FitsOn, Fresh, Past, unlink_stage, cleared, gave_parent, is_dots, unlink_after, unlink_of};
-ghost use Rattle.inode_machine.specs.Inodes.{is_directory_sort, face_or};
-ghost use Rattle.inode_machine.specs.Naming.{unlink_program, unlink_found};
-ghost use Rattle.path_walk.specs.Walks.{StandsAt, most_walked, walked_to};
 ghost use Rattle.path_walk.specs.declared.walk.Goal.TheVariants as goals;
-ghost use Rattle.inode_machine.specs.Parts.{give_up, tail};
-ghost use Rattle.path_walk.specs.Elements.{name_in};
-ghost use Rattle.plain_tree.specs.Tree.{elements};
 ghost use Rattle.whole_calls.specs.declared.unlink.Unlink.TheVariants as unlinking;
 
 use crate::dropping::Dropping;

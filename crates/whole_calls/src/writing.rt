@@ -1,10 +1,8 @@
 //! write: each piece in a transaction of its own; the first that is refused, or finds no block, ends the call.
 ghost use Rattle.std.specs.Prelude.{◌≡◌, ◌≢◌, ◌+◌, ◌<◌, ◌^◌, ℕ, [], List, Option, Some, length, false};
-ghost use Rattle.plain_tree.specs.Calls.{piece_count};
+ghost use Rattle.whole_calls.specs.Vocabulary.{piece_count, asks, checked_in, hears, joined_of, mark_at, marked_as, op_in, reply_to, stepped, turned, wrote_of, checked_reply, joined_on, write_from, write_program, wrote_on};
 ghost use Rattle.plain_tree.specs.declared.call.Call.TheVariants as calls;
 ghost use Rattle.plain_tree.specs.declared.step.Action.TheVariants as steps;
-ghost use Rattle.path_walk.specs.Asks.{asks, checked_in, hears, joined_of, mark_at, marked_as, op_in, reply_to, stepped, turned, wrote_of};
-ghost use Rattle.inode_machine.specs.Descriptors.{checked_reply, joined_on, write_from, write_program, wrote_on};
 ghost use Rattle.whole_calls.specs.Writes.{IsPieceOf, WriteAsks, WriteFits, WriteFitsOn, more_after, write_of};
 
 use path_walk::{Ask, Heard, Joined, Mark, Turn, Wrote};

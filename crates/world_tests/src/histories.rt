@@ -2,10 +2,10 @@
 use crate::images::tree_in;
 use crate::trees::is_same_tree;
 use block_device::MemoryDisk;
-use tree_histories::find_history;
 use plain_tree::{Placed, Trace, Tree, check};
 use std::alloc::Global;
 use std::process::Abort;
+use tree_histories::find_history;
 
 pub fn explains(
     rt: &impl Abort,

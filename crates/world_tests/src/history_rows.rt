@@ -1,8 +1,8 @@
 //! Worked runs, each with the order in which it is explained.
 use crate::play::{Play, explains, gives_answers, played, seen_in};
-use script::write_entry;
 use explain::{ExplainRefused, explain};
 use plain_tree::Placed;
+use script::write_entry;
 use std::alloc::{AllocError, Global};
 use std::process::Abort;
 use std::test::Fail;

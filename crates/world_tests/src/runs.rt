@@ -9,12 +9,12 @@ use crate::rows::Says::{Done, Failed, Idle, Refused};
 use crate::rows::{Ask, LONG, READ, READ_AND_WRITE, TRUNCATE, call, owned};
 use fs_machine::Kind;
 use hart_core::{Came, Event, Outcome, Run, StartRefused};
-use tree_histories::find_history;
 use plain_tree::{
     Action, Answer, Call, Cause, Placed, Reply, StepAnswer, Trace, TracedCall, TreeStep,
 };
 use std::alloc::Global;
 use std::process::Abort;
+use tree_histories::find_history;
 
 // A hart's step at an event, of a call of the trace.
 fn placed(event: u64, call: usize, hart: u8, action: Action, answer: StepAnswer) -> Placed {

@@ -1,4 +1,4 @@
-use Rattle.inodes_on_blocks.proofs.Quiet.{change_begins}
+use Rattle.inodes_on_blocks.proofs.Lemmas.{change_begins}
 use Rattle.inodes_on_blocks.proofs.changes_may_begin.Goals as goal
 
 pub returns : goal.returns

@@ -1,4 +1,4 @@
-use Rattle.inodes_on_blocks.proofs.Quiet.{change_ends}
+use Rattle.inodes_on_blocks.proofs.Lemmas.{change_ends}
 use Rattle.inodes_on_blocks.proofs.changes_may_end.Goals as goal
 
 pub returns : goal.returns

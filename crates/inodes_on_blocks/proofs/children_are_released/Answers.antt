@@ -1,4 +1,4 @@
-use Rattle.inodes_on_blocks.proofs.Gives.{children_are_released}
+use Rattle.inodes_on_blocks.proofs.Lemmas.{children_are_released}
 use Rattle.inodes_on_blocks.proofs.children_are_released.Goals as goal
 
 pub returns : goal.returns

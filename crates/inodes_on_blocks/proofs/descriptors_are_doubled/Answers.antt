@@ -1,4 +1,4 @@
-use Rattle.inodes_on_blocks.proofs.Named.{descriptors_are_doubled}
+use Rattle.inodes_on_blocks.proofs.Lemmas.{descriptors_are_doubled}
 use Rattle.inodes_on_blocks.proofs.descriptors_are_doubled.Goals as goal
 
 pub returns : goal.returns

@@ -1,4 +1,4 @@
-use Rattle.inodes_on_blocks.proofs.Named.{descriptors_name_files}
+use Rattle.inodes_on_blocks.proofs.Lemmas.{descriptors_name_files}
 use Rattle.inodes_on_blocks.proofs.descriptors_name_files.Goals as goal
 
 pub returns : goal.returns

@@ -1,4 +1,4 @@
-use Rattle.inodes_on_blocks.proofs.Slots.{files_are_opened}
+use Rattle.inodes_on_blocks.proofs.Lemmas.{files_are_opened}
 use Rattle.inodes_on_blocks.proofs.files_are_opened.Goals as goal
 
 pub returns : goal.returns

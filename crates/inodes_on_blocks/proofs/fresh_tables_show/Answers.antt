@@ -1,4 +1,4 @@
-use Rattle.inodes_on_blocks.proofs.Fresh.{fresh_tables_show}
+use Rattle.inodes_on_blocks.proofs.Lemmas.{fresh_tables_show}
 use Rattle.inodes_on_blocks.proofs.fresh_tables_show.Goals as goal
 
 pub returns : goal.returns

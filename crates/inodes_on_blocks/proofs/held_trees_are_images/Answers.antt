@@ -1,4 +1,4 @@
-use Rattle.inodes_on_blocks.proofs.HeldImages.{image_of}
+use Rattle.inodes_on_blocks.proofs.Lemmas.{image_of}
 use Rattle.inodes_on_blocks.proofs.held_trees_are_images.Goals as goal
 
 pub returns : goal.returns

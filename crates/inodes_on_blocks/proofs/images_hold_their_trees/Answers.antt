@@ -1,4 +1,4 @@
-use Rattle.inodes_on_blocks.proofs.ImageNodes.{image_holds, are_nodes}
+use Rattle.inodes_on_blocks.proofs.Lemmas.{image_holds, are_nodes}
 use Rattle.inodes_on_blocks.proofs.images_hold_their_trees.Goals as goal
 
 pub returns : goal.returns

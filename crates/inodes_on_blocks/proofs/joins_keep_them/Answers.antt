@@ -1,4 +1,4 @@
-use Rattle.inodes_on_blocks.proofs.Quiet.{join_keeps}
+use Rattle.inodes_on_blocks.proofs.Lemmas.{join_keeps}
 use Rattle.inodes_on_blocks.proofs.joins_keep_them.Goals as goal
 
 pub returns : goal.returns

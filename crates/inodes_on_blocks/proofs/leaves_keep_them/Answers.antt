@@ -1,4 +1,4 @@
-use Rattle.inodes_on_blocks.proofs.Quiet.{leave_keeps}
+use Rattle.inodes_on_blocks.proofs.Lemmas.{leave_keeps}
 use Rattle.inodes_on_blocks.proofs.leaves_keep_them.Goals as goal
 
 pub returns : goal.returns

@@ -1,4 +1,4 @@
-use Rattle.inodes_on_blocks.proofs.Locks.{locks_are_given}
+use Rattle.inodes_on_blocks.proofs.Lemmas.{locks_are_given}
 use Rattle.inodes_on_blocks.proofs.locks_are_given.Goals as goal
 
 pub returns : goal.returns

@@ -1,5 +1,4 @@
-use Rattle.std.proofs.Common.{refl}
-use Rattle.inodes_on_blocks.proofs.Quiet.{mounted_ghost, mounted_on, mounted_tree}
+use Rattle.inodes_on_blocks.proofs.Lemmas.{refl, mounted_ghost, mounted_on, mounted_tree}
 use Rattle.inodes_on_blocks.proofs.mounted_nodes_are_on_blocks.Goals as goal
 
 pub returns : goal.returns

@@ -1,4 +1,4 @@
-use Rattle.inodes_on_blocks.proofs.Named.{offsets_are_moved}
+use Rattle.inodes_on_blocks.proofs.Lemmas.{offsets_are_moved}
 use Rattle.inodes_on_blocks.proofs.offsets_are_moved.Goals as goal
 
 pub returns : goal.returns

@@ -1,4 +1,4 @@
-use Rattle.inodes_on_blocks.proofs.Quiet.{quiet_image_of, quiet_disk}
+use Rattle.inodes_on_blocks.proofs.Lemmas.{quiet_image_of, quiet_disk}
 use Rattle.inodes_on_blocks.proofs.quiet_blocks_are_images.Goals as goal
 
 pub returns : goal.returns

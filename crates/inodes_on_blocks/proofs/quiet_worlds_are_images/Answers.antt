@@ -1,4 +1,4 @@
-use Rattle.inodes_on_blocks.proofs.QuietWorlds.{quiet_worlds_are_images}
+use Rattle.inodes_on_blocks.proofs.Lemmas.{quiet_worlds_are_images}
 use Rattle.inodes_on_blocks.proofs.quiet_worlds_are_images.Goals as goal
 
 pub returns : goal.returns

@@ -1,4 +1,4 @@
-use Rattle.inodes_on_blocks.proofs.Quiet.{record_keeps}
+use Rattle.inodes_on_blocks.proofs.Lemmas.{record_keeps}
 use Rattle.inodes_on_blocks.proofs.records_keep_them.Goals as goal
 
 pub returns : goal.returns

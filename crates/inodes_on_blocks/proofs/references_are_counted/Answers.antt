@@ -1,4 +1,4 @@
-use Rattle.inodes_on_blocks.proofs.Counted.{references_are_counted}
+use Rattle.inodes_on_blocks.proofs.Lemmas.{references_are_counted}
 use Rattle.inodes_on_blocks.proofs.references_are_counted.Goals as goal
 
 pub returns : goal.returns

@@ -1,4 +1,4 @@
-use Rattle.inodes_on_blocks.proofs.Drops.{references_are_dropped}
+use Rattle.inodes_on_blocks.proofs.Lemmas.{references_are_dropped}
 use Rattle.inodes_on_blocks.proofs.references_are_dropped.Goals as goal
 
 pub returns : goal.returns

@@ -1,4 +1,4 @@
-use Rattle.inodes_on_blocks.proofs.References.{starts_are_counted}
+use Rattle.inodes_on_blocks.proofs.Lemmas.{starts_are_counted}
 use Rattle.inodes_on_blocks.proofs.starts_are_counted.Goals as goal
 
 pub returns : goal.returns

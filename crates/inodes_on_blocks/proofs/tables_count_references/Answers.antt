@@ -1,4 +1,4 @@
-use Rattle.inodes_on_blocks.proofs.References.{tables_count_references}
+use Rattle.inodes_on_blocks.proofs.Lemmas.{tables_count_references}
 use Rattle.inodes_on_blocks.proofs.tables_count_references.Goals as goal
 
 pub returns : goal.returns

@@ -1,4 +1,4 @@
-use Rattle.inodes_on_blocks.proofs.Quiet.{unseen_keeps}
+use Rattle.inodes_on_blocks.proofs.Lemmas.{unseen_keeps}
 use Rattle.inodes_on_blocks.proofs.unseen_changes_keep_them.Goals as goal
 
 pub returns : goal.returns

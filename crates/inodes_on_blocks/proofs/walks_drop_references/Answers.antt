@@ -1,4 +1,4 @@
-use Rattle.inodes_on_blocks.proofs.Drops.{walks_drop_references}
+use Rattle.inodes_on_blocks.proofs.Lemmas.{walks_drop_references}
 use Rattle.inodes_on_blocks.proofs.walks_drop_references.Goals as goal
 
 pub returns : goal.returns

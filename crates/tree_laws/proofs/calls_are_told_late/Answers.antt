@@ -1,7 +1,4 @@
-use Rattle.plain_tree.specs.Tree.{tree_of}
-use Rattle.tree_laws.specs.Runs.{opened}
-use Rattle.tree_laws.proofs.History.{run_ok, opened_ok, NeverClimbs, starts_calm, apart_calm}
-use Rattle.tree_laws.proofs.Told.{told_late}
+use Rattle.tree_laws.proofs.Lemmas.{tree_of, opened, run_ok, opened_ok, NeverClimbs, starts_calm, apart_calm, told_late}
 use Rattle.tree_laws.proofs.calls_are_told_late.Goals as goal
 
 pub returns : goal.returns

@@ -1,5 +1,4 @@
-use Rattle.std.specs.Prelude.{[]}
-use Rattle.tree_laws.proofs.Told.{played_next, played_end, told_more}
+use Rattle.tree_laws.proofs.Lemmas.{[], played_next, played_end, told_more}
 use Rattle.tree_laws.proofs.written_moves_come_next.Goals as goal
 
 pub returns-clause-next : goal.returns-clause-next

@@ -1,15 +1,6 @@
-use Rattle.std.proofs.Common.{arith, subst, take, get_or, List}
-use Rattle.std.proofs.lemmas.List.{take_more, take_all}
-use Rattle.atomic_programs.specs.Calls.{fresh}
-use Rattle.atomic_programs.specs.Shown.{CameTo}
-use Rattle.atomic_programs.specs.Cell.{swaps}
-use Rattle.atomic_programs.specs.CellCode.{event_of, events_of, outcome_of, outcomes_of, said, code, plain_of}
+use Rattle.atomic_programs.proofs.Lemmas.{arith, subst, take, get_or, List, take_more, take_all, fresh, CameTo, swaps, event_of, events_of, outcome_of, outcomes_of, said, code, plain_of, Event, is_code, events_more, outcomes_more, came_none, came_more, came_shown, lawful}
 use Rattle.atomic_programs.specs.declared.cell.Call.TheVariants as CallIs
-use Rattle.atomic_programs.specs.declared.cell.Event.{Event}
 use Rattle.atomic_programs.specs.declared.cell.Event.TheVariants as EventIs
-use Rattle.atomic_programs.proofs.Harts.{is_code, events_more, outcomes_more}
-use Rattle.atomic_programs.proofs.Reached.{came_none, came_more, came_shown}
-use Rattle.atomic_programs.proofs.Swapping.{lawful}
 use Rattle.atomic_programs.proofs.cell.run.Goals as goal
 
 pub loop-event-init : goal.loop-event-init

@@ -1,10 +1,4 @@
-use Rattle.std.proofs.Common.{◌≡◌, ◌≤◌, take, length, vec_len}
-use Rattle.std.specs.Vec.{vec_capacity}
-use Rattle.atomic_programs.specs.Calls.{State}
-use Rattle.atomic_programs.specs.Plain.{erase}
-use Rattle.atomic_programs.specs.Shown.{CameTo}
-use Rattle.atomic_programs.specs.Cell.{swaps}
-use Rattle.atomic_programs.specs.CellCode.{events_of, outcomes_of, code, plain_of}
+use Rattle.atomic_programs.proofs.Lemmas.{◌≡◌, ◌≤◌, take, length, vec_len, vec_capacity, State, erase, CameTo, swaps, events_of, outcomes_of, code, plain_of}
 use Rattle.atomic_programs.proofs.cell.run.Given as goal
 
 abbrev pub invariant-loop-event : goal.invariant-loop-event

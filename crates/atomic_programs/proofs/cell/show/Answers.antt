@@ -1,5 +1,4 @@
-use Rattle.std.proofs.Common.{refl, sym}
-use Rattle.atomic_programs.specs.Cell.{rest}
+use Rattle.atomic_programs.proofs.Lemmas.{refl, sym, rest}
 use Rattle.atomic_programs.proofs.cell.show.Goals as goal
 
 -- a new world is at rest

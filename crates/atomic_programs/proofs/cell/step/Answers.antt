@@ -1,7 +1,4 @@
-use Rattle.std.proofs.Common.{◌∙◌}
-use Rattle.atomic_programs.specs.Cell.{Passes, swaps}
-use Rattle.atomic_programs.specs.CellCode.{machine_of, code}
-use Rattle.atomic_programs.proofs.Advances.{hart_advances}
+use Rattle.atomic_programs.proofs.Lemmas.{◌∙◌, Passes, swaps, machine_of, code, hart_advances}
 use Rattle.atomic_programs.proofs.Harts.{goes_on}
 use Rattle.atomic_programs.proofs.cell.step.Goals as goal
 

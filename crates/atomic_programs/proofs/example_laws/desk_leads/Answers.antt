@@ -1,6 +1,5 @@
-use Rattle.atomic_programs.specs.Desk.{desk}
-use Rattle.atomic_programs.proofs.Leading.{leads}
-use Rattle.atomic_programs.proofs.Serving.{lawful, places_one}
+use Rattle.atomic_programs.proofs.Lemmas.{desk, leads, places_one}
+use Rattle.atomic_programs.proofs.Serving.{lawful}
 use Rattle.atomic_programs.proofs.example_laws.desk_leads.Goals as goal
 
 pub returns : goal.returns

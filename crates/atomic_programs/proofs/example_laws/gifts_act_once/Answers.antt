@@ -1,4 +1,4 @@
-use Rattle.atomic_programs.proofs.Wards.{gives_once}
+use Rattle.atomic_programs.proofs.Lemmas.{gives_once}
 use Rattle.atomic_programs.proofs.example_laws.gifts_act_once.Goals as goal
 
 pub returns : goal.returns

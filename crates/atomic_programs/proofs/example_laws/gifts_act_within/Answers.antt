@@ -1,9 +1,5 @@
-use Rattle.std.proofs.Common.{refl}
-use Rattle.atomic_programs.proofs.NotedRuns.{same_runs}
-use Rattle.atomic_programs.specs.Whole.{put}
+use Rattle.atomic_programs.proofs.Lemmas.{refl, same_runs, put, GiftIsWhole, gifts_within}
 use Rattle.atomic_programs.specs.Wards as wards
-use Rattle.atomic_programs.specs.Within.{GiftIsWhole}
-use Rattle.atomic_programs.proofs.Wards.{gifts_within}
 use Rattle.atomic_programs.proofs.example_laws.gifts_act_within.Goals as goal
 
 pub returns : goal.returns

@@ -1,4 +1,4 @@
-use Rattle.atomic_programs.proofs.Wards.{gifts_refined}
+use Rattle.atomic_programs.proofs.Lemmas.{gifts_refined}
 use Rattle.atomic_programs.proofs.example_laws.gifts_refined.Goals as goal
 
 pub returns : goal.returns

@@ -1,5 +1,4 @@
-use Rattle.std.proofs.Common.{refl}
-use Rattle.atomic_programs.specs.Whole.{put}
+use Rattle.atomic_programs.proofs.Lemmas.{refl, put}
 use Rattle.atomic_programs.proofs.example_laws.gifts_reserve.Goals as goal
 
 pub returns : goal.returns

@@ -1,4 +1,4 @@
-use Rattle.atomic_programs.proofs.Grab.{grabs_are_code}
+use Rattle.atomic_programs.proofs.Lemmas.{grabs_are_code}
 use Rattle.atomic_programs.proofs.example_laws.grabs_are_code.Goals as goal
 
 pub returns : goal.returns

@@ -1,11 +1,6 @@
-use Rattle.std.proofs.Common.{◌≡◌, Option, Some, None, List, [], ◌∷◌, refl, sym, ◌∙◌, ap, subst}
-use Rattle.atomic_programs.specs.Prog.{Ret, Do, bind, unmarked}
-use Rattle.atomic_programs.specs.Logic.{Machine, P, OpWithAnswer}
-use Rattle.atomic_programs.specs.Operations.{IsRun}
-use Rattle.atomic_programs.specs.Joined.{Handover, lowered}
-use Rattle.atomic_programs.specs.Whole.{put, Dinode, Give, whole}
-use Rattle.atomic_programs.specs.Blocks.{Block, Lock, Unlock, Get, Read, Put, Carry, blocks, read_or, look_back, load_or, with_record, handler}
-use Rattle.atomic_programs.specs.Swap.{Step, labels, blocks_below}
+use Rattle.atomic_programs.proofs.Lemmas.{◌≡◌, Option, Some, None, List, [], ◌∷◌, refl, sym, ◌∙◌, ap, subst, Ret, Do, bind, unmarked, Machine, P, OpWithAnswer, IsRun, Handover, lowered, put, Dinode, Give, whole, Block, Lock, Unlock, Get, Read, Put, Carry, blocks, read_or, look_back, load_or, with_record, labels, blocks_below}
+use Rattle.atomic_programs.specs.Blocks.{handler}
+use Rattle.atomic_programs.specs.Swap.{Step}
 use Rattle.atomic_programs.proofs.example_laws.looks_hand_on.Goals as goal
 
 -- a run goes on by the answer that stands in it

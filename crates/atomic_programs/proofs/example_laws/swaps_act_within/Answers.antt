@@ -1,7 +1,5 @@
-use Rattle.atomic_programs.proofs.NotedRuns.{same_runs}
-use Rattle.atomic_programs.specs.Swap.{swaps_above, rest}
-use Rattle.atomic_programs.specs.Within.{SwapIsWhole}
-use Rattle.atomic_programs.proofs.Done.{swaps_within}
+use Rattle.atomic_programs.proofs.Lemmas.{same_runs, swaps_above, SwapIsWhole, swaps_within}
+use Rattle.atomic_programs.specs.Swap.{rest}
 use Rattle.atomic_programs.proofs.example_laws.swaps_act_within.Goals as goal
 
 pub returns : goal.returns

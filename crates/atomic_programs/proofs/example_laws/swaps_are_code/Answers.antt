@@ -1,5 +1,4 @@
-use Rattle.std.proofs.Common.{refl}
-use Rattle.atomic_programs.proofs.Done.{swaps_are_code, above_is_code}
+use Rattle.atomic_programs.proofs.Lemmas.{refl, swaps_are_code, above_is_code}
 use Rattle.atomic_programs.proofs.example_laws.swaps_are_code.Goals as goal
 
 pub returns : goal.returns

@@ -1,4 +1,4 @@
-use Rattle.atomic_programs.proofs.Done.{swaps_lead}
+use Rattle.atomic_programs.proofs.Lemmas.{swaps_lead}
 use Rattle.atomic_programs.proofs.example_laws.swaps_lead.Goals as goal
 
 pub returns : goal.returns

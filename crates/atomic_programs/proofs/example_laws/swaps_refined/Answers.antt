@@ -1,4 +1,4 @@
-use Rattle.atomic_programs.proofs.Done.{swaps_refined}
+use Rattle.atomic_programs.proofs.Lemmas.{swaps_refined}
 use Rattle.atomic_programs.proofs.example_laws.swaps_refined.Goals as goal
 
 pub returns : goal.returns

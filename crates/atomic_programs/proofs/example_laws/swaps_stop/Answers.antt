@@ -1,5 +1,4 @@
-use Rattle.std.proofs.Common.{refl}
-use Rattle.atomic_programs.specs.Whole.{put}
+use Rattle.atomic_programs.proofs.Lemmas.{refl, put}
 use Rattle.atomic_programs.proofs.example_laws.swaps_stop.Goals as goal
 
 pub returns : goal.returns

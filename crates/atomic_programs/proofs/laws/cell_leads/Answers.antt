@@ -1,6 +1,5 @@
-use Rattle.atomic_programs.specs.Cell.{swaps}
-use Rattle.atomic_programs.proofs.Leading.{leads}
-use Rattle.atomic_programs.proofs.Swapping.{lawful, places_one}
+use Rattle.atomic_programs.proofs.Lemmas.{swaps, leads, lawful}
+use Rattle.atomic_programs.proofs.Swapping.{places_one}
 use Rattle.atomic_programs.proofs.laws.cell_leads.Goals as goal
 
 pub returns : goal.returns

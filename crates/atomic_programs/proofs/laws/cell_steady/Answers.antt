@@ -1,5 +1,4 @@
-use Rattle.atomic_programs.specs.Cell.{swaps}
-use Rattle.atomic_programs.proofs.Steady.{steady}
+use Rattle.atomic_programs.proofs.Lemmas.{swaps, steady}
 use Rattle.atomic_programs.proofs.laws.cell_steady.Goals as goal
 
 pub returns : goal.returns

@@ -1,6 +1,4 @@
-use Rattle.std.proofs.Common.{sym, subst}
-use Rattle.bench.specs.InHand.{HasNone}
-use Rattle.bench.proofs.InHand.{none_unused}
+use Rattle.bench.proofs.Lemmas.{sym, subst, HasNone, none_unused}
 use Rattle.bench.proofs.buffers.full.Goals as goal
 
 pub loop-b-init : goal.loop-b-init

@@ -1,4 +1,4 @@
-use Rattle.bench.specs.InHand.{HasNone}
+use Rattle.bench.proofs.Lemmas.{HasNone}
 use Rattle.bench.proofs.buffers.get_and_release.Given as goal
 
 abbrev pub invariant-loop-b : goal.invariant-loop-b

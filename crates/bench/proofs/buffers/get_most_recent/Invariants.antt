@@ -1,4 +1,4 @@
-use Rattle.bench.specs.InHand.{HasNone}
+use Rattle.bench.proofs.Lemmas.{HasNone}
 use Rattle.bench.proofs.buffers.get_most_recent.Given as goal
 
 abbrev pub invariant-loop : goal.invariant-loop

@@ -1,4 +1,4 @@
-use Rattle.bench.proofs.InHand.{read_so}
+use Rattle.bench.proofs.Lemmas.{read_so}
 use Rattle.bench.proofs.buffers.read.Goals as goal
 
 pub returns-clause-one : goal.returns-clause-one

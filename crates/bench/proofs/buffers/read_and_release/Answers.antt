@@ -1,8 +1,4 @@
-use Rattle.std.proofs.Common.{sym, subst}
-use Rattle.buffer_cache.specs.Seats.{SeatState}
-use Rattle.std.proofs.Common.{List}
-use Rattle.bench.specs.InHand.{HasNone}
-use Rattle.bench.proofs.InHand.{back_so}
+use Rattle.bench.proofs.Lemmas.{sym, subst, SeatState, List, HasNone, back_so}
 use Rattle.bench.proofs.buffers.read_and_release.Goals as goal
 
 pub returns : goal.returns

@@ -1,4 +1,4 @@
-use Rattle.bench.proofs.InHand.{got_so}
+use Rattle.bench.proofs.Lemmas.{got_so}
 use Rattle.bench.proofs.buffers.touch.Goals as goal
 
 pub read_and_release-requires-clause-one : goal.read_and_release-requires-clause-one

@@ -1,4 +1,4 @@
-use Rattle.sleep_lock.specs.Row.{IsNumbered}
+use Rattle.bench.proofs.Lemmas.{IsNumbered}
 use Rattle.bench.proofs.locks.lock_and_unlock.Given as goal
 
 abbrev pub invariant-loop : goal.invariant-loop

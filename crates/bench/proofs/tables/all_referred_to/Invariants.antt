@@ -1,4 +1,4 @@
-use Rattle.std.proofs.Common.{◌≡◌, ◌+◌, length}
+use Rattle.bench.proofs.Lemmas.{◌≡◌, ◌+◌, length}
 use Rattle.bench.proofs.tables.all_referred_to.Given as goal
 
 abbrev pub invariant-loop-number : goal.invariant-loop-number

@@ -1,10 +1,4 @@
-use Rattle.std.proofs.Common.{◌≡◌, ◌∙◌, Option, ap, sym}
-use Rattle.sleep_lock.specs.SleepLock.{GuardState}
-use Rattle.sleep_lock.specs.Row.{IsOut}
-use Rattle.fs_layout.specs.declared.inode.Dinode.{Dinode}
-use Rattle.fs_machine.specs.declared.entries.Inode.{Inode}
-use Rattle.fs_machine.specs.Tables.{TablesState}
-use Rattle.fs_machine.specs.Locks.{IsLocked}
+use Rattle.bench.proofs.Lemmas.{◌≡◌, ◌∙◌, Option, ap, sym, GuardState, IsOut, Dinode, Inode, TablesState, IsLocked}
 use Rattle.bench.proofs.tables.load.Goals as goal
 
 -- a guard stays its hart's, whatever it says of the disk

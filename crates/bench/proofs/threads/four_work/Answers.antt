@@ -1,9 +1,7 @@
 use denote.Exit.{no}
 use denote.Param.Send.{param_send, arg_send, shr_send}
-use Rattle.hart_runner.proofs.Sent.{six_send, kernel_sync, seat_send}
+use Rattle.bench.proofs.Lemmas.{six_send, kernel_sync, seat_send, the_row, L-row}
 use Rattle.hart_runner.proofs.gate.NoGate.TheSendSync as gate
-use Rattle.hart_runner.specs.contracts.gate.NoGate.{the_row}
-use Rattle.bench.specs.contracts.threads.four_work.{L-row}
 use Rattle.bench.proofs.threads.Plan.TheSendSync as plan
 use Rattle.bench.proofs.threads.four_work.Goals as goal
 

@@ -1,10 +1,4 @@
-use Rattle.std.proofs.Common.{◌≡◌, ℕ, List, Some, sym, ◌∙◌, ap, subst, IsSome}
-use Rattle.std.proofs.lemmas.Option.{same_Some}
-use Rattle.block_device.specs.Blocks.{block_at}
-use Rattle.buffer_cache.specs.Buffers.{BufferState}
-use Rattle.buffer_cache.specs.Seats.{SeatState, has_block, seat_of, with_content}
-use Rattle.buffer_cache.proofs.Firsts.{has_place, place_change}
-use Rattle.buffer_cache.proofs.Seated.{held_cached, found}
+use Rattle.buffer_cache.proofs.Lemmas.{◌≡◌, ℕ, List, Some, sym, ◌∙◌, ap, subst, IsSome, same_Some, block_at, BufferState, SeatState, has_block, seat_of, with_content, has_place, place_change, held_cached, found}
 use Rattle.buffer_cache.proofs.buffers.fill_in.Goals as goal
 
 pub unwrap-i-requires : goal.unwrap-i-requires

@@ -1,11 +1,4 @@
-use Rattle.std.proofs.Common.{◌≡◌, List, ℕ, Option, Some, None, map, refl, sym, ◌∙◌, ap, arith}
-use Rattle.std.specs.List.{find, position}
-use Rattle.std.proofs.lemmas.List.{length-map}
-use Rattle.buffer_cache.specs.Seats.{SeatState, is_free, has_block}
-use Rattle.buffer_cache.specs.Order.{numbered}
-use Rattle.buffer_cache.proofs.Ordered.{IsFirst, has_free, first_free_in}
-use Rattle.buffer_cache.proofs.Kept.{keeps_lent, keeps_renewed}
-use Rattle.buffer_cache.proofs.Chained.{chained_lent, chained_anew}
+use Rattle.buffer_cache.proofs.Lemmas.{◌≡◌, List, ℕ, Option, Some, None, map, refl, sym, ◌∙◌, ap, arith, find, position, length-map, SeatState, is_free, has_block, numbered, IsFirst, has_free, first_free_in, keeps_lent, keeps_renewed, chained_lent, chained_anew}
 use Rattle.buffer_cache.proofs.buffers.get_in.Goals as goal
 
 pub unwrap-i-requires : goal.unwrap-i-requires

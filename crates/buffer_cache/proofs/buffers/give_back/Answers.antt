@@ -1,6 +1,4 @@
-use Rattle.std.proofs.Common.{◌∙◌, ap, set, arith}
-use Rattle.buffer_cache.specs.Seats.{SeatState, without_holder}
-use Rattle.buffer_cache.proofs.Ordered.{seats_count, numbered_read}
+use Rattle.buffer_cache.proofs.Lemmas.{◌∙◌, ap, set, arith, SeatState, without_holder, seats_count, numbered_read}
 use Rattle.buffer_cache.proofs.buffers.give_back.Goals as goal
 
 pub overflow_cast-i-2 : goal.overflow_cast-i-2

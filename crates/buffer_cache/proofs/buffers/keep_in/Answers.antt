@@ -1,10 +1,4 @@
-use Rattle.std.proofs.Common.{◌≡◌, ℕ, List, sym, ◌∙◌, ap, subst, IsSome}
-use Rattle.std.proofs.lemmas.Option.{same_Some}
-use Rattle.sleep_lock.proofs.Locks.{IfSome_each}
-use Rattle.buffer_cache.specs.Buffers.{BufferState}
-use Rattle.buffer_cache.specs.Seats.{SeatState, has_block, seat_of, with_content}
-use Rattle.buffer_cache.proofs.Firsts.{has_place, place_change}
-use Rattle.buffer_cache.proofs.Seated.{found}
+use Rattle.buffer_cache.proofs.Lemmas.{◌≡◌, ℕ, List, sym, ◌∙◌, ap, subst, IsSome, same_Some, IfSome_each, BufferState, SeatState, has_block, seat_of, with_content, has_place, place_change, found}
 use Rattle.buffer_cache.proofs.buffers.keep_in.Goals as goal
 
 pub unwrap-i-requires : goal.unwrap-i-requires

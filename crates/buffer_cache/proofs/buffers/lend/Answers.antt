@@ -1,9 +1,4 @@
-use Rattle.std.proofs.Common.{◌∙◌, sym, ap, subst, length, ℕ, ◌<◌, Some}
-use Rattle.sleep_lock.specs.Row.{lock_of}
-use Rattle.buffer_cache.specs.Buffers.{BufferState}
-use Rattle.buffer_cache.specs.Seats.{SeatState, has_block}
-use Rattle.buffer_cache.proofs.Firsts.{place_first}
-use Rattle.buffer_cache.proofs.Seated.{LendGives, lend_gives, lends_so, seated_at, slot_within}
+use Rattle.buffer_cache.proofs.Lemmas.{◌∙◌, sym, ap, subst, length, ℕ, ◌<◌, Some, lock_of, BufferState, SeatState, has_block, place_first, LendGives, lend_gives, lends_so, seated_at, slot_within}
 use Rattle.buffer_cache.proofs.buffers.lend.Goals as goal
 
 pub lock-requires : goal.lock-requires

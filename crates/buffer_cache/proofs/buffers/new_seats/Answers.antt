@@ -1,6 +1,4 @@
-use Rattle.std.proofs.Common.{◌∷◌, ◌++◌, [], List, ◌∙◌, ap}
-use Rattle.buffer_cache.specs.Seats.{SeatState, unused_from}
-use Rattle.buffer_cache.proofs.Made.{unused_push, no_unused}
+use Rattle.buffer_cache.proofs.Lemmas.{◌∷◌, ◌++◌, [], List, ◌∙◌, ap, SeatState, unused_from, unused_push, no_unused}
 use Rattle.buffer_cache.proofs.buffers.new_seats.Goals as goal
 
 pub loop-number-init : goal.loop-number-init

@@ -1,5 +1,4 @@
-use Rattle.std.proofs.Common.{◌≡◌}
-use Rattle.buffer_cache.specs.Seats.{unused_from}
+use Rattle.buffer_cache.proofs.Lemmas.{◌≡◌, unused_from}
 use Rattle.buffer_cache.proofs.buffers.new_seats.Given as goal
 
 abbrev pub invariant-loop-number : goal.invariant-loop-number

@@ -1,10 +1,4 @@
-use Rattle.std.proofs.Common.{◌≡◌, ◌≤◌, ◌∷◌, [], length, length-append, sym, subst, arith}
-use Rattle.std.proofs.lemmas.Result.{IfOk-weaker}
-use Rattle.buffer_cache.proofs.Seated.{Row}
-use Rattle.sleep_lock.specs.Row.{row_of}
-use Rattle.buffer_cache.specs.Rows.{IsSeated}
-use Rattle.buffer_cache.specs.Seats.{unused_from}
-use Rattle.buffer_cache.proofs.Made.{new_push, seated_new}
+use Rattle.buffer_cache.proofs.Lemmas.{◌≡◌, ◌≤◌, ◌∷◌, [], length, length-append, sym, subst, arith, IfOk-weaker, Row, row_of, IsSeated, unused_from, new_push, seated_new}
 use Rattle.buffer_cache.proofs.buffers.new_slots.Goals as goal
 
 pub loop-preserved : goal.loop-preserved

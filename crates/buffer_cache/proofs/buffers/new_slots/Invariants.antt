@@ -1,5 +1,4 @@
-use Rattle.std.proofs.Common.{◌≡◌, length}
-use Rattle.buffer_cache.proofs.Made.{AllNew}
+use Rattle.buffer_cache.proofs.Lemmas.{◌≡◌, length, AllNew}
 use Rattle.buffer_cache.proofs.buffers.new_slots.Given as goal
 
 abbrev pub invariant-loop : goal.invariant-loop

@@ -1,7 +1,4 @@
-use Rattle.std.proofs.Common.{List, sym, ◌∙◌, ap, subst, IsSome}
-use Rattle.std.specs.List.{position}
-use Rattle.buffer_cache.specs.Seats.{SeatState, has_block, seat_of, with_pin}
-use Rattle.buffer_cache.proofs.Firsts.{has_place, place_change}
+use Rattle.buffer_cache.proofs.Lemmas.{List, sym, ◌∙◌, ap, subst, IsSome, position, SeatState, has_block, seat_of, with_pin, has_place, place_change}
 use Rattle.buffer_cache.proofs.buffers.pin_in.Goals as goal
 
 pub unwrap-i-requires : goal.unwrap-i-requires

@@ -1,12 +1,4 @@
-use Rattle.std.proofs.Common.{◌≡◌, ◌∙◌, sym, ap, subst, length, ℕ, ◌<◌, None, set, refl}
-use Rattle.std.proofs.lemmas.Option.{slice_get_read}
-use Rattle.sleep_lock.specs.Row.{lock_of}
-use Rattle.buffer_cache.specs.Seats.{SeatState, is_free, as_new}
-use Rattle.buffer_cache.specs.Order.{numbered}
-use Rattle.buffer_cache.specs.Getting.{guard_of}
-use Rattle.buffer_cache.specs.declared.got.Got.TheVariants.{Held}
-use Rattle.buffer_cache.proofs.Ordered.{numbered_read}
-use Rattle.buffer_cache.proofs.Seated.{RenewGives, renew_gives, renews_so, slot_at, slot_within}
+use Rattle.buffer_cache.proofs.Lemmas.{◌≡◌, ◌∙◌, sym, ap, subst, length, ℕ, ◌<◌, None, set, refl, slice_get_read, lock_of, SeatState, is_free, as_new, numbered, guard_of, Held, numbered_read, RenewGives, renew_gives, renews_so, slot_at, slot_within}
 use Rattle.buffer_cache.proofs.buffers.renew.Goals as goal
 
 pub lock-requires : goal.lock-requires

@@ -1,4 +1,4 @@
-use Rattle.std.proofs.Common.{◌≡◌, ◌<◌, ◌+◌, ℕ, length, get_or}
+use Rattle.buffer_cache.proofs.Lemmas.{◌≡◌, ◌<◌, ◌+◌, ℕ, length, get_or}
 use Rattle.buffer_cache.proofs.links.link_all.Given as goal
 
 abbrev pub invariant-loop-number : goal.invariant-loop-number

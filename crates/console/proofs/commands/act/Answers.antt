@@ -1,6 +1,4 @@
-use Rattle.script.specs.Said.{call_said}
-use Rattle.console.proofs.Commanding.{began_next, had_enough, had_none, made_step}
-use Rattle.std.proofs.Common.{sym, ◌∙◌}
+use Rattle.console.proofs.Lemmas.{call_said, began_next, had_enough, had_none, made_step, sym, ◌∙◌}
 use Rattle.console.proofs.commands.act.Goals as goal
 
 pub returns-then-is_enough : goal.returns-then-is_enough

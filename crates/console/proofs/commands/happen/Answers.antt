@@ -1,4 +1,4 @@
-use Rattle.console.proofs.Commanding.{happened}
+use Rattle.console.proofs.Lemmas.{happened}
 use Rattle.console.proofs.commands.happen.Goals as goal
 
 pub returns : goal.returns

@@ -1,8 +1,5 @@
-use Rattle.std.proofs.Common.{rules, ap, ◌≡◌, [], ◌∷◌, Err}
+use Rattle.console.proofs.Lemmas.{rules, ap, ◌≡◌, [], ◌∷◌, Err, call_said, line_said, all_harts, in_steps, to_end, up_to, all_is, end_is, of_line, run_line, run_line_fault, settle_line, start_line, start_line_fault, step_line, step_line_fault, upto_is, with_plan, with_turns}
 use Rattle.script.specs.Said as said
-use Rattle.script.specs.Said.{call_said, line_said}
-use Rattle.console.specs.Commands.{all_harts, in_steps, to_end, up_to}
-use Rattle.console.proofs.Commanding.{all_is, end_is, of_line, run_line, run_line_fault, settle_line, start_line, start_line_fault, step_line, step_line_fault, upto_is, with_plan, with_turns}
 use Rattle.console.proofs.commands.run_line.Goals as goal
 
 pub returns-in_err-_flow-in-Start : goal.returns-in_err-_flow-in-Start

@@ -1,10 +1,4 @@
-use Rattle.std.proofs.Common.{rules, arith, ◌≡◌, ◌≤◌, length, map, ◌∙◌, Err}
-use Rattle.std.proofs.lemmas.Iterator.Adapters.{YieldsList-from_vec}
-use Rattle.std.proofs.lemmas.Iterator.Consumers.{YieldsList-turn, YieldsList-end}
-use Rattle.std.proofs.lemmas.List.{length_push, length-map}
-use Rattle.script.specs.Said.{line_said}
-use Rattle.console.proofs.Commanding.{line_fault, line_more, lines_end}
-use Rattle.console.proofs.Queueing.{split_at}
+use Rattle.console.proofs.Lemmas.{rules, arith, ◌≡◌, ◌≤◌, length, map, ◌∙◌, Err, YieldsList-from_vec, YieldsList-turn, YieldsList-end, length_push, length-map, line_said, line_fault, line_more, lines_end, split_at}
 use Rattle.console.proofs.commands.run_lines.Goals as goal
 
 -- src/commands.rt:220:5

@@ -1,9 +1,4 @@
-use Rattle.std.proofs.Common.{ℕ, List, Option, Result, drop, map, length}
-use Rattle.script.specs.Said.{line_said}
-use Rattle.console.specs.declared.fault.ConsoleFault.{ConsoleFault}
-use Rattle.console.specs.Behaviours.{Runs}
-use Rattle.console.specs.Commands.{RunOf, lines, state}
-use Rattle.console.specs.Notes.{NotesOf}
+use Rattle.console.proofs.Lemmas.{ℕ, List, Option, Result, drop, map, length, line_said, ConsoleFault, Runs, RunOf, lines, state, NotesOf}
 use Rattle.console.proofs.commands.run_lines.Given as goal
 
 -- whatever comes of the lines that are left is what comes of all

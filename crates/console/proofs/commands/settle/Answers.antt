@@ -1,6 +1,4 @@
-use Rattle.std.proofs.Common.{rules, ◌≡◌, Err}
-use Rattle.console.specs.declared.flow.Flow.TheVariants.{Rests, Waits, Moves}
-use Rattle.console.proofs.Commanding.{quiet, settle_fault, settled_so}
+use Rattle.console.proofs.Lemmas.{rules, ◌≡◌, Err, Rests, Waits, Moves, quiet, settle_fault, settled_so}
 use Rattle.console.proofs.commands.settle.Goals as goal
 
 pub returns-in_err-last : goal.returns-in_err-last

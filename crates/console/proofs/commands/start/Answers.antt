@@ -1,7 +1,4 @@
-use Rattle.std.proofs.Common.{rules, ◌≡◌, Err}
-use Rattle.console.specs.declared.fault.ConsoleFault.TheVariants.{Memory}
-use Rattle.script.specs.Said.{call_said}
-use Rattle.console.proofs.Commanding.{not_started, started}
+use Rattle.console.proofs.Lemmas.{rules, ◌≡◌, Err, Memory, call_said, not_started, started}
 use Rattle.console.proofs.commands.start.Goals as goal
 
 pub returns-in_err-call : goal.returns-in_err-call

@@ -1,6 +1,4 @@
-use Rattle.std.proofs.Common.{rules, arith, refl, ◌≡◌, ◌≤◌, length, Err}
-use Rattle.console.specs.Commands.{state}
-use Rattle.console.proofs.Commanding.{wait_end, wait_fault, wait_more}
+use Rattle.console.proofs.Lemmas.{rules, arith, refl, ◌≡◌, ◌≤◌, length, Err, state, wait_end, wait_fault, wait_more}
 use Rattle.console.proofs.commands.tell_waits.Goals as goal
 
 -- src/commands.rt:142:9

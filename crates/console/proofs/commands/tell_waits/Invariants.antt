@@ -1,9 +1,4 @@
-use Rattle.std.proofs.Common.{ℕ, List, Option, Result, drop}
-use Rattle.console.specs.declared.fault.ConsoleFault.{ConsoleFault}
-use Rattle.console.specs.Behaviours.{Runs}
-use Rattle.console.specs.Commands.{RunOf, state, tells_waits}
-use Rattle.console.specs.Notes.{NotesOf}
-use Rattle.console.specs.Queues.{Left}
+use Rattle.console.proofs.Lemmas.{ℕ, List, Option, Result, drop, ConsoleFault, Runs, RunOf, state, tells_waits, NotesOf, Left}
 use Rattle.console.proofs.commands.tell_waits.Given as goal
 
 abbrev pub invariant-loop-hart : goal.invariant-loop-hart

@@ -1,5 +1,4 @@
-use Rattle.std.proofs.Common.{rules, arith, refl, ◌≡◌, ◌≤◌, length, Err}
-use Rattle.console.proofs.Commanding.{turn_end, turn_fault, turn_more}
+use Rattle.console.proofs.Lemmas.{rules, arith, refl, ◌≡◌, ◌≤◌, length, Err, turn_end, turn_fault, turn_more}
 use Rattle.console.proofs.commands.turn.Goals as goal
 
 -- src/commands.rt:107:28

@@ -1,10 +1,4 @@
-use Rattle.std.proofs.Common.{ℕ, List, Option, Result, drop}
-use Rattle.console.specs.declared.fault.ConsoleFault.{ConsoleFault}
-use Rattle.console.specs.declared.flow.Flow.{Flow}
-use Rattle.console.specs.declared.flow.Flow.TheVariants.{Rests}
-use Rattle.console.specs.Behaviours.{Runs}
-use Rattle.console.specs.Commands.{RunOf, state, turn}
-use Rattle.console.specs.Notes.{NotesOf}
+use Rattle.console.proofs.Lemmas.{ℕ, List, Option, Result, drop, ConsoleFault, Flow, Rests, Runs, RunOf, state, turn, NotesOf}
 use Rattle.console.proofs.commands.turn.Given as goal
 
 -- whatever comes of the harts that are left is what comes of all

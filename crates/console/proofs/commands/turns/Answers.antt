@@ -1,5 +1,4 @@
-use Rattle.std.proofs.Common.{rules, arith, sym, ◌∙◌, ◌≡◌, suc, ◌+◌, ◌-◌, Err}
-use Rattle.console.proofs.Commanding.{turns_end, turns_fault, turns_more, turns_rest}
+use Rattle.console.proofs.Lemmas.{rules, arith, sym, ◌∙◌, ◌≡◌, suc, ◌+◌, ◌-◌, Err, turns_end, turns_fault, turns_more, turns_rest}
 use Rattle.console.proofs.commands.turns.Goals as goal
 
 -- src/commands.rt:126:13

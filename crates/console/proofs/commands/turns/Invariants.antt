@@ -1,10 +1,4 @@
-use Rattle.std.proofs.Common.{ℕ, ◌-◌, List, Option, Result}
-use Rattle.console.specs.declared.fault.ConsoleFault.{ConsoleFault}
-use Rattle.console.specs.declared.flow.Flow.{Flow}
-use Rattle.console.specs.declared.flow.Flow.TheVariants.{Moves}
-use Rattle.console.specs.Behaviours.{Runs}
-use Rattle.console.specs.Commands.{RunOf, state, turns}
-use Rattle.console.specs.Notes.{NotesOf}
+use Rattle.console.proofs.Lemmas.{ℕ, ◌-◌, List, Option, Result, ConsoleFault, Flow, Moves, Runs, RunOf, state, turns, NotesOf}
 use Rattle.console.proofs.commands.turns.Given as goal
 
 -- whatever comes of the turns that are left is what comes of all

@@ -1,4 +1,4 @@
-use Rattle.console.proofs.Printing.{last_end, last_more}
+use Rattle.console.proofs.Lemmas.{last_end, last_more}
 use Rattle.console.proofs.events.write_last.Goals as goal
 
 pub loop-note-preserved : goal.loop-note-preserved

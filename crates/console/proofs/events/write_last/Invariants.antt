@@ -1,6 +1,4 @@
-use Rattle.std.proofs.Common.{ℕ, List, Option}
-use Rattle.std.specs.Io.KnownBytes.{Appends}
-use Rattle.console.specs.Events.{last_text}
+use Rattle.console.proofs.Lemmas.{ℕ, List, Option, Appends, last_text}
 use Rattle.console.proofs.events.write_last.Given as goal
 
 abbrev pub invariant-loop-note : goal.invariant-loop-note

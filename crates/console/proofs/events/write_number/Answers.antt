@@ -1,7 +1,4 @@
-use Rattle.std.proofs.Common.{◌++◌, subst}
-use Rattle.std.specs.Prelude.{OnOk, codes}
-use Rattle.std.specs.Fmt.{styled_decimal}
-use Rattle.std.specs.Io.KnownBytes.{Appends}
+use Rattle.console.proofs.Lemmas.{◌++◌, subst, OnOk, codes, styled_decimal, Appends}
 use Rattle.console.proofs.events.write_number.Goals as goal
 
 pub returns : goal.returns

@@ -1,4 +1,4 @@
-use Rattle.console.proofs.Printing.{tells_four}
+use Rattle.console.proofs.Lemmas.{tells_four}
 use Rattle.console.proofs.events.write_row.Goals as goal
 
 pub returns : goal.returns

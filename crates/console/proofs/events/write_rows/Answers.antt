@@ -1,4 +1,4 @@
-use Rattle.console.proofs.Printing.{row_at, rows_over}
+use Rattle.console.proofs.Lemmas.{row_at, rows_over}
 use Rattle.console.proofs.events.write_rows.Goals as goal
 
 pub loop-note-preserved : goal.loop-note-preserved

@@ -1,6 +1,4 @@
-use Rattle.std.proofs.Common.{ℕ, List, Option, drop}
-use Rattle.std.specs.Io.KnownBytes.{Appends}
-use Rattle.console.specs.Events.{timeline_rows}
+use Rattle.console.proofs.Lemmas.{ℕ, List, Option, drop, Appends, timeline_rows}
 use Rattle.console.proofs.events.write_rows.Given as goal
 
 -- whatever the lines of the notes that are left lead to is what all lines lead to

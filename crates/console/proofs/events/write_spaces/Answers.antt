@@ -1,7 +1,4 @@
-use Rattle.std.proofs.Common.{subst}
-use Rattle.std.specs.Prelude.{OnOk}
-use Rattle.std.specs.Io.KnownBytes.{Appends}
-use Rattle.console.proofs.Printing.{spaces_are}
+use Rattle.console.proofs.Lemmas.{subst, OnOk, Appends, spaces_are}
 use Rattle.console.proofs.events.write_spaces.Goals as goal
 
 pub returns : goal.returns

@@ -1,10 +1,4 @@
-use Rattle.std.proofs.Common.{◌≡◌, ◌++◌, refl, subst, List, ℕ}
-use Rattle.std.proofs.lemmas.List.{append_assoc}
-use Rattle.std.specs.Prelude.{codes, decimal, OnOk}
-use Rattle.std.specs.Io.KnownBytes.{Appends}
-use Rattle.plain_tree.specs.Numbers.{type_number}
-use Rattle.script.specs.Text.{stat_text}
-use Rattle.script.proofs.Appending.{tells_both}
+use Rattle.console.proofs.Lemmas.{◌≡◌, ◌++◌, refl, subst, List, ℕ, append_assoc, codes, decimal, OnOk, Appends, type_number, stat_text, tells_both}
 use Rattle.console.proofs.events.write_stat.Goals as goal
 
 pub returns : goal.returns

@@ -1,6 +1,4 @@
-use Rattle.std.proofs.Common.{true, ap, ◌++◌}
-use Rattle.console.specs.Events.{timeline_head, timeline_of, timeline_rows}
-use Rattle.script.proofs.Appending.{tells_both}
+use Rattle.console.proofs.Lemmas.{true, ap, ◌++◌, timeline_head, timeline_of, timeline_rows, tells_both}
 use Rattle.console.proofs.events.write_timeline.Goals as goal
 
 pub returns : goal.returns

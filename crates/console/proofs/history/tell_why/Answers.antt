@@ -1,4 +1,4 @@
-use Rattle.console.proofs.Telling.{line_told}
+use Rattle.console.proofs.Lemmas.{line_told}
 use Rattle.console.proofs.history.tell_why.Goals as goal
 
 pub returns-in_default : goal.returns-in_default

@@ -1,4 +1,4 @@
-use Rattle.console.proofs.Printing.{entries_end, entries_more}
+use Rattle.console.proofs.Lemmas.{entries_end, entries_more}
 use Rattle.console.proofs.history.write_entries.Goals as goal
 
 pub loop-entry-preserved : goal.loop-entry-preserved

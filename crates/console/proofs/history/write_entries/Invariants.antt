@@ -1,6 +1,4 @@
-use Rattle.std.proofs.Common.{ℕ, List, Option, drop}
-use Rattle.std.specs.Io.KnownBytes.{Appends}
-use Rattle.console.specs.Histories.{entries_text}
+use Rattle.console.proofs.Lemmas.{ℕ, List, Option, drop, Appends, entries_text}
 use Rattle.console.proofs.history.write_entries.Given as goal
 
 -- whatever the lines of the entries that are left lead to is what all lines lead to

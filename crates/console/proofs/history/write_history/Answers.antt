@@ -1,7 +1,4 @@
-use Rattle.std.proofs.Common.{sym}
-use Rattle.console.specs.Histories.{history_from}
-use Rattle.console.specs.Notes.{run_in}
-use Rattle.console.proofs.Telling.{found, list_told, unfound, why_told}
+use Rattle.console.proofs.Lemmas.{sym, history_from, run_in, found, list_told, unfound, why_told}
 use Rattle.console.proofs.history.write_history.Goals as goal
 
 pub returns-in-Err : goal.returns-in-Err

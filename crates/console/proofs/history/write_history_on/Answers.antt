@@ -1,7 +1,4 @@
-use Rattle.std.proofs.Common.{sym}
-use Rattle.console.specs.Histories.{history_on}
-use Rattle.console.specs.Notes.{run_in}
-use Rattle.console.proofs.Telling.{found_on, list_told, unfound_on, why_told}
+use Rattle.console.proofs.Lemmas.{sym, history_on, run_in, found_on, list_told, unfound_on, why_told}
 use Rattle.console.proofs.history.write_history_on.Goals as goal
 
 pub returns-in-Err : goal.returns-in-Err

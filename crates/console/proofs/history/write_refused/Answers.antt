@@ -1,8 +1,4 @@
-use Rattle.std.proofs.Common.{◌≡◌, ◌++◌, List, ℕ, refl}
-use Rattle.std.proofs.lemmas.List.{append_assoc}
-use Rattle.std.specs.Prelude.{codes, decimal}
-use Rattle.std.specs.Io.KnownBytes.{Appends}
-use Rattle.script.proofs.Appending.{tells_both}
+use Rattle.console.proofs.Lemmas.{◌≡◌, ◌++◌, List, ℕ, refl, append_assoc, codes, decimal, Appends, tells_both}
 use Rattle.console.proofs.history.write_refused.Goals as goal
 
 pub returns : goal.returns

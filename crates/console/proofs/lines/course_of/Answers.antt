@@ -1,6 +1,4 @@
-use Rattle.std.proofs.Common.{sym, Ok}
-use Rattle.std.proofs.lemmas.Simd.{map-map}
-use Rattle.script.specs.Said.{numbered}
+use Rattle.console.proofs.Lemmas.{sym, Ok, map-map, numbered}
 use Rattle.console.proofs.lines.course_of.Goals as goal
 
 pub returns-in-Listed : goal.returns-in-Listed

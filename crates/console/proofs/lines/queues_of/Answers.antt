@@ -1,9 +1,4 @@
-use Rattle.std.proofs.Common.{arith, refl, sym, ◌∙◌, length}
-use Rattle.std.proofs.lemmas.Iterator.Adapters.{YieldsList-from_vec}
-use Rattle.std.proofs.lemmas.Iterator.Consumers.{YieldsList-turn, YieldsList-end}
-use Rattle.std.proofs.lemmas.List.{length_push}
-use Rattle.script.specs.Said.{call_said}
-use Rattle.console.proofs.Queueing.{all_queued, not_queued, one_queued}
+use Rattle.console.proofs.Lemmas.{arith, refl, sym, ◌∙◌, length, YieldsList-from_vec, YieldsList-turn, YieldsList-end, length_push, call_said, all_queued, not_queued, one_queued}
 use Rattle.console.proofs.lines.queues_of.Goals as goal
 
 pub returns-in-None-started_in : goal.returns-in-None-started_in

@@ -1,6 +1,4 @@
-use Rattle.std.proofs.Common.{◌≡◌, map, drop, length}
-use Rattle.script.specs.Said.{numbered}
-use Rattle.console.specs.Queues.{none_left, queued}
+use Rattle.console.proofs.Lemmas.{◌≡◌, map, drop, length, numbered, none_left, queued}
 use Rattle.console.proofs.lines.queues_of.Given as goal
 
 abbrev pub invariant-loop-line : goal.invariant-loop-line

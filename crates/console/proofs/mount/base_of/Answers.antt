@@ -1,6 +1,4 @@
-use Rattle.std.proofs.Common.{rules, ◌≡◌, Err, sym}
-use Rattle.console.specs.Faults.{of_mount}
-use Rattle.console.proofs.Mounting.{mount_refused}
+use Rattle.console.proofs.Lemmas.{rules, ◌≡◌, Err, sym, of_mount, mount_refused}
 use Rattle.console.proofs.mount.base_of.Goals as goal
 
 pub returns-in_err-base-clause-refused : goal.returns-in_err-base-clause-refused

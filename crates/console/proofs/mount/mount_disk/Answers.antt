@@ -1,7 +1,4 @@
-use Rattle.std.proofs.Common.{rules, ◌≡◌, Err, ℕ, List, sym, subst}
-use Rattle.console.specs.Faults.{of_mount}
-use Rattle.console.specs.Images.{RefusesDisk}
-use Rattle.console.proofs.Mounting.{mount_refused, mounted_on}
+use Rattle.console.proofs.Lemmas.{rules, ◌≡◌, Err, ℕ, List, sym, subst, of_mount, RefusesDisk, mount_refused, mounted_on}
 use Rattle.console.proofs.mount.mount_disk.Goals as goal
 
 pub returns-in_err-base-clause-refused : goal.returns-in_err-base-clause-refused

@@ -1,7 +1,4 @@
-use Rattle.std.proofs.Common.{rules, ◌≡◌, Err, subst}
-use Rattle.script.specs.Asking.{asked_by, GivesAsked}
-use Rattle.script.specs.Asking.{asked_in}
-use Rattle.console.proofs.Answering.{answered, bad_answered, bad_unanswered, no_memory_to_answer}
+use Rattle.console.proofs.Lemmas.{rules, ◌≡◌, Err, subst, asked_by, GivesAsked, asked_in, answered, bad_answered, bad_unanswered, no_memory_to_answer}
 use Rattle.console.proofs.prompt.answer.Goals as goal
 
 pub returns-in-Ok : goal.returns-in-Ok

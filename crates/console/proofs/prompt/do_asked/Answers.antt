@@ -1,9 +1,4 @@
-use Rattle.std.proofs.Common.{rules, ap, ◌≡◌, true, false, Ok, Err}
-use Rattle.script.specs.Asking.{asked_by}
-use Rattle.script.specs.Asking.{Nothing, Help, State, Quit, Run}
-use Rattle.script.specs.Said.{line_said}
-use Rattle.console.proofs.Answering.{done_as, ran, ran_to_fault, told_then, untold}
-use Rattle.console.proofs.Behaving.{gives_at_once}
+use Rattle.console.proofs.Lemmas.{rules, ap, ◌≡◌, true, false, Ok, Err, asked_by, Nothing, Help, State, Quit, Run, line_said, done_as, ran, ran_to_fault, told_then, untold, gives_at_once}
 use Rattle.console.proofs.prompt.do_asked.Goals as goal
 
 pub returns-in-Nothing : goal.returns-in-Nothing

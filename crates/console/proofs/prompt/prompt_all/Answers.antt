@@ -1,5 +1,4 @@
-use Rattle.std.proofs.Common.{rules, ◌≡◌, Err}
-use Rattle.console.proofs.Answering.{ends_all, no_line_more, one_line_more, too_many_lines}
+use Rattle.console.proofs.Lemmas.{rules, ◌≡◌, Err, ends_all, no_line_more, one_line_more, too_many_lines}
 use Rattle.console.proofs.prompt.prompt_all.Goals as goal
 
 pub returns-in_err-prompt_line : goal.returns-in_err-prompt_line

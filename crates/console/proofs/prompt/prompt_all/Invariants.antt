@@ -1,8 +1,4 @@
-use Rattle.std.proofs.Common.{ℕ, List, Option, Result}
-use Rattle.console.specs.declared.fault.ConsoleFault.{ConsoleFault}
-use Rattle.console.specs.Commands.{RunOf, state}
-use Rattle.console.specs.Notes.{NotesOf}
-use Rattle.console.specs.Prompts.{PromptsAll}
+use Rattle.console.proofs.Lemmas.{ℕ, List, Option, Result, ConsoleFault, RunOf, state, NotesOf, PromptsAll}
 use Rattle.console.proofs.prompt.prompt_all.Given as goal
 
 -- whatever comes of the lines that are still typed is what comes of all

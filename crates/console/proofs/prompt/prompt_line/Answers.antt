@@ -1,5 +1,4 @@
-use Rattle.std.proofs.Common.{rules, ◌≡◌, Err}
-use Rattle.console.proofs.Answering.{end_untold, input_ends, line_answered, unasked, unread}
+use Rattle.console.proofs.Lemmas.{rules, ◌≡◌, Err, end_untold, input_ends, line_answered, unasked, unread}
 use Rattle.console.proofs.prompt.prompt_line.Goals as goal
 
 pub returns-in_err-ask : goal.returns-in_err-ask

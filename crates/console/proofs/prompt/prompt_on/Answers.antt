@@ -1,7 +1,4 @@
-use Rattle.std.proofs.Common.{rules, refl, ◌≡◌, ◌∙◌, Err, inr}
-use Rattle.console.specs.declared.fault.ConsoleFault.TheVariants.{Memory}
-use Rattle.console.specs.Histories.{history_from}
-use Rattle.console.proofs.Prompting.{lines_answered}
+use Rattle.console.proofs.Lemmas.{rules, refl, ◌≡◌, ◌∙◌, Err, inr, Memory, history_from, lines_answered}
 use Rattle.console.proofs.prompt.prompt_on.Goals as goal
 
 pub returns-in_err-desk : goal.returns-in_err-desk

@@ -1,7 +1,4 @@
-use Rattle.std.proofs.Common.{rules, arith, List, ℕ, false, true≢false, ◌≡◌, ◌++◌, ◌∷◌, [], sym, ◌∙◌}
-use Rattle.std.proofs.lemmas.Bool.Decides.{Decides-eqb}
-use Rattle.std.proofs.lemmas.Slice.Eq.{ends_is}
-use Rattle.console.proofs.Typing.{read_ended, read_endless, read_none}
+use Rattle.console.proofs.Lemmas.{rules, arith, List, ℕ, false, true≢false, ◌≡◌, ◌++◌, ◌∷◌, [], sym, ◌∙◌, Decides-eqb, ends_is, read_ended, read_endless, read_none}
 use Rattle.console.proofs.prompt.read_line.Goals as goal
 
 pub returns-in-Ok-eq0-clause-line : goal.returns-in-Ok-eq0-clause-line

@@ -1,9 +1,4 @@
-use Rattle.std.proofs.Common.{rules, ◌≡◌, Ok, Err, ℕ, List, ap, subst, inr}
-use Rattle.block_device.specs.Blocks.{blocks_of}
-use Rattle.image_tree.specs.Damage.{IsWellFormed}
-use Rattle.console.specs.Histories.{history_from}
-use Rattle.console.specs.Prompts.{PromptsReader}
-use Rattle.console.proofs.Mounting.{image_prompted, not_taken, prompted_on}
+use Rattle.console.proofs.Lemmas.{rules, ◌≡◌, Ok, Err, ℕ, List, ap, subst, inr, blocks_of, IsWellFormed, history_from, PromptsReader, image_prompted, not_taken, prompted_on}
 use Rattle.console.proofs.prompt.run_prompt.Goals as goal
 
 pub returns-in_err-base-clause-prompts : goal.returns-in_err-base-clause-prompts

@@ -1,4 +1,4 @@
-use Rattle.console.proofs.Answering.{bad_told}
+use Rattle.console.proofs.Lemmas.{bad_told}
 use Rattle.console.proofs.prompt.tell_bad.Goals as goal
 
 pub returns : goal.returns

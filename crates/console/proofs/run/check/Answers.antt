@@ -1,8 +1,4 @@
-use Rattle.std.proofs.Common.{rules, subst, ◌≡◌}
-use Rattle.std.specs.Io.KnownBytes.{Appends}
-use Rattle.block_device.specs.Blocks.{blocks_of}
-use Rattle.image_tree.specs.Shape.{shape_of}
-use Rattle.script.specs.Text.{shape_line}
+use Rattle.console.proofs.Lemmas.{rules, subst, ◌≡◌, Appends, blocks_of, shape_of, shape_line}
 use Rattle.console.proofs.run.check.Goals as goal
 
 pub returns-clause-tells : goal.returns-clause-tells

@@ -1,7 +1,4 @@
-use Rattle.std.proofs.Common.{rules, refl, ◌≡◌, Ok, Err}
-use Rattle.console.specs.declared.fault.ConsoleFault.TheVariants.{Stopped}
-use Rattle.console.specs.Histories.{history_from}
-use Rattle.console.proofs.Running.{stopped_so}
+use Rattle.console.proofs.Lemmas.{rules, refl, ◌≡◌, Ok, Err, Stopped, history_from, stopped_so}
 use Rattle.console.proofs.run.finish.Goals as goal
 
 pub returns-in_ok-write_rest-in-Err-Stopped : goal.returns-in_ok-write_rest-in-Err-Stopped

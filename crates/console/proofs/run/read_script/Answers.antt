@@ -1,5 +1,4 @@
-use Rattle.std.proofs.Common.{rules, arith, ◌<◌, ◌+◌, length}
-use Rattle.console.proofs.Running.{whole_text}
+use Rattle.console.proofs.Lemmas.{rules, arith, ◌<◌, ◌+◌, length, whole_text}
 use Rattle.console.proofs.run.read_script.Goals as goal
 
 -- src/run.rt:116:1

@@ -1,8 +1,4 @@
-use Rattle.std.proofs.Common.{rules, refl, ◌≡◌, Err, inr}
-use Rattle.console.specs.declared.fault.ConsoleFault.TheVariants.{Memory}
-use Rattle.console.specs.Histories.{history_from}
-use Rattle.console.specs.Lines.{course}
-use Rattle.console.proofs.Running.{course_run}
+use Rattle.console.proofs.Lemmas.{rules, refl, ◌≡◌, Err, inr, Memory, history_from, course, course_run}
 use Rattle.console.proofs.run.run_course.Goals as goal
 
 pub returns-in_err-desk : goal.returns-in_err-desk

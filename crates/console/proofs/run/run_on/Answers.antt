@@ -1,7 +1,5 @@
-use Rattle.std.proofs.Common.{rules, ◌≡◌, Err, sym, subst}
-use Rattle.console.specs.Histories.{history_from}
-use Rattle.console.specs.Runs.{RunsReader}
-use Rattle.console.proofs.Running.{unread, was_read}
+use Rattle.console.proofs.Lemmas.{rules, ◌≡◌, Err, sym, subst, history_from, RunsReader, was_read}
+use Rattle.console.proofs.Running.{unread}
 use Rattle.console.proofs.run.run_on.Goals as goal
 
 pub returns-in_err-text : goal.returns-in_err-text

@@ -1,12 +1,4 @@
-use Rattle.std.proofs.Common.{rules, tests, refl, ◌≡◌, Ok, Err, ℕ, List, ap, subst}
-use Rattle.block_device.specs.Blocks.{blocks_of}
-use Rattle.image_tree.specs.Damage.{IsWellFormed}
-use Rattle.console.specs.Histories.{history_from}
-use Rattle.console.specs.Images.{JudgesImage}
-use Rattle.console.specs.Runs.{RunsReader}
-use Rattle.console.proofs.Calm.{run_judged}
-use Rattle.console.proofs.Mounting.{image_run, image_untaken, not_taken, ran_on, refused_judged}
-use Rattle.console.proofs.Stopping.{came_calm}
+use Rattle.console.proofs.Lemmas.{rules, tests, refl, ◌≡◌, Ok, Err, ℕ, List, ap, subst, blocks_of, IsWellFormed, history_from, JudgesImage, RunsReader, run_judged, image_run, image_untaken, not_taken, ran_on, refused_judged, came_calm}
 use Rattle.console.proofs.run.run_script.Goals as goal
 
 pub returns-in_err-disk-clause-refused : goal.returns-in_err-disk-clause-refused

@@ -1,7 +1,4 @@
-use Rattle.std.proofs.Common.{rules, ap, sym, ◌≡◌, ◌∙◌, subst, Err}
-use Rattle.console.specs.Histories.{history_from}
-use Rattle.console.specs.Lines.{FailsTo, course, course_in}
-use Rattle.console.proofs.Running.{failed_course, with_course}
+use Rattle.console.proofs.Lemmas.{rules, ap, sym, ◌≡◌, ◌∙◌, subst, Err, history_from, FailsTo, course, course_in, failed_course, with_course}
 use Rattle.console.proofs.run.run_text.Goals as goal
 
 pub returns-in_err-planned : goal.returns-in_err-planned

@@ -1,5 +1,4 @@
-use Rattle.std.proofs.Common.{arith, sym}
-use Rattle.std.proofs.lemmas.List.{set_past}
+use Rattle.console.proofs.Lemmas.{arith, sym, set_past}
 use Rattle.console.proofs.session.put_doing.Goals as goal
 
 pub returns-else-place-lt8 : goal.returns-else-place-lt8

@@ -1,5 +1,4 @@
-use Rattle.std.proofs.Common.{refl}
-use Rattle.console.proofs.Prompting.{calls_end, calls_more}
+use Rattle.console.proofs.Lemmas.{refl, calls_end, calls_more}
 use Rattle.console.proofs.state.write_calls.Goals as goal
 
 pub loop-hart-preserved : goal.loop-hart-preserved

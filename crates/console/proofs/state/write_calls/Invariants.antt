@@ -1,6 +1,4 @@
-use Rattle.std.proofs.Common.{ℕ, List, Option, drop}
-use Rattle.std.specs.Io.KnownBytes.{Appends}
-use Rattle.console.specs.Prompts.{calls_text}
+use Rattle.console.proofs.Lemmas.{ℕ, List, Option, drop, Appends, calls_text}
 use Rattle.console.proofs.state.write_calls.Given as goal
 
 -- whatever the lines of the harts that are left lead to is what all lines lead to

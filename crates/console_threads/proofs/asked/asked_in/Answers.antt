@@ -1,7 +1,4 @@
-use Rattle.std.proofs.Common.{rules, ◌≡◌, ◌∙◌, Ok, ap, map, sym}
-use Rattle.script.specs.declared.mode.Schedule.TheVariants.{Round}
-use Rattle.console.specs.Lines.{called, course, course_in, script_course}
-use Rattle.console_threads.proofs.Asking.{queues_called}
+use Rattle.console_threads.proofs.Lemmas.{rules, ◌≡◌, ◌∙◌, Ok, ap, map, sym, Round, called, course, course_in, script_course, queues_called}
 use Rattle.console_threads.proofs.asked.asked_in.Goals as goal
 
 pub returns-clause-calls : goal.returns-clause-calls

@@ -1,6 +1,4 @@
-use Rattle.std.proofs.Common.{◌≡◌, ◌++◌, map, length}
-use Rattle.script.specs.Said.{call_said}
-use Rattle.console.specs.Lines.{called}
+use Rattle.console_threads.proofs.Lemmas.{◌≡◌, ◌++◌, map, length, call_said, called}
 use Rattle.console_threads.proofs.asked.calls_of.Given as goal
 
 abbrev pub invariant-loop-line : goal.invariant-loop-line

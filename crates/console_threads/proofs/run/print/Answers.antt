@@ -1,5 +1,4 @@
-use Rattle.std.proofs.Common.{rules}
-use Rattle.console_threads.proofs.Ending.{end_fails, end_prints}
+use Rattle.console_threads.proofs.Lemmas.{rules, end_fails, end_prints}
 use Rattle.console_threads.proofs.run.print.Goals as goal
 
 pub returns-clause-printed : goal.returns-clause-printed

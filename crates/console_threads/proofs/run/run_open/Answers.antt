@@ -1,5 +1,4 @@
-use Rattle.std.proofs.Common.{map}
-use Rattle.console_threads.proofs.Ending.{told_mounted, told_run, unasked, unasked_mounted}
+use Rattle.console_threads.proofs.Lemmas.{map, told_mounted, told_run, unasked, unasked_mounted}
 use Rattle.console_threads.proofs.run.run_open.Goals as goal
 
 pub returns-in-Err-clause-runs : goal.returns-in-Err-clause-runs

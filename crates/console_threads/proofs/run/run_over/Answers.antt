@@ -1,6 +1,4 @@
-use Rattle.std.proofs.Common.{rules, ◌≡◌, subst}
-use Rattle.console_threads.specs.Runs.{RunsThreads}
-use Rattle.console_threads.proofs.Ending.{if_ok, mount_judged, run_judged, unopened}
+use Rattle.console_threads.proofs.Lemmas.{rules, ◌≡◌, subst, RunsThreads, if_ok, mount_judged, run_judged, unopened}
 use Rattle.console_threads.proofs.run.run_over.Goals as goal
 
 pub returns-in-Err-clause-runs : goal.returns-in-Err-clause-runs

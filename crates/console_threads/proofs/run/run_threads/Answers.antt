@@ -1,9 +1,4 @@
-use Rattle.std.proofs.Common.{rules, ◌≡◌, subst, IfErr, IfOk}
-use Rattle.block_device.specs.Blocks.{blocks_of}
-use Rattle.console.specs.Images.{bytes_for}
-use Rattle.image_tree.specs.Damage.{IsWellFormed}
-use Rattle.console_threads.specs.Faults.{JudgesRun}
-use Rattle.console_threads.specs.Runs.{RunsThreads}
+use Rattle.console_threads.proofs.Lemmas.{rules, ◌≡◌, subst, IfErr, IfOk, blocks_of, bytes_for, IsWellFormed, JudgesRun, RunsThreads}
 use Rattle.console_threads.proofs.run.run_threads.Goals as goal
 
 pub returns-clause-runs : goal.returns-clause-runs

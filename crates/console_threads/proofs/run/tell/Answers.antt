@@ -1,7 +1,4 @@
-use Rattle.std.proofs.Common.{rules, ◌≡◌, Err, map, subst}
-use Rattle.console_threads.specs.declared.fault.ThreadsFault.TheVariants.{Console}
-use Rattle.console_threads.specs.Started.{EachStarted}
-use Rattle.console_threads.specs.Worked.{eight_harts}
+use Rattle.console_threads.proofs.Lemmas.{rules, ◌≡◌, Err, map, subst, Console, EachStarted, eight_harts}
 use Rattle.console_threads.proofs.run.tell.Goals as goal
 
 pub returns-in_err-print : goal.returns-in_err-print

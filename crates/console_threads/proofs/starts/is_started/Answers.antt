@@ -1,5 +1,4 @@
-use Rattle.std.proofs.Common.{rules, arith, ◌≡◌, ◌≢◌, ◌<◌, length, eq-eqb, eqb-true}
-use Rattle.console_threads.proofs.Starting.{beyond, differs, ended, passed, took}
+use Rattle.console_threads.proofs.Lemmas.{rules, arith, ◌≡◌, ◌≢◌, ◌<◌, length, eq-eqb, eqb-true, beyond, differs, ended, passed, took}
 use Rattle.console_threads.proofs.starts.is_started.Goals.{then-seen-asked-via-then-seen-asked, then-seen-asked-via-else-seen-asked+then-not-is_same, in-Some+else-seen-asked+else-not-is_same, in_default}
 use Rattle.console_threads.proofs.starts.is_started.Goals as goal
 

@@ -1,6 +1,4 @@
-use Rattle.std.proofs.Common.{◌≡◌, ◌≤◌, length, drop}
-use Rattle.std.specs.Prelude.{◌↔◌}
-use Rattle.console_threads.specs.Started.{starts_in}
+use Rattle.console_threads.proofs.Lemmas.{◌≡◌, ◌≤◌, length, drop, ◌↔◌, starts_in}
 use Rattle.console_threads.proofs.starts.is_started.Given as goal
 
 abbrev pub invariant-loop-event : goal.invariant-loop-event

@@ -1,4 +1,4 @@
-use Rattle.std.proofs.Common.{rules}
+use Rattle.console_threads.proofs.Lemmas.{rules}
 use Rattle.console_threads.proofs.tell.copied_call.Goals as goal
 
 pub returns : goal.returns

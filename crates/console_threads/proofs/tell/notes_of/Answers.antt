@@ -1,6 +1,4 @@
-use Rattle.std.proofs.Common.{arith, ◌+◌, ◌<◌, ◌≤◌, ◌∙◌, ap, sym, drop, length, min}
-use Rattle.console_threads.specs.Told.{noted_in}
-use Rattle.console_threads.proofs.Telling.{note_end, note_more}
+use Rattle.console_threads.proofs.Lemmas.{arith, ◌+◌, ◌<◌, ◌≤◌, ◌∙◌, ap, sym, drop, length, min, noted_in, note_end, note_more}
 use Rattle.console_threads.proofs.tell.notes_of.Goals as goal
 
 pub loop-i-preserved : goal.loop-i-preserved

@@ -1,6 +1,4 @@
-use Rattle.std.proofs.Common.{◌≡◌, drop}
-use Rattle.console.specs.Notes.{no_notes}
-use Rattle.console_threads.specs.Told.{noted_in}
+use Rattle.console_threads.proofs.Lemmas.{◌≡◌, drop, no_notes, noted_in}
 use Rattle.console_threads.proofs.tell.notes_of.Given as goal
 
 abbrev pub invariant-loop-i : goal.invariant-loop-i

@@ -1,5 +1,4 @@
-use Rattle.std.proofs.Common.{arith, ◌<◌, ◌≤◌, length, min}
-use Rattle.console_threads.proofs.Telling.{line_end, line_more}
+use Rattle.console_threads.proofs.Lemmas.{arith, ◌<◌, ◌≤◌, length, min, line_end, line_more}
 use Rattle.console_threads.proofs.tell.write_hart.Goals as goal
 
 pub loop-i-preserved : goal.loop-i-preserved

@@ -1,6 +1,4 @@
-use Rattle.std.proofs.Common.{ℕ, List, Option, drop}
-use Rattle.std.specs.Io.KnownBytes.{Appends}
-use Rattle.console_threads.specs.Told.{hart_text}
+use Rattle.console_threads.proofs.Lemmas.{ℕ, List, Option, drop, Appends, hart_text}
 use Rattle.console_threads.proofs.tell.write_hart.Given as goal
 
 -- whatever comes of the events that are left is what comes of all

@@ -1,5 +1,4 @@
-use Rattle.console_threads.proofs.Telling.{hart_end, hart_more}
-use Rattle.console_threads.specs.Worked.{eight_harts}
+use Rattle.console_threads.proofs.Lemmas.{hart_end, hart_more, eight_harts}
 use Rattle.console_threads.proofs.tell.write_harts.Goals as goal
 
 pub loop-hart-preserved : goal.loop-hart-preserved

@@ -1,7 +1,4 @@
-use Rattle.std.proofs.Common.{ℕ, List, Option, drop}
-use Rattle.std.specs.Io.KnownBytes.{Appends}
-use Rattle.console_threads.specs.Told.{harts_text}
-use Rattle.console_threads.specs.Worked.{eight_harts}
+use Rattle.console_threads.proofs.Lemmas.{ℕ, List, Option, drop, Appends, harts_text, eight_harts}
 use Rattle.console_threads.proofs.tell.write_harts.Given as goal
 
 -- whatever comes of the harts that are left is what comes of all

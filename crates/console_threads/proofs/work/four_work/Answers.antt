@@ -1,10 +1,8 @@
 use denote.Exit.{no}
 use denote.Param.Send.{param_send, arg_send, shr_send}
-use Rattle.hart_runner.proofs.Sent.{four_send, kernel_sync}
+use Rattle.console_threads.proofs.Lemmas.{four_send, kernel_sync, the_row, task_send}
 use Rattle.hart_runner.proofs.gate.NoGate.TheSendSync as gate
-use Rattle.hart_runner.specs.contracts.gate.NoGate.{the_row}
 use Rattle.console_threads.specs.contracts.work.four_work.{L-row}
-use Rattle.console_threads.proofs.Sent.{task_send}
 use Rattle.console_threads.proofs.work.four_work.Goals as goal
 
 pub join-a-requires-send-F : goal.join-a-requires-send-F

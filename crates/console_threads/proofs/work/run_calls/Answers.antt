@@ -1,6 +1,4 @@
-use Rattle.std.proofs.Common.{rules, ◌≡◌, None, map}
-use Rattle.console_threads.proofs.Closing.{all_closed}
-use Rattle.console_threads.proofs.Working.{if_none}
+use Rattle.console_threads.proofs.Lemmas.{rules, ◌≡◌, None, map, all_closed, if_none}
 use Rattle.console_threads.proofs.work.run_calls.Goals as goal
 
 pub returns-in-Ok-None-clause-ok : goal.returns-in-Ok-None-clause-ok

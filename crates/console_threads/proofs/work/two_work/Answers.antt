@@ -1,10 +1,8 @@
 use denote.Exit.{no}
 use denote.Param.Send.{param_send, arg_send, shr_send}
-use Rattle.hart_runner.proofs.Sent.{three_send, kernel_sync}
+use Rattle.console_threads.proofs.Lemmas.{three_send, kernel_sync, the_row, task_send}
 use Rattle.hart_runner.proofs.gate.NoGate.TheSendSync as gate
-use Rattle.hart_runner.specs.contracts.gate.NoGate.{the_row}
 use Rattle.console_threads.specs.contracts.work.two_work.{L-row}
-use Rattle.console_threads.proofs.Sent.{task_send}
 use Rattle.console_threads.proofs.work.two_work.Goals as goal
 
 pub join-requires-send-F : goal.join-requires-send-F

@@ -1,10 +1,4 @@
-use Rattle.std.proofs.Common.{◌∙◌, sym, subst, map-id}
-use Rattle.std.specs.Prelude.{IfNone}
-use Rattle.std.proofs.lemmas.Iterator.Adapters.{YieldsList-from_vec}
-use Rattle.std.proofs.lemmas.Iterator.Consumers.{YieldsList-end}
-use Rattle.console_threads.specs.Worked.{HasMade}
-use Rattle.console_threads.proofs.Answering.{none_made, one_made}
-use Rattle.console_threads.proofs.Working.{broken, whole}
+use Rattle.console_threads.proofs.Lemmas.{◌∙◌, sym, subst, map-id, IfNone, YieldsList-from_vec, YieldsList-end, HasMade, none_made, one_made, broken, whole}
 use Rattle.console_threads.proofs.work.work.Goals as goal
 
 pub loop-call-init : goal.loop-call-init

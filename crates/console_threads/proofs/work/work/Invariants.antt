@@ -1,4 +1,4 @@
-use Rattle.console_threads.specs.Worked.{HasMadeAll}
+use Rattle.console_threads.proofs.Lemmas.{HasMadeAll}
 use Rattle.console_threads.proofs.work.work.Given as goal
 
 abbrev pub invariant-loop-call : goal.invariant-loop-call

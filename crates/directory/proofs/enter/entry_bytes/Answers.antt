@@ -1,4 +1,4 @@
-use Rattle.directory.proofs.Spelled.{spelled}
+use Rattle.directory.proofs.Lemmas.{spelled}
 use Rattle.directory.proofs.enter.entry_bytes.Goals as goal
 
 pub returns : goal.returns

@@ -1,5 +1,4 @@
-use Rattle.std.proofs.Common.{refl}
-use Rattle.fs_layout.specs.Bytes.{u16_bytes}
+use Rattle.directory.proofs.Lemmas.{refl, u16_bytes}
 use Rattle.directory.proofs.fill.dots.Goals as goal
 
 pub returns : goal.returns

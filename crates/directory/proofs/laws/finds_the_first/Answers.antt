@@ -1,4 +1,4 @@
-use Rattle.directory.proofs.Searches.{finds_first}
+use Rattle.directory.proofs.Lemmas.{finds_first}
 use Rattle.directory.proofs.laws.finds_the_first.Goals as goal
 
 pub returns : goal.returns

@@ -1,4 +1,4 @@
-use Rattle.directory.proofs.Puts.{puts_one}
+use Rattle.directory.proofs.Lemmas.{puts_one}
 use Rattle.directory.proofs.laws.puts_one_entry.Goals as goal
 
 pub returns : goal.returns

@@ -1,4 +1,4 @@
-use Rattle.std.proofs.Common.{arith}
+use Rattle.directory.proofs.Lemmas.{arith}
 use Rattle.directory.proofs.search.next.Goals as goal
 
 pub returns-clause-ready : goal.returns-clause-ready

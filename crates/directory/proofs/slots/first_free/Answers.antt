@@ -1,8 +1,4 @@
-use Rattle.std.proofs.Common.{sym, ◌∙◌, below_more, arith}
-use Rattle.fs_layout.specs.Entry.{dirent_at}
-use Rattle.directory.specs.Slots.{first_free, is_free}
-use Rattle.bitmap_alloc.proofs.First.{this_below, none_below}
-use Rattle.directory.proofs.Cleared.{clear_free}
+use Rattle.directory.proofs.Lemmas.{sym, ◌∙◌, below_more, arith, dirent_at, first_free, is_free, this_below, none_below, clear_free}
 use Rattle.directory.proofs.slots.first_free.Goals as goal
 
 pub returns-then-is_clear-clause-first : goal.returns-then-is_clear-clause-first

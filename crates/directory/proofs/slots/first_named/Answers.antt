@@ -1,8 +1,4 @@
-use Rattle.std.proofs.Common.{sym, ◌∙◌, below_more, arith}
-use Rattle.fs_layout.specs.Entry.{dirent_at}
-use Rattle.directory.specs.Slots.{first_named, is_named}
-use Rattle.bitmap_alloc.proofs.First.{this_below, none_below}
-use Rattle.directory.proofs.Named.{words_name}
+use Rattle.directory.proofs.Lemmas.{sym, ◌∙◌, below_more, arith, dirent_at, first_named, is_named, this_below, none_below, words_name}
 use Rattle.directory.proofs.slots.first_named.Goals as goal
 
 pub returns-then-has_words-clause-first : goal.returns-then-has_words-clause-first

@@ -1,6 +1,4 @@
-use Rattle.std.proofs.Common.{◌≡◌, ℕ, ◌<◌, false}
-use Rattle.fs_layout.specs.Entry.{dirent_at}
-use Rattle.directory.specs.Slots.{is_named}
+use Rattle.directory.proofs.Lemmas.{◌≡◌, ℕ, ◌<◌, false, dirent_at, is_named}
 use Rattle.directory.proofs.slots.first_named.Given as goal
 
 abbrev pub invariant-loop-place : goal.invariant-loop-place

@@ -1,6 +1,4 @@
-use Rattle.std.proofs.Common.{◌≡◌, ◌≢◌, sym, ◌∙◌, arith, ⊎_elim}
-use Rattle.std.proofs.lemmas.Bool.{cases_eq}
-use Rattle.directory.proofs.Used.{no_used, used_here}
+use Rattle.directory.proofs.Lemmas.{◌≡◌, ◌≢◌, sym, ◌∙◌, arith, ⊎_elim, cases_eq, no_used, used_here}
 use Rattle.directory.proofs.slots.first_used.Goals as goal
 
 pub returns-then-is_used-clause-first : goal.returns-then-is_used-clause-first

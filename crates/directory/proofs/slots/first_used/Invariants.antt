@@ -1,6 +1,4 @@
-use Rattle.std.proofs.Common.{◌≡◌, ℕ, ◌<◌, ◌≤◌, false}
-use Rattle.fs_layout.specs.Entry.{dirent_at}
-use Rattle.directory.specs.Slots.{is_used}
+use Rattle.directory.proofs.Lemmas.{◌≡◌, ℕ, ◌<◌, ◌≤◌, false, dirent_at, is_used}
 use Rattle.directory.proofs.slots.first_used.Given as goal
 
 abbrev pub invariant-loop-place : goal.invariant-loop-place

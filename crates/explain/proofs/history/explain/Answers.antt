@@ -1,4 +1,4 @@
-use Rattle.explain.proofs.Running.{found_played}
+use Rattle.explain.proofs.Lemmas.{found_played}
 use Rattle.explain.proofs.history.explain.Goals as goal
 
 pub returns : goal.returns

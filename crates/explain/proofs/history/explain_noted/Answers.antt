@@ -1,10 +1,4 @@
-use Rattle.std.proofs.Common.{ap, sym, subst, ◌∙◌, Option, Ok, inr}
-use Rattle.std.specs.Prelude.{Vec}
-use Rattle.std.specs.declared.alloc.Global.{Global}
-use Rattle.plain_tree.specs.declared.trace.Placed.{Placed}
-use Rattle.tree_histories.specs.Told.{any_climbs}
-use Rattle.explain.specs.Played.{IsFound}
-use Rattle.explain.proofs.Running.{nowhere}
+use Rattle.explain.proofs.Lemmas.{ap, sym, subst, ◌∙◌, Option, Ok, inr, Vec, Global, Placed, any_climbs, IsFound, nowhere}
 use Rattle.explain.proofs.history.explain_noted.Goals as goal
 
 pub returns-in-Ok-None : goal.returns-in-Ok-None

@@ -1,4 +1,4 @@
-use Rattle.std.proofs.Common.{rules}
+use Rattle.explain.proofs.Lemmas.{rules}
 use Rattle.explain.proofs.keep.copied.Goals as goal
 
 pub returns : goal.returns

@@ -1,7 +1,4 @@
-use Rattle.std.proofs.Common.{sym, subst}
-use Rattle.explain.specs.declared.refused.ExplainRefused.{ExplainRefused}
-use Rattle.explain.specs.Explained.{IsRefusedMount}
-use Rattle.explain.proofs.Mounting.{refused_mount}
+use Rattle.explain.proofs.Lemmas.{sym, subst, ExplainRefused, IsRefusedMount, refused_mount}
 use Rattle.explain.proofs.play.base_of.Goals as goal
 
 pub returns-in-Err : goal.returns-in-Err

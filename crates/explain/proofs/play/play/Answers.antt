@@ -1,4 +1,4 @@
-use Rattle.std.proofs.Common.{refl}
+use Rattle.explain.proofs.Lemmas.{refl}
 use Rattle.explain.proofs.play.play.Goals as goal
 
 pub returns-in-Ok-run_noted : goal.returns-in-Ok-run_noted

@@ -1,11 +1,4 @@
-use Rattle.std.proofs.lemmas.List.Elements.{recursion_from_All, All-from_get_or}
-use Rattle.std.proofs.Common.{◌≡◌, ◌<◌, ◌+◌, ◌*◌, ◌^◌, length, take, arith, sym, ap, ◌∙◌, get_or, List, ℕ, ◌++◌, ◌∷◌, []}
-use Rattle.std.proofs.lemmas.List.{take_more, length-take-le, append-nil}
-use Rattle.std.proofs.lemmas.List.Concat.{flat_map-append}
-use Rattle.std.specs.List.{flat_map}
-use Rattle.fs_layout.specs.Bytes.{overwrite, u32_bytes}
-use Rattle.fs_layout.proofs.Overwrites.{then_overwrite}
-use Rattle.fs_layout.proofs.Numbers.{length-u32s_bytes}
+use Rattle.fs_layout.proofs.Lemmas.{recursion_from_All, All-from_get_or, ◌≡◌, ◌<◌, ◌+◌, ◌*◌, ◌^◌, length, take, arith, sym, ap, ◌∙◌, get_or, List, ℕ, ◌++◌, ◌∷◌, [], take_more, length-take-le, append-nil, flat_map-append, flat_map, overwrite, u32_bytes, then_overwrite, length-u32s_bytes}
 use Rattle.fs_layout.proofs.bytes.put_u32s.Goals as goal
 
 pub loop-i-preserved : goal.loop-i-preserved

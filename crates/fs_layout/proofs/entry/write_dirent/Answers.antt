@@ -1,7 +1,4 @@
-use Rattle.std.proofs.Common.{◌≡◌, arith, ◌*◌}
-use Rattle.fs_layout.specs.Bytes.{overwrite}
-use Rattle.fs_layout.specs.Entry.{spell_dirent}
-use Rattle.fs_layout.proofs.Entries.{wrote_used, reads_back, others_stay}
+use Rattle.fs_layout.proofs.Lemmas.{◌≡◌, arith, ◌*◌, overwrite, spell_dirent, wrote_used, reads_back, others_stay}
 use Rattle.fs_layout.proofs.entry.write_dirent.Goals as goal
 
 free : (c : goal.After-put_bytes) → c.put_bytes.new.bytes ≡ overwrite c.args.block.now (16 * c.args.place) (spell_dirent c.args.entry.now)

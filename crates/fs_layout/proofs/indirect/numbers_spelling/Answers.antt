@@ -1,4 +1,4 @@
-use Rattle.fs_layout.proofs.Words.{numbers_in-spell, spell-numbers_in}
+use Rattle.fs_layout.proofs.Lemmas.{numbers_in-spell, spell-numbers_in}
 use Rattle.fs_layout.proofs.indirect.numbers_spelling.Goals as goal
 
 pub returns-clause-reads_back : goal.returns-clause-reads_back

@@ -1,6 +1,4 @@
-use Rattle.std.proofs.Common.{◌≡◌, ◌+◌, ◌*◌, ◌∙◌, ap, sym, arith}
-use Rattle.fs_layout.specs.Bytes.{u32_at}
-use Rattle.fs_layout.proofs.Words.{get_or-u32s_at}
+use Rattle.fs_layout.proofs.Lemmas.{◌≡◌, ◌+◌, ◌*◌, ◌∙◌, ap, sym, arith, u32_at, get_or-u32s_at}
 use Rattle.fs_layout.proofs.indirect.read_number.Goals as goal
 
 pub returns : goal.returns

@@ -1,6 +1,4 @@
-use Rattle.std.proofs.Common.{◌∙◌, ap, arith}
-use Rattle.fs_layout.specs.Indirect.{numbers_in}
-use Rattle.fs_layout.proofs.Words.{u32s_at-write}
+use Rattle.fs_layout.proofs.Lemmas.{◌∙◌, ap, arith, numbers_in, u32s_at-write}
 use Rattle.fs_layout.proofs.indirect.write_number.Goals as goal
 
 pub returns-clause-numbers : goal.returns-clause-numbers

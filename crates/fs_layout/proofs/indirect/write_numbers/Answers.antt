@@ -1,6 +1,4 @@
-use Rattle.std.proofs.Common.{◌≡◌, ◌∙◌, ap, arith}
-use Rattle.fs_layout.specs.Indirect.{numbers_in, spell_numbers}
-use Rattle.fs_layout.proofs.Words.{whole-overwrite, numbers_in-spell}
+use Rattle.fs_layout.proofs.Lemmas.{◌≡◌, ◌∙◌, ap, arith, numbers_in, spell_numbers, whole-overwrite, numbers_in-spell}
 use Rattle.fs_layout.proofs.indirect.write_numbers.Goals as goal
 
 written : (c : goal.After-put_u32s) → c.put_u32s.new.bytes ≡ spell_numbers c.args.numbers.now

@@ -1,7 +1,4 @@
-use Rattle.std.proofs.Common.{◌∙◌, ap, sym, []}
-use Rattle.std.proofs.lemmas.List.{append-nil}
-use Rattle.fs_layout.specs.LogHead.{spell_log_head, log_head_of}
-use Rattle.fs_layout.proofs.Words.{log_head_of-spell, spell-log_head_of}
+use Rattle.fs_layout.proofs.Lemmas.{◌∙◌, ap, sym, [], append-nil, spell_log_head, log_head_of, log_head_of-spell, spell-log_head_of}
 use Rattle.fs_layout.proofs.log_head.log_head_spelling.Goals as goal
 
 pub returns-clause-reads_back : goal.returns-clause-reads_back

@@ -1,10 +1,4 @@
-use Rattle.std.proofs.Common.{ℕ, ◌≡◌, ◌∙◌, ap, drop, length, arith}
-use Rattle.std.specs.List.{flat_map}
-use Rattle.fs_layout.specs.Bytes.{overwrite, u32_bytes}
-use Rattle.fs_layout.specs.LogHead.{spell_log_head, log_head_of}
-use Rattle.fs_layout.proofs.Numbers.{length-u32_bytes}
-use Rattle.fs_layout.proofs.Overwrites.{then_overwrite}
-use Rattle.fs_layout.proofs.Words.{front-overwrite, log_head_of-spell}
+use Rattle.fs_layout.proofs.Lemmas.{ℕ, ◌≡◌, ◌∙◌, ap, drop, length, arith, flat_map, overwrite, u32_bytes, spell_log_head, log_head_of, length-u32_bytes, then_overwrite, front-overwrite, log_head_of-spell}
 use Rattle.fs_layout.proofs.log_head.write_log_head.Goals as goal
 
 written : (c : goal.After-put_u32s) → c.put_u32s.new.bytes ≡ overwrite c.args.block.now 0 (spell_log_head c.args.blocks.now)

@@ -1,5 +1,4 @@
-use Rattle.std.proofs.Common.{refl}
-use Rattle.fs_layout.proofs.RecoveredDisk.{recovered-copy, recovered-own}
+use Rattle.fs_layout.proofs.Lemmas.{refl, recovered-copy, recovered-own}
 use Rattle.fs_layout.proofs.recovered.recovered_blocks.Goals as goal
 
 pub returns-clause-copied : goal.returns-clause-copied

@@ -1,7 +1,4 @@
-use Rattle.std.proofs.Common.{◌∙◌, ap, sym, []}
-use Rattle.std.proofs.lemmas.List.{append-nil}
-use Rattle.fs_layout.specs.Super.{spell_super, super_of}
-use Rattle.fs_layout.proofs.Words.{super_of-spell, spell-super_of}
+use Rattle.fs_layout.proofs.Lemmas.{◌∙◌, ap, sym, [], append-nil, spell_super, super_of, super_of-spell, spell-super_of}
 use Rattle.fs_layout.proofs.superblock.super_spelling.Goals as goal
 
 pub returns-clause-reads_back : goal.returns-clause-reads_back

@@ -1,6 +1,4 @@
-use Rattle.std.proofs.Common.{◌∙◌, ap, drop, length}
-use Rattle.fs_layout.specs.Super.{spell_super, super_of}
-use Rattle.fs_layout.proofs.Words.{front-overwrite, super_of-spell}
+use Rattle.fs_layout.proofs.Lemmas.{◌∙◌, ap, drop, length, spell_super, super_of, front-overwrite, super_of-spell}
 use Rattle.fs_layout.proofs.superblock.write_super.Goals as goal
 
 pub returns-clause-reads_back : goal.returns-clause-reads_back

@@ -1,5 +1,4 @@
-use Rattle.fs_machine.specs.Tables.{one_less}
-use Rattle.fs_machine.proofs.Places.{set_change}
+use Rattle.fs_machine.proofs.Lemmas.{one_less, set_change}
 use Rattle.fs_machine.proofs.entries.count_down.Goals as goal
 
 pub returns : goal.returns

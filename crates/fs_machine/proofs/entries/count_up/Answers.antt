@@ -1,5 +1,4 @@
-use Rattle.fs_machine.specs.Tables.{one_more}
-use Rattle.fs_machine.proofs.Places.{set_change}
+use Rattle.fs_machine.proofs.Lemmas.{one_more, set_change}
 use Rattle.fs_machine.proofs.entries.count_up.Goals as goal
 
 pub returns : goal.returns

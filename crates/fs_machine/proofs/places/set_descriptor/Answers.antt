@@ -1,5 +1,4 @@
-use Rattle.fs_machine.specs.Files.{with_descriptor}
-use Rattle.fs_machine.proofs.Places.{set_change}
+use Rattle.fs_machine.proofs.Lemmas.{with_descriptor, set_change}
 use Rattle.fs_machine.proofs.places.set_descriptor.Goals as goal
 
 pub returns : goal.returns

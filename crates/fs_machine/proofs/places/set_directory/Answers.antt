@@ -1,5 +1,4 @@
-use Rattle.fs_machine.specs.Inodes.{with_directory}
-use Rattle.fs_machine.proofs.Places.{set_change}
+use Rattle.fs_machine.proofs.Lemmas.{with_directory, set_change}
 use Rattle.fs_machine.proofs.places.set_directory.Goals as goal
 
 pub returns : goal.returns

@@ -1,5 +1,4 @@
-use Rattle.fs_machine.specs.Files.{with_hand}
-use Rattle.fs_machine.proofs.Places.{set_change}
+use Rattle.fs_machine.proofs.Lemmas.{with_hand, set_change}
 use Rattle.fs_machine.proofs.places.set_hand.Goals as goal
 
 pub returns : goal.returns

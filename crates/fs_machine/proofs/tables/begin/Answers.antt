@@ -1,8 +1,4 @@
-use Rattle.std.proofs.Common.{◌∙◌, sym, ap, None, Option}
-use Rattle.fs_machine.proofs.Locking.{numbered}
-use Rattle.fs_machine.proofs.Beginning.{free_from, free_in, out_replaced, begun_locks}
-use Rattle.fs_machine.specs.declared.entries.Inode.{Inode}
-use Rattle.sleep_lock.specs.SleepLock.{GuardState}
+use Rattle.fs_machine.proofs.Lemmas.{◌∙◌, sym, ap, None, Option, numbered, free_from, free_in, out_replaced, begun_locks, Inode, GuardState}
 use Rattle.fs_machine.proofs.tables.begin.Goals as goal
 
 pub unreachable-requires : goal.unreachable-requires

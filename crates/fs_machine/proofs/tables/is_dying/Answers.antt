@@ -1,10 +1,4 @@
-use Rattle.std.proofs.Common.{◌≡◌, ◌∙◌, ap, sym, get_or, Option, true}
-use Rattle.std.specs.Prelude.{is_some, IsSome}
-use Rattle.std.proofs.lemmas.Option.{slice_get-get_or}
-use Rattle.fs_layout.specs.declared.inode.Dinode.{Dinode}
-use Rattle.fs_machine.specs.declared.entries.Entry.{Entry}
-use Rattle.fs_machine.proofs.Locking.{had_out}
-use Rattle.fs_machine.proofs.Dying.{had_back}
+use Rattle.fs_machine.proofs.Lemmas.{◌≡◌, ◌∙◌, ap, sym, get_or, Option, true, is_some, IsSome, slice_get-get_or, Dinode, Entry, had_out, had_back}
 use Rattle.fs_machine.proofs.tables.is_dying.Goals as goal
 
 pub returns-in-None-clause-dying : goal.returns-in-None-clause-dying

@@ -1,12 +1,4 @@
-use Rattle.std.proofs.Common.{◌∙◌, get_or, sym, ap, subst, Option}
-use Rattle.std.specs.Prelude.{IsSome}
-use Rattle.std.proofs.lemmas.Option.{slice_get-get_or}
-use Rattle.sleep_lock.specs.SleepLock.{GuardState}
-use Rattle.fs_machine.specs.declared.entries.Entry.{Entry}
-use Rattle.fs_machine.specs.declared.entries.Inode.{Inode}
-use Rattle.fs_machine.specs.Inodes.{dead_of}
-use Rattle.fs_machine.proofs.Locking.{numbered, lock_still_at}
-use Rattle.fs_machine.proofs.Dying.{out_alive, had_dead, had_alive, had_back, is_dead}
+use Rattle.fs_machine.proofs.Lemmas.{◌∙◌, get_or, sym, ap, subst, Option, IsSome, slice_get-get_or, GuardState, Entry, Inode, dead_of, numbered, lock_still_at, out_alive, had_dead, had_alive, had_back, is_dead}
 use Rattle.fs_machine.proofs.tables.take_dying.Goals as goal
 
 pub unlock-requires : goal.unlock-requires

@@ -1,6 +1,4 @@
-use Rattle.std.proofs.Common.{◌≡◌, ◌∙◌, ap, ℕ, List, false}
-use Rattle.buffer_cache.specs.Seats.{SeatState, with_seat, with_pin, given_back}
-use Rattle.group_log.proofs.Getting.{recorded_pinned, gets_recorded, waits_same, same_cache, put_back, put_home}
+use Rattle.group_log.proofs.Lemmas.{◌≡◌, ◌∙◌, ap, ℕ, List, false, SeatState, with_seat, with_pin, given_back, recorded_pinned, gets_recorded, waits_same, same_cache, put_back, put_home}
 use Rattle.group_log.proofs.copies.copy_home.Goals as goal
 
 pub get_at-requires-clause-pinned : goal.get_at-requires-clause-pinned

@@ -1,8 +1,4 @@
-use Rattle.std.proofs.Common.{◌≡◌, ◌∙◌, ap, sym, refl, ℕ, List}
-use Rattle.buffer_cache.specs.Seats.{SeatState, seat_of, with_holder, given_back}
-use Rattle.group_log.proofs.Seats.{seat_of_others}
-use Rattle.group_log.proofs.Getting.{recorded_pinned, gets_recorded, waits_same, same_cache, put_back, apart_from}
-use Rattle.group_log.proofs.Outcomes.{same_seats}
+use Rattle.group_log.proofs.Lemmas.{◌≡◌, ◌∙◌, ap, sym, refl, ℕ, List, SeatState, seat_of, with_holder, given_back, seat_of_others, recorded_pinned, gets_recorded, waits_same, same_cache, put_back, apart_from, same_seats}
 use Rattle.group_log.proofs.copies.copy_to_log.Goals as goal
 
 pub get_at-requires-clause-pinned : goal.get_at-requires-clause-pinned

@@ -1,7 +1,4 @@
-use Rattle.std.proofs.Common.{◌∙◌, ap, List, ℕ}
-use Rattle.fs_layout.specs.Bytes.{overwrite}
-use Rattle.fs_layout.specs.LogHead.{spell_log_head}
-use Rattle.group_log.specs.Phases.{head_block}
+use Rattle.group_log.proofs.Lemmas.{◌∙◌, ap, List, ℕ, overwrite, spell_log_head, head_block}
 use Rattle.group_log.proofs.copies.name_blocks.Goals as goal
 
 pub returns : goal.returns

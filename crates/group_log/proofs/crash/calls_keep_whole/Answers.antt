@@ -1,4 +1,4 @@
-use Rattle.group_log.proofs.Whole.{calls_keep_whole}
+use Rattle.group_log.proofs.Lemmas.{calls_keep_whole}
 use Rattle.group_log.proofs.crash.calls_keep_whole.Goals as goal
 
 pub returns : goal.returns

@@ -1,4 +1,4 @@
-use Rattle.group_log.proofs.Moving.{logs_are_logged_runs, logs_stop_at_a_cut}
+use Rattle.group_log.proofs.Lemmas.{logs_are_logged_runs, logs_stop_at_a_cut}
 use Rattle.group_log.proofs.crash.logs_stop_at_a_cut.Goals as goal
 
 pub returns-clause-runs : goal.returns-clause-runs

@@ -1,4 +1,4 @@
-use Rattle.group_log.proofs.Marked.{marks_tell_stops, cuts_have_replies, none_is_marked_in_part}
+use Rattle.group_log.proofs.Lemmas.{marks_tell_stops, cuts_have_replies, none_is_marked_in_part}
 use Rattle.group_log.proofs.crash.marks_tell_stops.Goals as goal
 
 pub returns-clause-stops : goal.returns-clause-stops

@@ -1,4 +1,4 @@
-use Rattle.group_log.proofs.Moving.{then_move}
+use Rattle.group_log.proofs.Lemmas.{then_move}
 use Rattle.group_log.proofs.crash.moves_compose.Goals as goal
 
 pub returns : goal.returns

@@ -1,4 +1,4 @@
-use Rattle.group_log.proofs.Cuts.{stops_at_a_cut}
+use Rattle.group_log.proofs.Lemmas.{stops_at_a_cut}
 use Rattle.group_log.proofs.crash.stops_at_a_cut.Goals as goal
 
 pub returns : goal.returns

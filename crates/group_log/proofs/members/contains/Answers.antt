@@ -1,9 +1,4 @@
-use Rattle.std.proofs.Common.{◌≡◌, ◌≢◌, ℕ, ◌<◌, Bool, true, false, List, length, Decides, MatchBool, refl, arith, rules, tests, ◌==◌}
-use Rattle.std.specs.List.{HoldsAt, AllWithin}
-use Rattle.std.proofs.lemmas.Iterator.{cases_from_any, YieldsList-from_slice}
-use Rattle.std.proofs.lemmas.Bool.{false≢true}
-use Rattle.std.proofs.lemmas.Bool.Decides.{same_from_decides, Decides-by_or, Decides-eqb}
-use Rattle.group_log.specs.Group.{has}
+use Rattle.group_log.proofs.Lemmas.{◌≡◌, ◌≢◌, ℕ, ◌<◌, Bool, true, false, List, length, Decides, MatchBool, refl, arith, rules, tests, ◌==◌, HoldsAt, AllWithin, cases_from_any, YieldsList-from_slice, false≢true, same_from_decides, Decides-by_or, Decides-eqb, has}
 use Rattle.group_log.proofs.members.contains.Goals as goal
 
 abbrev Has : ℕ → List ℕ → Type 0

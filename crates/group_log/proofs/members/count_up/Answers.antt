@@ -1,5 +1,4 @@
-use Rattle.std.proofs.Common.{arith}
-use Rattle.group_log.proofs.Rooms.{one_more_at, room_below, room_some}
+use Rattle.group_log.proofs.Lemmas.{arith, one_more_at, room_below, room_some}
 use Rattle.group_log.proofs.members.count_up.Goals as goal
 
 pub overflow_add-members : goal.overflow_add-members

@@ -1,6 +1,4 @@
-use Rattle.std.proofs.Common.{◌<◌, ℕ, rules, tests, arith, IsTrue, nat_lt}
-use Rattle.std.proofs.lemmas.Bool.Decides.{nat_tests}
-use Rattle.group_log.proofs.Rooms.{none_past, room_at, room_below, room_some}
+use Rattle.group_log.proofs.Lemmas.{◌<◌, ℕ, rules, tests, arith, IsTrue, nat_lt, nat_tests, none_past, room_at, room_below, room_some}
 use Rattle.group_log.proofs.members.has_room.Goals as goal
 
 below : (k : ℕ) → IsTrue (nat_lt k 10) → k < 10

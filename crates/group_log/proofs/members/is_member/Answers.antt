@@ -1,5 +1,4 @@
-use Rattle.std.proofs.Common.{refl, rules, tests}
-use Rattle.group_log.proofs.Rooms.{member_at, member_some, none_past}
+use Rattle.group_log.proofs.Lemmas.{refl, rules, tests, member_at, member_some, none_past}
 use Rattle.group_log.proofs.members.is_member.Goals as goal
 
 pub returns-then-members-hart : goal.returns-then-members-hart

@@ -1,13 +1,4 @@
-use Rattle.std.proofs.Common.{◌∙◌, sym, subst}
-use Rattle.atomic_programs.specs.Calls.{DidRun}
-use Rattle.atomic_programs.specs.Machines.{program_at}
-use Rattle.atomic_programs.specs.Plain.{hart_step}
-use Rattle.fs_machine.specs.LogPart.{Passes}
-use Rattle.fs_machine.specs.Steps.{state_of}
-use Rattle.syscalls.specs.Machines.{running_of}
-use Rattle.syscalls.specs.Places.{with_reply, StepsAt}
-use Rattle.hart_core.specs.Blocks.{blocks, code}
-use Rattle.hart_core.proofs.Stepping.{ran}
+use Rattle.hart_core.proofs.Lemmas.{◌∙◌, sym, subst, DidRun, program_at, hart_step, Passes, state_of, running_of, with_reply, StepsAt, blocks, code, ran}
 use Rattle.hart_core.proofs.in_place.step.Goals as goal
 
 pub returns-in-Ran-clause-makes : goal.returns-in-Ran-clause-makes

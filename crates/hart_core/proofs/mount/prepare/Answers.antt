@@ -1,4 +1,4 @@
-use Rattle.hart_core.proofs.Mounted.{settled_so, handed_back}
+use Rattle.hart_core.proofs.Lemmas.{settled_so, handed_back}
 use Rattle.hart_core.proofs.mount.prepare.Goals as goal
 
 pub returns-in-Err-clause-err : goal.returns-in-Err-clause-err

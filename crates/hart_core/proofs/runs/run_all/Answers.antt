@@ -1,16 +1,4 @@
-use Rattle.std.proofs.Common.{◌≡◌, ◌∷◌, [], ◌++◌, List, length, refl, sym, ap, subst, ◌∙◌, append_assoc, append-nil, arith, rules}
-use Rattle.std.specs.Vec.Iter.{into_iter_items}
-use Rattle.std.proofs.lemmas.Grind.{common_steps}
-use Rattle.fs_layout.specs.declared.superblock.Super.{Super}
-use Rattle.atomic_programs.specs.Calls.{with_answer}
-use Rattle.calls_on_blocks.specs.Marks.{marks_told}
-use Rattle.hart_core.specs.declared.events.Event.{Event}
-use Rattle.hart_core.specs.Events.{event_of, came_of, said_of}
-use Rattle.hart_core.specs.Harts.{shared_of}
-use Rattle.hart_core.specs.Stops.{HasMarks}
-use Rattle.hart_core.specs.Worlds.{Answers, Makes}
-use Rattle.hart_core.proofs.Histories.{one_each}
-use Rattle.hart_core.proofs.Stopping.{first_marks, next_marks}
+use Rattle.hart_core.proofs.Lemmas.{◌≡◌, ◌∷◌, [], ◌++◌, List, length, refl, sym, ap, subst, ◌∙◌, append_assoc, append-nil, arith, rules, into_iter_items, common_steps, Super, with_answer, marks_told, Event, event_of, came_of, said_of, shared_of, HasMarks, Answers, Makes, one_each, first_marks, next_marks}
 use Rattle.hart_core.proofs.runs.run_all.Goals as goal
 
 nothing_left : {X : Type 0} (l : List X) → length l ≡ 0 → l ≡ []

@@ -1,7 +1,4 @@
-use Rattle.std.proofs.Common.{◌≡◌, ◌≤◌, ◌+◌, ◌++◌, length, vec_len}
-use Rattle.std.specs.Vec.{vec_capacity}
-use Rattle.std.specs.Vec.Iter.{into_iter_items, into_iter_len}
-use Rattle.hart_core.specs.Stops.{HasMarks}
+use Rattle.hart_core.proofs.Lemmas.{◌≡◌, ◌≤◌, ◌+◌, ◌++◌, length, vec_len, vec_capacity, into_iter_items, into_iter_len, HasMarks}
 use Rattle.hart_core.proofs.runs.run_all.Given as goal
 
 abbrev pub invariant-loop-event : goal.invariant-loop-event

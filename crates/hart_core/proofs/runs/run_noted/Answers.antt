@@ -1,8 +1,4 @@
-use Rattle.std.proofs.Common.{List, Option, ℕ, subst, sym}
-use Rattle.hart_core.specs.declared.events.Event.{Event}
-use Rattle.hart_core.specs.Stops.{HasMarks, RunLeavesABeginning, last_of}
-use Rattle.hart_core.proofs.Histories.{explained}
-use Rattle.hart_core.proofs.Stopping.{leaves_a_beginning}
+use Rattle.hart_core.proofs.Lemmas.{List, Option, ℕ, subst, sym, Event, HasMarks, RunLeavesABeginning, last_of, explained, leaves_a_beginning}
 use Rattle.hart_core.proofs.runs.run_noted.Goals as goal
 
 pub returns-in-Ok-with_capacity-clause-history : goal.returns-in-Ok-with_capacity-clause-history

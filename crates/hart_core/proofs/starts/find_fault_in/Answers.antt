@@ -1,5 +1,4 @@
-use Rattle.std.proofs.Common.{arith}
-use Rattle.hart_core.proofs.Refusals.{bytes_below}
+use Rattle.hart_core.proofs.Lemmas.{arith, bytes_below}
 use Rattle.hart_core.proofs.starts.find_fault_in.Goals as goal
 
 pub returns-then-path-gt-LONGEST_PATH-clause-bytes : goal.returns-then-path-gt-LONGEST_PATH-clause-bytes

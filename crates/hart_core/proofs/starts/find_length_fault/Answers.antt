@@ -1,5 +1,4 @@
-use Rattle.std.proofs.Common.{arith}
-use Rattle.hart_core.proofs.Refusals.{bytes_below}
+use Rattle.hart_core.proofs.Lemmas.{arith, bytes_below}
 use Rattle.hart_core.proofs.starts.find_length_fault.Goals as goal
 
 pub returns-then-part-gt-LONGEST_PART-clause-bytes : goal.returns-then-part-gt-LONGEST_PART-clause-bytes

@@ -1,6 +1,4 @@
-use Rattle.std.proofs.Common.{◌∷◌, ◌++◌, [], refl, sym, ◌∙◌, ap, None, ◌≡◌, length, arith}
-use Rattle.hart_core.proofs.Unfinished.{one_more}
-use Rattle.hart_core.specs.Unfinished.{unfinished_from}
+use Rattle.hart_core.proofs.Lemmas.{◌∷◌, ◌++◌, [], refl, sym, ◌∙◌, ap, None, ◌≡◌, length, arith, one_more, unfinished_from}
 use Rattle.hart_core.proofs.traces.begin.Goals as goal
 
 pub returns-clause-unfinished : goal.returns-clause-unfinished

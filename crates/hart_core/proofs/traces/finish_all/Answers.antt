@@ -1,6 +1,4 @@
-use Rattle.std.proofs.Common.{sym, ◌∙◌, arith}
-use Rattle.plain_tree.specs.Explains.{ends_at}
-use Rattle.hart_core.proofs.Unfinished.{all_ended, all_left, ends_with, is_within, keeps_finished, meets, passes_with, starts}
+use Rattle.hart_core.proofs.Lemmas.{sym, ◌∙◌, arith, ends_at, all_ended, all_left, ends_with, is_within, keeps_finished, meets, passes_with, starts}
 use Rattle.hart_core.proofs.traces.finish_all.Goals as goal
 
 pub loop-kept-init : goal.loop-kept-init

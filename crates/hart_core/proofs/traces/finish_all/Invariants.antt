@@ -1,6 +1,4 @@
-use Rattle.std.proofs.Common.{◌-◌, length}
-use Rattle.plain_tree.specs.Explains.{ends_at}
-use Rattle.hart_core.proofs.Unfinished.{Ending, keeps_finished}
+use Rattle.hart_core.proofs.Lemmas.{◌-◌, length, ends_at, Ending, keeps_finished}
 use Rattle.hart_core.proofs.traces.finish_all.Given as goal
 
 abbrev pub invariant-loop-kept : goal.invariant-loop-kept

@@ -1,6 +1,4 @@
-use Rattle.std.proofs.Common.{sym, ◌∙◌, arith}
-use Rattle.hart_core.proofs.Histories.{trace_none, trace_next, trace_whole}
-use Rattle.hart_core.proofs.Unfinished.{no_calls}
+use Rattle.hart_core.proofs.Lemmas.{sym, ◌∙◌, arith, trace_none, trace_next, trace_whole, no_calls}
 use Rattle.hart_core.proofs.traces.trace.Goals as goal
 
 pub loop-place-init : goal.loop-place-init

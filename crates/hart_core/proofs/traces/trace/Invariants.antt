@@ -1,6 +1,4 @@
-use Rattle.std.proofs.Common.{◌≡◌, take}
-use Rattle.hart_core.specs.Runs.{trace_in}
-use Rattle.hart_core.specs.Unfinished.{AreUnfinished}
+use Rattle.hart_core.proofs.Lemmas.{◌≡◌, take, trace_in, AreUnfinished}
 use Rattle.hart_core.proofs.traces.trace.Given as goal
 
 abbrev pub invariant-loop-place : goal.invariant-loop-place

@@ -1,7 +1,4 @@
-use Rattle.std.proofs.Common.{◌∙◌, sym, refl}
-use Rattle.block_device.specs.Calls.{none}
-use Rattle.block_device.specs.CallLaws.{calls_after}
-use Rattle.image_tree.proofs.TreeOfLemmas.{front_blocks-none, front_blocks-more}
+use Rattle.image_tree.proofs.Lemmas.{◌∙◌, sym, refl, none, calls_after, front_blocks-none, front_blocks-more}
 use Rattle.image_tree.proofs.content.load_content.Goals as goal
 
 pub loop-k-init : goal.loop-k-init

@@ -1,6 +1,4 @@
-use Rattle.std.proofs.Common.{◌≡◌}
-use Rattle.block_device.specs.Calls.{ComesByCalls}
-use Rattle.image_tree.specs.Inodes.{front_blocks}
+use Rattle.image_tree.proofs.Lemmas.{◌≡◌, ComesByCalls, front_blocks}
 use Rattle.image_tree.proofs.content.load_content.Given as goal
 
 abbrev pub invariant-loop-k : goal.invariant-loop-k

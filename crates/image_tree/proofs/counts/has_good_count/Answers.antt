@@ -1,10 +1,4 @@
-use Rattle.std.proofs.Common.{◌∙◌, ◌<◌, sym, ℕ, List}
-use Rattle.fs_layout.specs.Recovered.{sizes_of}
-use Rattle.image_tree.specs.Lists.{gathered}
-use Rattle.image_tree.specs.Inodes.{last}
-use Rattle.image_tree.specs.Links.{named_in, further_in, parent_of, names_of, further_names_of, children_of}
-use Rattle.image_tree.proofs.Told.{held}
-use Rattle.image_tree.proofs.CountLemmas.{free_count, table_at, count_told}
+use Rattle.image_tree.proofs.Lemmas.{◌∙◌, ◌<◌, sym, ℕ, List, sizes_of, gathered, last, named_in, further_in, parent_of, names_of, further_names_of, children_of, held, free_count, table_at, count_told}
 use Rattle.image_tree.proofs.counts.has_good_count.Goals as goal
 
 pub returns-then-is_free-clause-good : goal.returns-then-is_free-clause-good

@@ -1,8 +1,4 @@
-use Rattle.std.proofs.Common.{◌∙◌, subst, ℕ, ◌<◌, List, arith}
-use Rattle.block_device.specs.CallLaws.{calls_after}
-use Rattle.image_tree.proofs.Told.{held}
-use Rattle.image_tree.proofs.Nodes.{node_is, one_more}
-use Rattle.image_tree.proofs.CountLemmas.{GoodCount}
+use Rattle.image_tree.proofs.Lemmas.{◌∙◌, subst, ℕ, ◌<◌, List, arith, calls_after, held, node_is, one_more, GoodCount}
 use Rattle.image_tree.proofs.counts.has_good_counts.Goals as goal
 
 pub loop-i-preserved : goal.loop-i-preserved

@@ -1,8 +1,4 @@
-use Rattle.std.proofs.Common.{◌≡◌, ℕ, ◌<◌, ◌≤◌, true}
-use Rattle.block_device.specs.Calls.{ComesByCalls}
-use Rattle.image_tree.specs.Inodes.{inode_of, is_node}
-use Rattle.image_tree.specs.Links.{names_of, further_names_of, children_of}
-use Rattle.image_tree.specs.Checks.{IsGoodCount}
+use Rattle.image_tree.proofs.Lemmas.{◌≡◌, ℕ, ◌<◌, ◌≤◌, true, ComesByCalls, inode_of, is_node, names_of, further_names_of, children_of, IsGoodCount}
 use Rattle.image_tree.proofs.counts.has_good_counts.Given as goal
 
 abbrev pub invariant-loop-i : goal.invariant-loop-i

@@ -1,4 +1,4 @@
-use Rattle.image_tree.proofs.Layouts.{place_within, recovered_at}
+use Rattle.image_tree.proofs.Lemmas.{place_within, recovered_at}
 use Rattle.image_tree.proofs.disk.load.Goals as goal
 
 pub read-requires : goal.read-requires

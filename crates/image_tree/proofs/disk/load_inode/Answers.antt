@@ -1,6 +1,4 @@
-use Rattle.std.proofs.Common.{◌∙◌, ap, sym, ◌%◌}
-use Rattle.fs_layout.specs.Inode.{dinode_at}
-use Rattle.image_tree.proofs.Layouts.{inode_at}
+use Rattle.image_tree.proofs.Lemmas.{◌∙◌, ap, sym, ◌%◌, dinode_at, inode_at}
 use Rattle.image_tree.proofs.disk.load_inode.Goals as goal
 
 pub returns-clause-inode : goal.returns-clause-inode

@@ -1,4 +1,4 @@
-use Rattle.std.proofs.Common.{◌≢◌, ℕ, ◌<◌, get_or, None}
+use Rattle.image_tree.proofs.Lemmas.{◌≢◌, ℕ, ◌<◌, get_or, None}
 use Rattle.image_tree.proofs.entries.are_entries.Given as goal
 
 abbrev pub invariant-loop-s : goal.invariant-loop-s

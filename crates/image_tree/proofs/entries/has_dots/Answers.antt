@@ -1,5 +1,4 @@
-use Rattle.image_tree.proofs.Told.{refuted}
-use Rattle.image_tree.proofs.EntryLemmas.{few_slots}
+use Rattle.image_tree.proofs.Lemmas.{refuted, few_slots}
 use Rattle.image_tree.proofs.entries.has_dots.Goals as goal
 
 pub returns-then-slots-lt2 : goal.returns-then-slots-lt2

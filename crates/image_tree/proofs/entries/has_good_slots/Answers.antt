@@ -1,10 +1,4 @@
-use Rattle.std.proofs.Common.{◌≡◌, ◌∙◌, subst, ℕ, ◌<◌, List, true, arith}
-use Rattle.block_device.specs.CallLaws.{calls_after}
-use Rattle.image_tree.proofs.Told.{held}
-use Rattle.image_tree.specs.Inodes.{is_node, is_live_directory}
-use Rattle.image_tree.specs.Links.{slots_in}
-use Rattle.image_tree.specs.Checks.{AreGoodSlots}
-use Rattle.image_tree.proofs.Nodes.{directory_is, one_more}
+use Rattle.image_tree.proofs.Lemmas.{◌≡◌, ◌∙◌, subst, ℕ, ◌<◌, List, true, arith, calls_after, held, is_node, is_live_directory, slots_in, AreGoodSlots, directory_is, one_more}
 use Rattle.image_tree.proofs.entries.has_good_slots.Goals as goal
 
 pub loop-i-preserved : goal.loop-i-preserved

@@ -1,8 +1,4 @@
-use Rattle.std.proofs.Common.{◌≡◌, ℕ, ◌<◌, ◌≤◌, true}
-use Rattle.block_device.specs.Calls.{ComesByCalls}
-use Rattle.image_tree.specs.Inodes.{is_node, is_live_directory}
-use Rattle.image_tree.specs.Links.{slots_in}
-use Rattle.image_tree.specs.Checks.{AreGoodSlots}
+use Rattle.image_tree.proofs.Lemmas.{◌≡◌, ℕ, ◌<◌, ◌≤◌, true, ComesByCalls, is_node, is_live_directory, slots_in, AreGoodSlots}
 use Rattle.image_tree.proofs.entries.has_good_slots.Given as goal
 
 abbrev pub invariant-loop-i : goal.invariant-loop-i

@@ -1,7 +1,4 @@
-use Rattle.std.proofs.Common.{◌∙◌, sym, ap, ℕ, List}
-use Rattle.image_tree.specs.Links.{slots_in}
-use Rattle.image_tree.proofs.Told.{held}
-use Rattle.image_tree.proofs.EntryLemmas.{no_directory, slots_told}
+use Rattle.image_tree.proofs.Lemmas.{◌∙◌, sym, ap, ℕ, List, slots_in, held, no_directory, slots_told}
 use Rattle.image_tree.proofs.entries.has_good_slots_at.Goals as goal
 
 pub returns-then-not-is_live_directory-clause-good : goal.returns-then-not-is_live_directory-clause-good

@@ -1,9 +1,4 @@
-use Rattle.std.proofs.Common.{◌≡◌, true, false, get_or, arith}
-use Rattle.std.proofs.lemmas.List.{take_all}
-use Rattle.std.proofs.lemmas.Bool.{iff_false}
-use Rattle.image_tree.specs.Links.{slot_number}
-use Rattle.image_tree.proofs.Told.{held, refuted}
-use Rattle.image_tree.proofs.SlotNumbers.{All-at}
+use Rattle.image_tree.proofs.Lemmas.{◌≡◌, true, false, get_or, arith, take_all, iff_false, slot_number, held, refuted, All-at}
 use Rattle.image_tree.proofs.entries.name_nodes.Goals as goal
 
 pub returns-then-not-names_node : goal.returns-then-not-names_node

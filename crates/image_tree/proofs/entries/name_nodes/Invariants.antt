@@ -1,6 +1,4 @@
-use Rattle.std.proofs.Common.{◌≡◌, take, get_or, true, false}
-use Rattle.std.specs.List.{All}
-use Rattle.image_tree.specs.Links.{slot_numbers}
+use Rattle.image_tree.proofs.Lemmas.{◌≡◌, take, get_or, true, false, All, slot_numbers}
 use Rattle.image_tree.proofs.entries.name_nodes.Given as goal
 
 abbrev pub invariant-loop-s : goal.invariant-loop-s

@@ -1,8 +1,4 @@
-use Rattle.std.proofs.Common.{◌≡◌, ◌≤◌, ◌↔◌, ◌∙◌, ℕ, Bool, true, false, List, [], ◌∷◌, length, get_or, nat_lt, sym, subst, arith, IsTrue}
-use Rattle.std.specs.List.{All}
-use Rattle.std.proofs.lemmas.List.{get_or_past}
-use Rattle.std.proofs.lemmas.Bool.{both_ways, false≢true, le-ltb}
-use Rattle.image_tree.specs.Links.{slot_number}
+use Rattle.image_tree.proofs.Lemmas.{◌≡◌, ◌≤◌, ◌↔◌, ◌∙◌, ℕ, Bool, true, false, List, [], ◌∷◌, length, get_or, nat_lt, sym, subst, arith, IsTrue, All, get_or_past, both_ways, false≢true, le-ltb, slot_number}
 use Rattle.image_tree.proofs.entries.names_node.Goals as goal
 
 -- a number past the table's end is no node's

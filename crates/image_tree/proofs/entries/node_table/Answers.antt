@@ -1,9 +1,4 @@
-use Rattle.std.proofs.Common.{◌∙◌, refl, ap, ℕ, List, arith, not}
-use Rattle.block_device.specs.Calls.{none}
-use Rattle.block_device.specs.CallLaws.{calls_after}
-use Rattle.image_tree.specs.Inodes.{inode_of}
-use Rattle.image_tree.proofs.Layouts.{in_order}
-use Rattle.image_tree.proofs.EntryLemmas.{flags-one, flags-more, node_table_is}
+use Rattle.image_tree.proofs.Lemmas.{◌∙◌, refl, ap, ℕ, List, arith, not, none, calls_after, inode_of, in_order, flags-one, flags-more, node_table_is}
 use Rattle.image_tree.proofs.entries.node_table.Goals as goal
 
 pub loop-i-init : goal.loop-i-init

@@ -1,6 +1,4 @@
-use Rattle.std.proofs.Common.{◌≡◌, ◌<◌, ℕ, length, get_or, false}
-use Rattle.block_device.specs.Calls.{ComesByCalls}
-use Rattle.image_tree.specs.Inodes.{is_node}
+use Rattle.image_tree.proofs.Lemmas.{◌≡◌, ◌<◌, ℕ, length, get_or, false, ComesByCalls, is_node}
 use Rattle.image_tree.proofs.entries.node_table.Given as goal
 
 abbrev pub invariant-loop-i : goal.invariant-loop-i

@@ -1,7 +1,4 @@
-use Rattle.std.proofs.Common.{◌≡◌, ◌∙◌, sym, subst, ℕ, List}
-use Rattle.std.proofs.lemmas.Bool.{iff_false}
-use Rattle.image_tree.specs.Checks.{IsOneTree, HasGoodCounts}
-use Rattle.image_tree.specs.Marks.{IsLinks}
+use Rattle.image_tree.proofs.Lemmas.{◌≡◌, ◌∙◌, sym, subst, ℕ, List, iff_false, IsOneTree, HasGoodCounts, IsLinks}
 use Rattle.image_tree.proofs.examination.examine_layout.Goals as goal
 
 pub returns-then-not-branch-2-clause-judges : goal.returns-then-not-branch-2-clause-judges

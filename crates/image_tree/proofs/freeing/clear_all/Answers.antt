@@ -1,4 +1,4 @@
-use Rattle.image_tree.proofs.Clearing.{cleared_first}
+use Rattle.image_tree.proofs.Lemmas.{cleared_first}
 use Rattle.image_tree.proofs.freeing.clear_all.Goals as goal
 
 pub loop-i-init : goal.loop-i-init

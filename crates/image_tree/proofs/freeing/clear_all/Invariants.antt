@@ -1,4 +1,4 @@
-use Rattle.image_tree.proofs.Clearing.{ClearedTo}
+use Rattle.image_tree.proofs.Lemmas.{ClearedTo}
 use Rattle.image_tree.proofs.freeing.clear_all.Given as goal
 
 abbrev pub invariant-loop-i : goal.invariant-loop-i

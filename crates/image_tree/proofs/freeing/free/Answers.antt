@@ -1,9 +1,4 @@
-use Rattle.std.proofs.Common.{◌∙◌, inl, inr, ◌+◌, ◌/◌, ℕ, List, subst}
-use Rattle.image_tree.specs.Views.{IsViewOf}
-use Rattle.image_tree.specs.Freeing.{IsFreed, IsPut}
-use Rattle.image_tree.proofs.Freed.{freed_nodes_leave_images}
-use Rattle.image_tree.proofs.Puts.{on_ok}
-use Rattle.image_tree.proofs.Reclaims.{freed_by}
+use Rattle.image_tree.proofs.Lemmas.{◌∙◌, inl, inr, ◌+◌, ◌/◌, ℕ, List, subst, IsViewOf, IsFreed, IsPut, freed_nodes_leave_images, on_ok, freed_by}
 use Rattle.image_tree.proofs.freeing.free.Goals as goal
 
 pub put_both-requires-clause-well : goal.put_both-requires-clause-well

@@ -1,6 +1,4 @@
-use Rattle.std.proofs.Common.{◌∙◌, subst, ◌<◌}
-use Rattle.fs_layout.specs.declared.superblock.Super.{Super}
-use Rattle.image_tree.proofs.Reclaims.{orphan_is}
+use Rattle.image_tree.proofs.Lemmas.{◌∙◌, subst, ◌<◌, Super, orphan_is}
 use Rattle.image_tree.proofs.freeing.is_nameless.Goals as goal
 
 pub returns-clause-is : goal.returns-clause-is

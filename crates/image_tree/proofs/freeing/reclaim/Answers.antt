@@ -1,7 +1,4 @@
-use Rattle.std.proofs.Common.{◌∙◌, ◌<◌, ◌≤◌, subst, arith}
-use Rattle.block_device.specs.CallLaws.{calls_after}
-use Rattle.fs_layout.specs.declared.superblock.Super.{Super}
-use Rattle.image_tree.proofs.Reclaims.{image_next, reclaimed_next, same_next, named_all, all_freed}
+use Rattle.image_tree.proofs.Lemmas.{◌∙◌, ◌<◌, ◌≤◌, subst, arith, calls_after, Super, image_next, reclaimed_next, same_next, named_all, all_freed}
 use Rattle.image_tree.proofs.freeing.reclaim.Goals as goal
 
 pub returns-in_err-reclaim_at-clause-same : goal.returns-in_err-reclaim_at-clause-same

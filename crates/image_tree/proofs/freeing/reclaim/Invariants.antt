@@ -1,7 +1,4 @@
-use Rattle.std.proofs.Common.{◌≡◌, []}
-use Rattle.block_device.specs.Calls.{ComesByCalls}
-use Rattle.fs_layout.specs.Recovered.{logged}
-use Rattle.image_tree.proofs.Reclaims.{IsImageOf, ReclaimedTo}
+use Rattle.image_tree.proofs.Lemmas.{◌≡◌, [], ComesByCalls, logged, IsImageOf, ReclaimedTo}
 use Rattle.image_tree.proofs.freeing.reclaim.Given as goal
 
 abbrev pub invariant-loop-i : goal.invariant-loop-i

@@ -1,4 +1,4 @@
-use Rattle.image_tree.proofs.Reclaims.{either_after}
+use Rattle.image_tree.proofs.Lemmas.{either_after}
 use Rattle.image_tree.proofs.freeing.reclaim_at.Goals as goal
 
 pub returns-clause-well : goal.returns-clause-well

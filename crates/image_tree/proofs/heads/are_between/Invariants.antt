@@ -1,4 +1,4 @@
-use Rattle.std.proofs.Common.{ℕ, ◌<◌, ◌≤◌, get_or}
+use Rattle.image_tree.proofs.Lemmas.{ℕ, ◌<◌, ◌≤◌, get_or}
 use Rattle.image_tree.proofs.heads.are_between.Given as goal
 
 abbrev pub invariant-loop-b : goal.invariant-loop-b

@@ -1,10 +1,5 @@
-use Rattle.std.proofs.Common.{◌≡◌, ◌∙◌, ◌≤◌, ◌<◌, sym, ap, ℕ, List, subst, arith, length, refl}
-use Rattle.std.proofs.lemmas.Bool.{iff_false, both_ways}
-use Rattle.block_device.specs.Blocks.{block_at}
-use Rattle.fs_layout.specs.Recovered.{sizes_of, log_count}
-use Rattle.image_tree.specs.Lists.{IsOnce}
-use Rattle.image_tree.proofs.SuperAndLog.{head_is, no_head}
-use Rattle.image_tree.proofs.Layouts.{length-logged}
+use Rattle.image_tree.proofs.Lemmas.{◌≡◌, ◌∙◌, ◌≤◌, ◌<◌, sym, ap, ℕ, List, subst, arith, length, refl, iff_false, both_ways, block_at, sizes_of, log_count, IsOnce, no_head, length-logged}
+use Rattle.image_tree.proofs.SuperAndLog.{head_is}
 use Rattle.image_tree.proofs.heads.find_log.Goals as goal
 
 pub returns-in_default-clause-judges : goal.returns-in_default-clause-judges

@@ -1,7 +1,4 @@
-use Rattle.std.proofs.Common.{◌∙◌, sym, ℕ, List, subst}
-use Rattle.std.proofs.lemmas.Bool.{iff_false}
-use Rattle.image_tree.specs.Checks.{IsGoodSuper}
-use Rattle.image_tree.proofs.SuperAndLog.{super_is}
+use Rattle.image_tree.proofs.Lemmas.{◌∙◌, sym, ℕ, List, subst, iff_false, IsGoodSuper, super_is}
 use Rattle.image_tree.proofs.heads.find_super.Goals as goal
 
 pub returns-then-not-is_good-clause-judges : goal.returns-then-not-is_good-clause-judges

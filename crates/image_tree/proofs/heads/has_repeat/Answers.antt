@@ -1,9 +1,4 @@
-use Rattle.std.proofs.Common.{◌≡◌, ◌<◌, length, sym, ◌∙◌, ℕ, subst, arith, take, get_or, Contains}
-use Rattle.std.proofs.lemmas.List.{get_or-take, take_more, length-take-le}
-use Rattle.std.proofs.lemmas.Bool.{eqb-true, eqb-false}
-use Rattle.image_tree.specs.Lists.{IsOnce}
-use Rattle.image_tree.proofs.Told.{caught}
-use Rattle.image_tree.proofs.MarkLemmas.{push_once}
+use Rattle.image_tree.proofs.Lemmas.{◌≡◌, ◌<◌, length, sym, ◌∙◌, ℕ, subst, arith, take, get_or, Contains, get_or-take, take_more, length-take-le, eqb-true, eqb-false, IsOnce, caught, push_once}
 use Rattle.image_tree.proofs.heads.has_repeat.Goals as goal
 
 pub returns-then-contains : goal.returns-then-contains

@@ -1,5 +1,4 @@
-use Rattle.std.proofs.Common.{take}
-use Rattle.image_tree.specs.Lists.{IsOnce}
+use Rattle.image_tree.proofs.Lemmas.{take, IsOnce}
 use Rattle.image_tree.proofs.heads.has_repeat.Given as goal
 
 abbrev pub invariant-loop-i : goal.invariant-loop-i

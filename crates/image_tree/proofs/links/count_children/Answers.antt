@@ -1,7 +1,4 @@
-use Rattle.std.proofs.Common.{◌≡◌, ℕ, ◌-◌, List, [], ◌∷◌, refl, filter, not, eqb, get_or, length, arith, subst}
-use Rattle.image_tree.specs.Lists.{gathered}
-use Rattle.image_tree.specs.Marks.{Tallies}
-use Rattle.image_tree.proofs.LinkLemmas.{tallies_more, tallies_none}
+use Rattle.image_tree.proofs.Lemmas.{◌≡◌, ℕ, ◌-◌, List, [], ◌∷◌, refl, filter, not, eqb, get_or, length, arith, subst, gathered, Tallies, tallies_more, tallies_none}
 use Rattle.image_tree.proofs.links.count_children.Goals as goal
 
 pub loop-d-init : goal.loop-d-init

@@ -1,6 +1,4 @@
-use Rattle.std.proofs.Common.{◌-◌, [], ◌∷◌, filter, not, eqb, get_or}
-use Rattle.image_tree.specs.Lists.{gathered}
-use Rattle.image_tree.specs.Marks.{Tallies}
+use Rattle.image_tree.proofs.Lemmas.{◌-◌, [], ◌∷◌, filter, not, eqb, get_or, gathered, Tallies}
 use Rattle.image_tree.proofs.links.count_children.Given as goal
 
 abbrev pub invariant-loop-d : goal.invariant-loop-d

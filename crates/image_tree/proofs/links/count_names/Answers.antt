@@ -1,9 +1,4 @@
-use Rattle.std.proofs.Common.{◌≡◌, ◌∙◌, ℕ, ◌-◌, ◌≤◌, List, refl}
-use Rattle.block_device.specs.Calls.{none}
-use Rattle.block_device.specs.CallLaws.{calls_after}
-use Rattle.image_tree.specs.Links.{named_in, further_in, proper_in}
-use Rattle.image_tree.specs.Lists.{gathered}
-use Rattle.image_tree.proofs.LinkLemmas.{tallies_more, tallies_none, named_loaded, further_loaded, proper_loaded}
+use Rattle.image_tree.proofs.Lemmas.{◌≡◌, ◌∙◌, ℕ, ◌-◌, ◌≤◌, List, refl, none, calls_after, named_in, further_in, proper_in, gathered, tallies_more, tallies_none, named_loaded, further_loaded, proper_loaded}
 use Rattle.image_tree.proofs.links.count_names.Goals as goal
 
 pub loop-i-init : goal.loop-i-init

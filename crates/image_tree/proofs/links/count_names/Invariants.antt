@@ -1,8 +1,4 @@
-use Rattle.std.proofs.Common.{◌≡◌, ◌-◌}
-use Rattle.block_device.specs.Calls.{ComesByCalls}
-use Rattle.image_tree.specs.Links.{named_in, further_in, proper_in}
-use Rattle.image_tree.specs.Lists.{gathered}
-use Rattle.image_tree.specs.Marks.{Tallies}
+use Rattle.image_tree.proofs.Lemmas.{◌≡◌, ◌-◌, ComesByCalls, named_in, further_in, proper_in, gathered, Tallies}
 use Rattle.image_tree.proofs.links.count_names.Given as goal
 
 abbrev pub invariant-loop-i : goal.invariant-loop-i

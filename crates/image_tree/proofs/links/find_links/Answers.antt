@@ -1,10 +1,4 @@
-use Rattle.std.proofs.Common.{◌≡◌, ◌∙◌, ℕ, List, ap}
-use Rattle.fs_layout.specs.declared.superblock.Super.{Super}
-use Rattle.fs_layout.specs.Recovered.{sizes_of}
-use Rattle.image_tree.specs.Lists.{gathered}
-use Rattle.image_tree.specs.Inodes.{last}
-use Rattle.image_tree.specs.Links.{named_in, further_in, proper_in, parent_of}
-use Rattle.image_tree.proofs.LinkLemmas.{children_are, table_kept, tallies_kept, length_kept}
+use Rattle.image_tree.proofs.Lemmas.{◌≡◌, ◌∙◌, ℕ, List, ap, Super, sizes_of, gathered, last, named_in, further_in, proper_in, parent_of, children_are, table_kept, tallies_kept, length_kept}
 use Rattle.image_tree.proofs.links.find_links.Goals as goal
 
 pub returns-clause-links : goal.returns-clause-links

@@ -1,9 +1,4 @@
-use Rattle.std.proofs.Common.{◌∙◌, refl, arith}
-use Rattle.std.proofs.lemmas.Grind.{common_steps}
-use Rattle.block_device.specs.Calls.{none}
-use Rattle.block_device.specs.CallLaws.{calls_after}
-use Rattle.image_tree.proofs.Layouts.{in_order}
-use Rattle.image_tree.proofs.LinkLemmas.{up-one, up_table_is}
+use Rattle.image_tree.proofs.Lemmas.{◌∙◌, refl, arith, common_steps, none, calls_after, in_order, up-one, up_table_is}
 use Rattle.image_tree.proofs.links.find_ups.Goals as goal
 
 pub loop-i-init : goal.loop-i-init

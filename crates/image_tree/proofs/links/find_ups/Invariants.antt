@@ -1,6 +1,4 @@
-use Rattle.std.proofs.Common.{◌≡◌, ◌<◌, ℕ, length, get_or}
-use Rattle.block_device.specs.Calls.{ComesByCalls}
-use Rattle.image_tree.specs.Links.{up}
+use Rattle.image_tree.proofs.Lemmas.{◌≡◌, ◌<◌, ℕ, length, get_or, ComesByCalls, up}
 use Rattle.image_tree.proofs.links.find_ups.Given as goal
 
 abbrev pub invariant-loop-i : goal.invariant-loop-i

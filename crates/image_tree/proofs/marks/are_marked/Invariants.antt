@@ -1,5 +1,4 @@
-use Rattle.std.proofs.Common.{◌≡◌, ◌≢◌, ℕ, ◌<◌, true, get_or}
-use Rattle.fs_layout.specs.Bits.{bit_of}
+use Rattle.image_tree.proofs.Lemmas.{◌≡◌, ◌≢◌, ℕ, ◌<◌, true, get_or, bit_of}
 use Rattle.image_tree.proofs.marks.are_marked.Given as goal
 
 abbrev pub invariant-loop-i : goal.invariant-loop-i

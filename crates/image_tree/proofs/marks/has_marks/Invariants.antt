@@ -1,8 +1,4 @@
-use Rattle.std.proofs.Common.{◌≡◌, ◌≢◌, ℕ, ◌<◌, ◌≤◌, true}
-use Rattle.std.specs.List.{All}
-use Rattle.block_device.specs.Calls.{ComesByCalls}
-use Rattle.image_tree.specs.Inodes.{numbers_by}
-use Rattle.image_tree.specs.Checks.{is_marked}
+use Rattle.image_tree.proofs.Lemmas.{◌≡◌, ◌≢◌, ℕ, ◌<◌, ◌≤◌, true, All, ComesByCalls, numbers_by, is_marked}
 use Rattle.image_tree.proofs.marks.has_marks.Given as goal
 
 abbrev pub invariant-loop-i : goal.invariant-loop-i

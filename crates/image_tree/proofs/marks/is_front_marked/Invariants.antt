@@ -1,5 +1,4 @@
-use Rattle.std.proofs.Common.{◌≡◌, ℕ, ◌<◌, true}
-use Rattle.fs_layout.specs.Bits.{bit_of}
+use Rattle.image_tree.proofs.Lemmas.{◌≡◌, ℕ, ◌<◌, true, bit_of}
 use Rattle.image_tree.proofs.marks.is_front_marked.Given as goal
 
 abbrev pub invariant-loop-b : goal.invariant-loop-b

@@ -1,5 +1,4 @@
-use Rattle.std.proofs.lemmas.List.Sorted.{IsNonDecreasingBy-from_sort}
-use Rattle.image_tree.proofs.NameLemmas.{distinct_told}
+use Rattle.image_tree.proofs.Lemmas.{IsNonDecreasingBy-from_sort, distinct_told}
 use Rattle.image_tree.proofs.names.are_distinct.Goals as goal
 
 pub returns : goal.returns

@@ -1,4 +1,4 @@
-use Rattle.std.proofs.Common.{ℕ, ◌+◌, ◌<◌, get_or}
+use Rattle.image_tree.proofs.Lemmas.{ℕ, ◌+◌, ◌<◌, get_or}
 use Rattle.image_tree.proofs.names.are_increasing.Given as goal
 
 abbrev pub invariant-loop-k : goal.invariant-loop-k

@@ -1,5 +1,4 @@
-use Rattle.image_tree.specs.Links.{slot_names}
-use Rattle.image_tree.proofs.NameLemmas.{names_told}
+use Rattle.image_tree.proofs.Lemmas.{slot_names, names_told}
 use Rattle.image_tree.proofs.names.are_names_once.Goals as goal
 
 pub returns : goal.returns

@@ -1,9 +1,4 @@
-use Rattle.std.proofs.Common.{◌≡◌, ◌∙◌, ap, sym, subst, ℕ, ◌+◌, ◌-◌, ◌^◌, ◌<◌, List, length, drop, arith, length-drop}
-use Rattle.std.specs.List.{All}
-use Rattle.std.proofs.lemmas.List.{get_or_default}
-use Rattle.std.proofs.lemmas.List.Elements.{All-drop}
-use Rattle.image_tree.specs.Names.{name_key}
-use Rattle.image_tree.proofs.NameLemmas.{key_none, key_step, key_room}
+use Rattle.image_tree.proofs.Lemmas.{◌≡◌, ◌∙◌, ap, sym, subst, ℕ, ◌+◌, ◌-◌, ◌^◌, ◌<◌, List, length, drop, arith, length-drop, All, get_or_default, All-drop, name_key, key_none, key_step, key_room}
 use Rattle.image_tree.proofs.names.key_of.Goals as goal
 
 pub loop-k-init : goal.loop-k-init

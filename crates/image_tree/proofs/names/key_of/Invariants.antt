@@ -1,5 +1,4 @@
-use Rattle.std.proofs.Common.{◌≡◌, ◌-◌, length, drop}
-use Rattle.image_tree.specs.Names.{name_key}
+use Rattle.image_tree.proofs.Lemmas.{◌≡◌, ◌-◌, length, drop, name_key}
 use Rattle.image_tree.proofs.names.key_of.Given as goal
 
 abbrev pub invariant-loop-k : goal.invariant-loop-k

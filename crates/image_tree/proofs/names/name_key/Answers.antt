@@ -1,4 +1,4 @@
-use Rattle.image_tree.proofs.NameLemmas.{keyed_name}
+use Rattle.image_tree.proofs.Lemmas.{keyed_name}
 use Rattle.image_tree.proofs.names.name_key.Goals as goal
 
 pub returns-clause-keyed : goal.returns-clause-keyed

@@ -1,7 +1,4 @@
-use Rattle.std.proofs.Common.{◌≡◌, take, map}
-use Rattle.std.specs.List.{All}
-use Rattle.image_tree.specs.Links.{slot_names}
-use Rattle.image_tree.specs.Names.{name_key, IsKeyed}
+use Rattle.image_tree.proofs.Lemmas.{◌≡◌, take, map, All, slot_names, name_key, IsKeyed}
 use Rattle.image_tree.proofs.names.name_keys.Given as goal
 
 abbrev pub invariant-loop-s : goal.invariant-loop-s

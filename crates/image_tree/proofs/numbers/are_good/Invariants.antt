@@ -1,5 +1,4 @@
-use Rattle.std.proofs.Common.{◌≢◌, ℕ, ◌<◌, get_or}
-use Rattle.image_tree.specs.Checks.{IsData}
+use Rattle.image_tree.proofs.Lemmas.{◌≢◌, ℕ, ◌<◌, get_or, IsData}
 use Rattle.image_tree.proofs.numbers.are_good.Given as goal
 
 abbrev pub invariant-loop-i : goal.invariant-loop-i

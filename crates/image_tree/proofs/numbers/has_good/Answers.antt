@@ -1,10 +1,4 @@
-use Rattle.std.proofs.Common.{◌≢◌, sym, subst, ℕ, List, ◌∙◌}
-use Rattle.std.specs.List.{All}
-use Rattle.image_tree.specs.Checks.{IsData}
-use Rattle.fs_layout.specs.Recovered.{sizes_of}
-use Rattle.std.proofs.lemmas.Bool.{iff_false}
-use Rattle.image_tree.proofs.Told.{held, refuted}
-use Rattle.image_tree.proofs.NumberLists.{numbers_by_free, numbers_by_used, All-addrs, All-nil}
+use Rattle.image_tree.proofs.Lemmas.{◌≢◌, sym, subst, ℕ, List, ◌∙◌, All, IsData, sizes_of, iff_false, held, refuted, numbers_by_free, numbers_by_used, All-addrs, All-nil}
 use Rattle.image_tree.proofs.numbers.has_good.Goals as goal
 
 pub returns-then-is_free-clause-good : goal.returns-then-is_free-clause-good

@@ -1,9 +1,4 @@
-use Rattle.std.proofs.Common.{◌≡◌, ◌≢◌, ℕ, ◌<◌, ◌≤◌}
-use Rattle.std.specs.List.{All}
-use Rattle.block_device.specs.Calls.{ComesByCalls}
-use Rattle.image_tree.specs.Checks.{IsData}
-use Rattle.image_tree.specs.Inodes.{numbers_by}
-use Rattle.fs_layout.specs.Recovered.{sizes_of}
+use Rattle.image_tree.proofs.Lemmas.{◌≡◌, ◌≢◌, ℕ, ◌<◌, ◌≤◌, All, ComesByCalls, IsData, numbers_by, sizes_of}
 use Rattle.image_tree.proofs.numbers.has_good_numbers.Given as goal
 
 abbrev pub invariant-loop-i : goal.invariant-loop-i

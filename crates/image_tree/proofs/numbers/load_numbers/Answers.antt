@@ -1,5 +1,4 @@
-use Rattle.std.proofs.Common.{refl}
-use Rattle.image_tree.proofs.NumberLists.{numbers_with, numbers_without}
+use Rattle.image_tree.proofs.Lemmas.{refl, numbers_with, numbers_without}
 use Rattle.image_tree.proofs.numbers.load_numbers.Goals as goal
 
 pub returns-then-indirect-eq0-clause-numbers : goal.returns-then-indirect-eq0-clause-numbers

@@ -1,10 +1,4 @@
-use Rattle.std.proofs.Common.{◌≢◌, ◌∙◌, sym, subst, ℕ, arith, List}
-use Rattle.std.specs.List.{All}
-use Rattle.image_tree.specs.Checks.{IsData}
-use Rattle.fs_layout.specs.Recovered.{sizes_of}
-use Rattle.image_tree.specs.Inodes.{numbers_by, numbers_of}
-use Rattle.image_tree.proofs.NumberLists.{numbers_by_free, numbers_by_used, twelfth_within, small_numbers, All-addrs}
-use Rattle.image_tree.proofs.Layouts.{in_order}
+use Rattle.image_tree.proofs.Lemmas.{◌≢◌, ◌∙◌, sym, subst, ℕ, arith, List, All, IsData, sizes_of, numbers_by, numbers_of, numbers_by_free, numbers_by_used, twelfth_within, small_numbers, All-addrs, in_order}
 use Rattle.image_tree.proofs.numbers.numbers_at.Goals as goal
 
 pub returns-then-is_free-clause-numbers : goal.returns-then-is_free-clause-numbers

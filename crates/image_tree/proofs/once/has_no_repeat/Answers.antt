@@ -1,16 +1,4 @@
-use Rattle.std.proofs.Common.{◌≡◌, ◌∙◌, sym, refl, subst, ℕ, List, ◌+◌, ◌-◌, arith}
-use Rattle.std.proofs.lemmas.Bool.{iff_false}
-use Rattle.block_device.specs.Calls.{none}
-use Rattle.block_device.specs.CallLaws.{calls_after}
-use Rattle.image_tree.specs.Lists.{gathered}
-use Rattle.image_tree.specs.Inodes.{named_by}
-use Rattle.fs_layout.specs.Recovered.{sizes_of}
-use Rattle.image_tree.specs.Marks.{Marks}
-use Rattle.image_tree.specs.Lists.{IsOnce}
-use Rattle.image_tree.proofs.Told.{held, refuted}
-use Rattle.image_tree.proofs.MarkLemmas.{once_nil}
-use Rattle.image_tree.proofs.Gathered.{marked, twice_gathered, gathered-none}
-use Rattle.image_tree.proofs.Layouts.{in_order}
+use Rattle.image_tree.proofs.Lemmas.{◌≡◌, ◌∙◌, sym, refl, subst, ℕ, List, ◌+◌, ◌-◌, arith, iff_false, none, calls_after, gathered, named_by, sizes_of, Marks, IsOnce, held, refuted, once_nil, marked, twice_gathered, gathered-none, in_order}
 use Rattle.image_tree.proofs.once.has_no_repeat.Goals as goal
 
 pub loop-i-init : goal.loop-i-init

@@ -1,9 +1,4 @@
-use Rattle.std.proofs.Common.{◌≡◌, ◌-◌}
-use Rattle.block_device.specs.Calls.{ComesByCalls}
-use Rattle.image_tree.specs.Lists.{gathered}
-use Rattle.image_tree.specs.Inodes.{named_by}
-use Rattle.image_tree.specs.Marks.{Marks}
-use Rattle.image_tree.specs.Lists.{IsOnce}
+use Rattle.image_tree.proofs.Lemmas.{◌≡◌, ◌-◌, ComesByCalls, gathered, named_by, Marks, IsOnce}
 use Rattle.image_tree.proofs.once.has_no_repeat.Given as goal
 
 abbrev pub invariant-loop-i : goal.invariant-loop-i

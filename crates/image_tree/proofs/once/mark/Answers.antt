@@ -1,8 +1,4 @@
-use Rattle.std.proofs.Common.{sym, subst}
-use Rattle.image_tree.specs.Marks.{Marks}
-use Rattle.image_tree.specs.Lists.{IsOnce}
-use Rattle.image_tree.proofs.Told.{held, refuted}
-use Rattle.image_tree.proofs.MarkLemmas.{kept_zero, kept_other, marks_push, push_once, push_twice, false_mark, true_mark}
+use Rattle.image_tree.proofs.Lemmas.{sym, subst, Marks, IsOnce, held, refuted, kept_zero, kept_other, marks_push, push_once, push_twice, false_mark, true_mark}
 use Rattle.image_tree.proofs.once.mark.Goals as goal
 
 pub returns-then-b-eq0 : goal.returns-then-b-eq0

@@ -1,11 +1,4 @@
-use Rattle.std.proofs.Common.{◌++◌, sym, subst, filter, take, ◌+◌, arith}
-use Rattle.std.proofs.lemmas.List.{take_all, append-nil}
-use Rattle.std.proofs.lemmas.Bool.{iff_false}
-use Rattle.image_tree.specs.Inodes.{is_block}
-use Rattle.image_tree.specs.Marks.{Marks}
-use Rattle.image_tree.specs.Lists.{IsOnce}
-use Rattle.image_tree.proofs.Told.{held, refuted}
-use Rattle.image_tree.proofs.MarkLemmas.{kept_more, twice_front}
+use Rattle.image_tree.proofs.Lemmas.{◌++◌, sym, subst, filter, take, ◌+◌, arith, take_all, append-nil, iff_false, is_block, Marks, IsOnce, held, refuted, kept_more, twice_front}
 use Rattle.image_tree.proofs.once.mark_all.Goals as goal
 
 pub loop-i-init : goal.loop-i-init

@@ -1,7 +1,4 @@
-use Rattle.std.proofs.Common.{ℕ, ◌++◌, List, filter, take}
-use Rattle.image_tree.specs.Inodes.{is_block}
-use Rattle.image_tree.specs.Marks.{Marks}
-use Rattle.image_tree.specs.Lists.{IsOnce}
+use Rattle.image_tree.proofs.Lemmas.{ℕ, ◌++◌, List, filter, take, is_block, Marks, IsOnce}
 use Rattle.image_tree.proofs.once.mark_all.Given as goal
 
 abbrev pub invariant-loop-i : goal.invariant-loop-i

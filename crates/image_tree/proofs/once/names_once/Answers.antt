@@ -1,6 +1,4 @@
-use Rattle.std.proofs.Common.{List, [], subst, sym, ◌∙◌, Bool}
-use Rattle.image_tree.specs.Marks.{Marks}
-use Rattle.image_tree.proofs.MarkLemmas.{marks_none}
+use Rattle.image_tree.proofs.Lemmas.{List, [], subst, sym, ◌∙◌, Bool, Marks, marks_none}
 use Rattle.image_tree.proofs.once.names_once.Goals as goal
 
 pub has_no_repeat-requires : goal.has_no_repeat-requires

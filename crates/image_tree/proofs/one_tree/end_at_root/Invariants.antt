@@ -1,4 +1,4 @@
-use Rattle.std.proofs.Common.{◌≡◌, ◌≢◌, ℕ, ◌<◌, get_or}
+use Rattle.image_tree.proofs.Lemmas.{◌≡◌, ◌≢◌, ℕ, ◌<◌, get_or}
 use Rattle.image_tree.proofs.one_tree.end_at_root.Given as goal
 
 abbrev pub invariant-loop-i : goal.invariant-loop-i

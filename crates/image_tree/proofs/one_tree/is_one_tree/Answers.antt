@@ -1,7 +1,4 @@
-use Rattle.std.proofs.Common.{◌∙◌, ℕ, List, ap, arith, get_or}
-use Rattle.std.proofs.lemmas.Bool.{iff_false}
-use Rattle.image_tree.proofs.Told.{refuted}
-use Rattle.image_tree.proofs.TreeLemmas.{tables_of, unnamed_no_tree, tree_told, up_zero}
+use Rattle.image_tree.proofs.Lemmas.{◌∙◌, ℕ, List, ap, arith, get_or, iff_false, refuted, tables_of, unnamed_no_tree, tree_told, up_zero}
 use Rattle.image_tree.proofs.one_tree.is_one_tree.Goals as goal
 
 pub returns-then-not-are_named : goal.returns-then-not-are_named

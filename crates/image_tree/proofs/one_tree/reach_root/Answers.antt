@@ -1,5 +1,4 @@
-use Rattle.std.proofs.Common.{◌≡◌, ◌∙◌, ℕ, ◌^◌, ap, arith, length, subst}
-use Rattle.image_tree.proofs.Climbs.{IsJumpTable, jumps_first, jumps_more, reach_told}
+use Rattle.image_tree.proofs.Lemmas.{◌≡◌, ◌∙◌, ℕ, ◌^◌, ap, arith, length, subst, IsJumpTable, jumps_first, jumps_more, reach_told}
 use Rattle.image_tree.proofs.one_tree.reach_root.Goals as goal
 
 pub loop-doubling-init : goal.loop-doubling-init

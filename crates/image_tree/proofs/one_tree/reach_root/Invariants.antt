@@ -1,5 +1,4 @@
-use Rattle.std.proofs.Common.{◌^◌}
-use Rattle.image_tree.proofs.Climbs.{IsJumpTable}
+use Rattle.image_tree.proofs.Lemmas.{◌^◌, IsJumpTable}
 use Rattle.image_tree.proofs.one_tree.reach_root.Given as goal
 
 abbrev pub invariant-loop-doubling : goal.invariant-loop-doubling

@@ -1,9 +1,4 @@
-use Rattle.std.proofs.Common.{◌≡◌, ◌⊎◌, ◌+◌, ◌<◌, ◌≤◌, ℕ, List, [], set, subst}
-use Rattle.fs_layout.specs.declared.superblock.Super.{Super}
-use Rattle.fs_layout.specs.Recovered.{sizes_of, logged}
-use Rattle.image_tree.specs.Damage.{UpToLog}
-use Rattle.image_tree.specs.Views.{IsViewOf}
-use Rattle.image_tree.proofs.Puts.{copied, either_way}
+use Rattle.image_tree.proofs.Lemmas.{◌≡◌, ◌⊎◌, ◌+◌, ◌<◌, ◌≤◌, ℕ, List, [], set, subst, Super, sizes_of, logged, UpToLog, IsViewOf, copied, either_way}
 use Rattle.image_tree.proofs.putting.log_copy.Goals as goal
 
 by : (d e : List (List ℕ)) (s : Super) (c : ℕ) (v : List ℕ) → UpToLog d → logged d ≡ [] → s ≡ sizes_of d → s.logstart < c → c ≤ s.logstart + 2

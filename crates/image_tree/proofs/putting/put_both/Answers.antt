@@ -1,5 +1,4 @@
-use Rattle.std.proofs.Common.{inr}
-use Rattle.image_tree.proofs.Puts.{through, named}
+use Rattle.image_tree.proofs.Lemmas.{inr, through, named}
 use Rattle.image_tree.proofs.putting.put_both.Goals as goal
 
 pub install-requires : goal.install-requires

@@ -1,7 +1,4 @@
-use Rattle.std.proofs.Common.{◌≡◌, inl, inr, ◌+◌, set, replicate}
-use Rattle.block_device.specs.Blocks.{block_at}
-use Rattle.image_tree.specs.Freeing.{IsPut}
-use Rattle.image_tree.proofs.Puts.{head_is, either_way, on_ok}
+use Rattle.image_tree.proofs.Lemmas.{◌≡◌, inl, inr, ◌+◌, set, replicate, block_at, IsPut, head_is, either_way, on_ok}
 use Rattle.image_tree.proofs.putting.write_head.Goals as goal
 
 pub returns-clause-either : goal.returns-clause-either

@@ -1,4 +1,4 @@
-use Rattle.image_tree.proofs.Views.{checks_see_recovered, trees_see_recovered}
+use Rattle.image_tree.proofs.Lemmas.{checks_see_recovered, trees_see_recovered}
 use Rattle.image_tree.proofs.recovery.images_are_seen_recovered.Goals as goal
 
 pub returns-clause-checks : goal.returns-clause-checks

@@ -1,14 +1,4 @@
-use Rattle.std.proofs.Common.{◌≡◌, ◌⊎◌, ◌∙◌, inr, ap, sym, subst, refl, ℕ, List, [], ◌∷◌, ◌+◌, ◌<◌, ◌≤◌, length, get_or, set, replicate, arith, Result, Ok, Err, OnOk, OnErr}
-use Rattle.std.proofs.lemmas.Bool.{eqb-true}
-use Rattle.block_device.specs.CallLaws.{no_call, calls_after}
-use Rattle.fs_layout.specs.declared.superblock.Super.{Super}
-use Rattle.block_device.specs.Blocks.{block_at}
-use Rattle.fs_layout.specs.Recovered.{logged, recovered, sizes_of, IsOutsideLog}
-use Rattle.fs_layout.proofs.RecoveredDisk.{recovered-empty}
-use Rattle.image_tree.specs.declared.disk.Layout.{Layout}
-use Rattle.image_tree.specs.Layout.{IsLayout}
-use Rattle.image_tree.proofs.Installs.{Installed, ready_of, installed_first, installed_next, stopped_copy, stopped_clear, cleared}
-use Rattle.image_tree.proofs.Goods.{copy_good, clear_good}
+use Rattle.image_tree.proofs.Lemmas.{◌≡◌, ◌⊎◌, ◌∙◌, inr, ap, sym, subst, refl, ℕ, List, [], ◌∷◌, ◌+◌, ◌<◌, ◌≤◌, length, get_or, set, replicate, arith, Result, Ok, Err, OnOk, OnErr, eqb-true, no_call, calls_after, Super, block_at, logged, recovered, sizes_of, IsOutsideLog, recovered-empty, Layout, IsLayout, Installed, ready_of, installed_first, installed_next, stopped_copy, stopped_clear, cleared, copy_good, clear_good}
 use Rattle.image_tree.proofs.recovery.install.Goals as goal
 
 nothing_logged : (d : List (List ℕ)) (layout : Layout) → IsLayout d layout → length layout.head.blocks.items ≡ 0 → logged d ≡ []

@@ -1,9 +1,4 @@
-use Rattle.std.proofs.Common.{◌≡◌}
-use Rattle.fs_layout.specs.Recovered.{recovered}
-use Rattle.std.proofs.Common.{length}
-use Rattle.block_device.specs.Calls.{ComesByCalls}
-use Rattle.image_tree.proofs.Installs.{Installed}
-use Rattle.image_tree.specs.Damage.{UpToLog}
+use Rattle.image_tree.proofs.Lemmas.{◌≡◌, recovered, length, ComesByCalls, Installed, UpToLog}
 use Rattle.image_tree.proofs.recovery.install.Given as goal
 
 abbrev pub invariant-loop-i : goal.invariant-loop-i

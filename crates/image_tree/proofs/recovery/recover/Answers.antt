@@ -1,6 +1,4 @@
-use Rattle.std.proofs.Common.{◌≡◌, subst, ℕ, List}
-use Rattle.image_tree.specs.Views.{IsViewOf}
-use Rattle.image_tree.proofs.Views.{checks_see_recovered, trees_see_recovered}
+use Rattle.image_tree.proofs.Lemmas.{◌≡◌, subst, ℕ, List, IsViewOf, checks_see_recovered, trees_see_recovered}
 use Rattle.image_tree.proofs.recovery.recover.Goals as goal
 
 from_same : (first old new : List (List ℕ)) → old ≡ first → IsViewOf old new → IsViewOf first new

@@ -1,13 +1,4 @@
-use Rattle.std.proofs.Common.{◌≡◌, ◌≢◌, ◌∙◌, ℕ, true, false, List, ap}
-use Rattle.std.specs.List.{All}
-use Rattle.block_device.specs.Blocks.{block_at}
-use Rattle.fs_layout.specs.Recovered.{recovered, sizes_of, IsOutsideLog}
-use Rattle.image_tree.specs.Checks.{is_marked}
-use Rattle.image_tree.specs.Inodes.{numbers_by}
-use Rattle.image_tree.specs.Shape.{is_orphan}
-use Rattle.image_tree.proofs.Views.{trees_see_recovered}
-use Rattle.image_tree.proofs.Puts.{on_ok, on_ok_any}
-use Rattle.image_tree.proofs.Reclaims.{freed_seen, named_seen, well_seen}
+use Rattle.image_tree.proofs.Lemmas.{◌≡◌, ◌≢◌, ◌∙◌, ℕ, true, false, List, ap, All, block_at, recovered, sizes_of, IsOutsideLog, is_marked, numbers_by, is_orphan, trees_see_recovered, on_ok, on_ok_any, freed_seen, named_seen, well_seen}
 use Rattle.image_tree.proofs.settling.settle.Goals as goal
 
 pub returns-in_err-install-clause-well : goal.returns-in_err-install-clause-well

@@ -1,5 +1,4 @@
-use Rattle.std.proofs.Common.{◌≡◌, ◌≤◌, length, filter, take}
-use Rattle.image_tree.specs.Inodes.{is_block}
+use Rattle.image_tree.proofs.Lemmas.{◌≡◌, ◌≤◌, length, filter, take, is_block}
 use Rattle.image_tree.proofs.shape.count_blocks.Given as goal
 
 abbrev pub invariant-loop-i : goal.invariant-loop-i

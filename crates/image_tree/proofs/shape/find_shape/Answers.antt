@@ -1,8 +1,4 @@
-use Rattle.std.proofs.Common.{◌∙◌, ℕ, List, refl, ap, rules}
-use Rattle.block_device.specs.Calls.{none}
-use Rattle.block_device.specs.CallLaws.{calls_after}
-use Rattle.image_tree.specs.Inodes.{inode_of}
-use Rattle.image_tree.proofs.ShapeLemmas.{shape_none, shape_more}
+use Rattle.image_tree.proofs.Lemmas.{◌∙◌, ℕ, List, refl, ap, rules, none, calls_after, inode_of, shape_none, shape_more}
 use Rattle.image_tree.proofs.shape.find_shape.Goals as goal
 
 pub loop-i-init : goal.loop-i-init

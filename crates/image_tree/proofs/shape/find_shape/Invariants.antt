@@ -1,6 +1,4 @@
-use Rattle.std.proofs.Common.{◌≡◌, ◌-◌}
-use Rattle.block_device.specs.Calls.{ComesByCalls}
-use Rattle.image_tree.proofs.ShapeLemmas.{ShapeUpto}
+use Rattle.image_tree.proofs.Lemmas.{◌≡◌, ◌-◌, ComesByCalls, ShapeUpto}
 use Rattle.image_tree.proofs.shape.find_shape.Given as goal
 
 abbrev pub invariant-loop-i : goal.invariant-loop-i

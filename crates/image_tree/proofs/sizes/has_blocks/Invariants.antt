@@ -1,5 +1,4 @@
-use Rattle.std.proofs.Common.{◌≢◌, ℕ, ◌<◌}
-use Rattle.image_tree.specs.Inodes.{block_number}
+use Rattle.image_tree.proofs.Lemmas.{◌≢◌, ℕ, ◌<◌, block_number}
 use Rattle.image_tree.proofs.sizes.has_blocks.Given as goal
 
 abbrev pub invariant-loop-k : goal.invariant-loop-k

@@ -1,9 +1,4 @@
-use Rattle.std.proofs.Common.{◌∙◌, ap, sym, ℕ, List, arith}
-use Rattle.image_tree.specs.Inodes.{numbers_of}
-use Rattle.std.proofs.lemmas.Bool.{iff_false}
-use Rattle.image_tree.proofs.Told.{held, refuted}
-use Rattle.image_tree.proofs.Nodes.{twelfth_of_node}
-use Rattle.image_tree.proofs.SizeLemmas.{free_no_size, unfit_no_size, size_told}
+use Rattle.image_tree.proofs.Lemmas.{◌∙◌, ap, sym, ℕ, List, arith, numbers_of, iff_false, held, refuted, twelfth_of_node, free_no_size, unfit_no_size, size_told}
 use Rattle.image_tree.proofs.sizes.has_good_size.Goals as goal
 
 pub returns-then-is_free-clause-good : goal.returns-then-is_free-clause-good

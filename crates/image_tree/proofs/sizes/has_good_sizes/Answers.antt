@@ -1,6 +1,4 @@
-use Rattle.std.proofs.Common.{◌<◌, arith}
-use Rattle.image_tree.proofs.Told.{held}
-use Rattle.image_tree.proofs.Nodes.{node_is}
+use Rattle.image_tree.proofs.Lemmas.{◌<◌, arith, held, node_is}
 use Rattle.image_tree.proofs.sizes.has_good_sizes.Goals as goal
 
 pub returns-clause-good : goal.returns-clause-good

@@ -1,7 +1,4 @@
-use Rattle.std.proofs.Common.{◌≡◌, ℕ, ◌<◌, ◌≤◌, true}
-use Rattle.block_device.specs.Calls.{ComesByCalls}
-use Rattle.image_tree.specs.Inodes.{inode_of, is_node}
-use Rattle.image_tree.specs.Checks.{IsGoodSize}
+use Rattle.image_tree.proofs.Lemmas.{◌≡◌, ℕ, ◌<◌, ◌≤◌, true, ComesByCalls, inode_of, is_node, IsGoodSize}
 use Rattle.image_tree.proofs.sizes.has_good_sizes.Given as goal
 
 abbrev pub invariant-loop-i : goal.invariant-loop-i

@@ -1,7 +1,4 @@
-use Rattle.std.proofs.Common.{◌∙◌, sym, refl}
-use Rattle.block_device.specs.Calls.{none}
-use Rattle.block_device.specs.CallLaws.{calls_after}
-use Rattle.image_tree.proofs.SlotLemmas.{first_slots-none, first_slots-more}
+use Rattle.image_tree.proofs.Lemmas.{◌∙◌, sym, refl, none, calls_after, first_slots-none, first_slots-more}
 use Rattle.image_tree.proofs.slots.load_slots.Goals as goal
 
 pub loop-s-init : goal.loop-s-init

@@ -1,6 +1,4 @@
-use Rattle.std.proofs.Common.{◌≡◌}
-use Rattle.block_device.specs.Calls.{ComesByCalls}
-use Rattle.image_tree.specs.Inodes.{first_slots}
+use Rattle.image_tree.proofs.Lemmas.{◌≡◌, ComesByCalls, first_slots}
 use Rattle.image_tree.proofs.slots.load_slots.Given as goal
 
 abbrev pub invariant-loop-s : goal.invariant-loop-s

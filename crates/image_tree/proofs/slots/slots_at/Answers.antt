@@ -1,6 +1,4 @@
-use Rattle.std.proofs.Common.{◌∙◌, sym, ap, ℕ, List}
-use Rattle.image_tree.specs.Inodes.{slots_of}
-use Rattle.image_tree.proofs.SlotLemmas.{slots_in_directory, slots_in_other, numbers_of_directory}
+use Rattle.image_tree.proofs.Lemmas.{◌∙◌, sym, ap, ℕ, List, slots_of, slots_in_directory, slots_in_other, numbers_of_directory}
 use Rattle.image_tree.proofs.slots.slots_at.Goals as goal
 
 pub returns-then-not-is_live_directory-clause-slots : goal.returns-then-not-is_live_directory-clause-slots

@@ -1,5 +1,4 @@
-use Rattle.std.proofs.Common.{arith}
-use Rattle.image_tree.proofs.TallyLemmas.{tally_in}
+use Rattle.image_tree.proofs.Lemmas.{arith, tally_in}
 use Rattle.image_tree.proofs.tallies.tally.Goals as goal
 
 pub returns-then-place-table : goal.returns-then-place-table

@@ -1,6 +1,4 @@
-use Rattle.std.proofs.Common.{◌++◌, ℕ, List, take, filter, eqb, get_or}
-use Rattle.image_tree.specs.Links.{slot_numbers}
-use Rattle.image_tree.specs.Marks.{Tallies}
+use Rattle.image_tree.proofs.Lemmas.{◌++◌, ℕ, List, take, filter, eqb, get_or, slot_numbers, Tallies}
 use Rattle.image_tree.proofs.tallies.tally_proper.Given as goal
 
 abbrev pub invariant-loop-s : goal.invariant-loop-s

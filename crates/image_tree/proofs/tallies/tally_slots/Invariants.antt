@@ -1,6 +1,4 @@
-use Rattle.std.proofs.Common.{◌++◌, ℕ, List, take}
-use Rattle.image_tree.specs.Links.{slot_numbers}
-use Rattle.image_tree.specs.Marks.{Tallies}
+use Rattle.image_tree.proofs.Lemmas.{◌++◌, ℕ, List, take, slot_numbers, Tallies}
 use Rattle.image_tree.proofs.tallies.tally_slots.Given as goal
 
 abbrev pub invariant-loop-s : goal.invariant-loop-s

@@ -1,6 +1,4 @@
-use Rattle.std.proofs.Common.{◌∙◌, sym, SFits, w16, rules}
-use Rattle.std.proofs.lemmas.Int.{to_z-of_z}
-use Rattle.image_tree.proofs.TreeOfLemmas.{numbers_loaded, directory_kind, file_kind, device_kind}
+use Rattle.image_tree.proofs.Lemmas.{◌∙◌, sym, SFits, w16, rules, to_z-of_z, numbers_loaded, directory_kind, file_kind, device_kind}
 use Rattle.image_tree.proofs.trees.load_kind.Goals as goal
 
 pub load_slots-requires-clause-numbers : goal.load_slots-requires-clause-numbers

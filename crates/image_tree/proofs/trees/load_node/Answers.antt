@@ -1,5 +1,4 @@
-use Rattle.std.proofs.Common.{◌∙◌, sym}
-use Rattle.image_tree.proofs.TreeOfLemmas.{no_node_free, no_node_dead, node_told}
+use Rattle.image_tree.proofs.Lemmas.{◌∙◌, sym, no_node_free, no_node_dead, node_told}
 use Rattle.image_tree.proofs.trees.load_node.Goals as goal
 
 pub returns-then-is_free-clause-node : goal.returns-then-is_free-clause-node

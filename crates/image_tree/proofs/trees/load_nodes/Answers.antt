@@ -1,7 +1,4 @@
-use Rattle.std.proofs.Common.{◌∙◌, refl}
-use Rattle.block_device.specs.Calls.{none}
-use Rattle.block_device.specs.CallLaws.{calls_after}
-use Rattle.image_tree.proofs.TreeOfLemmas.{nodes_one, nodes_more}
+use Rattle.image_tree.proofs.Lemmas.{◌∙◌, refl, none, calls_after, nodes_one, nodes_more}
 use Rattle.image_tree.proofs.trees.load_nodes.Goals as goal
 
 pub loop-i-init : goal.loop-i-init

@@ -1,6 +1,4 @@
-use Rattle.std.proofs.Common.{◌≡◌}
-use Rattle.block_device.specs.Calls.{ComesByCalls}
-use Rattle.image_tree.specs.Trees.{first_nodes}
+use Rattle.image_tree.proofs.Lemmas.{◌≡◌, ComesByCalls, first_nodes}
 use Rattle.image_tree.proofs.trees.load_nodes.Given as goal
 
 abbrev pub invariant-loop-i : goal.invariant-loop-i

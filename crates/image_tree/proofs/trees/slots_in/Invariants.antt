@@ -1,5 +1,4 @@
-use Rattle.std.proofs.Common.{◌≡◌, map, take}
-use Rattle.image_tree.specs.Trees.{slot_of}
+use Rattle.image_tree.proofs.Lemmas.{◌≡◌, map, take, slot_of}
 use Rattle.image_tree.proofs.trees.slots_in.Given as goal
 
 abbrev pub invariant-loop-s : goal.invariant-loop-s

@@ -1,7 +1,4 @@
-use Rattle.std.proofs.Common.{◌≡◌, ℕ, ◌<◌, ◌≤◌}
-use Rattle.block_device.specs.Calls.{ComesByCalls}
-use Rattle.image_tree.specs.Checks.{IsGoodType}
-use Rattle.image_tree.specs.Inodes.{inode_of}
+use Rattle.image_tree.proofs.Lemmas.{◌≡◌, ℕ, ◌<◌, ◌≤◌, ComesByCalls, IsGoodType, inode_of}
 use Rattle.image_tree.proofs.types.has_good_types.Given as goal
 
 abbrev pub invariant-loop-i : goal.invariant-loop-i

@@ -1,7 +1,4 @@
-use Rattle.std.proofs.Common.{ap, ◌∙◌}
-use Rattle.inode_table.specs.Programs.{store}
-use Rattle.inode_data.specs.Freeing.{freed}
-use Rattle.inode_table.specs.HeldInodes.{number_in}
+use Rattle.inode_data.proofs.Lemmas.{ap, ◌∙◌, store, freed, number_in}
 use Rattle.inode_data.proofs.free_inode.store_free.Goals as goal
 
 pub returns-clause-program : goal.returns-clause-program

@@ -1,8 +1,4 @@
-use Rattle.std.proofs.Common.{◌<◌, ◌≤◌, ⊎_elim, arith}
-use Rattle.std.proofs.lemmas.Bool.{cases_lt}
-use Rattle.std.proofs.lemmas.List.{get_or_past}
-use Rattle.fs_layout.proofs.Numbers.{length-u32s_at}
-use Rattle.fs_layout.specs.Indirect.{numbers_in}
+use Rattle.inode_data.proofs.Lemmas.{◌<◌, ◌≤◌, ⊎_elim, arith, cases_lt, get_or_past, length-u32s_at, numbers_in}
 use Rattle.inode_data.proofs.numbers.next_listed.Goals as goal
 
 pub returns-clause-next : goal.returns-clause-next

@@ -1,5 +1,4 @@
-use Rattle.std.proofs.Common.{◌≡◌, ℕ, ◌<◌, ◌≤◌, get_or}
-use Rattle.fs_layout.specs.Indirect.{numbers_in}
+use Rattle.inode_data.proofs.Lemmas.{◌≡◌, ℕ, ◌<◌, ◌≤◌, get_or, numbers_in}
 use Rattle.inode_data.proofs.numbers.next_listed.Given as goal
 
 abbrev pub invariant-loop-i : goal.invariant-loop-i

@@ -1,6 +1,4 @@
-use Rattle.std.proofs.Common.{◌≡◌, ◌<◌, ◌≤◌, ⊎_elim, length, take, arith, ◌∙◌}
-use Rattle.std.proofs.lemmas.Bool.{cases_eq, cases_lt}
-use Rattle.std.proofs.lemmas.List.{get_or-take, get_or_past, length-take}
+use Rattle.inode_data.proofs.Lemmas.{◌≡◌, ◌<◌, ◌≤◌, ⊎_elim, length, take, arith, ◌∙◌, cases_eq, cases_lt, get_or-take, get_or_past, length-take}
 use Rattle.inode_data.proofs.numbers.next_own.Goals as goal
 
 pub returns-then-inode-i-ne0-clause-next : goal.returns-then-inode-i-ne0-clause-next

@@ -1,5 +1,4 @@
-use Rattle.std.proofs.Common.{◌≡◌, ℕ, ◌<◌, ◌≤◌, take, get_or}
-use Rattle.inode_data.specs.Widths.{direct}
+use Rattle.inode_data.proofs.Lemmas.{◌≡◌, ℕ, ◌<◌, ◌≤◌, take, get_or, direct}
 use Rattle.inode_data.proofs.numbers.next_own.Given as goal
 
 abbrev pub invariant-loop-i : goal.invariant-loop-i

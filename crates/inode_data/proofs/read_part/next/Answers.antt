@@ -1,7 +1,4 @@
-use Rattle.std.proofs.Common.{arith}
-use Rattle.inode_data.specs.FetchingBlocks.{block_left}
-use Rattle.inode_data.specs.PartReading.{filled_in}
-use Rattle.inode_data.proofs.PartReadings.{next_read}
+use Rattle.inode_data.proofs.Lemmas.{arith, block_left, filled_in, next_read}
 use Rattle.inode_data.proofs.read_part.next.Goals as goal
 
 pub returns-clause-program : goal.returns-clause-program

@@ -1,13 +1,4 @@
-use Rattle.std.proofs.Common.{◌+◌, ◌∙◌, sym, ap, ℕ}
-use Rattle.fs_layout.specs.Indirect.{numbers_in}
-use Rattle.atomic_programs.specs.Prog.{bind}
-use Rattle.fs_machine.specs.Machines.{P}
-use Rattle.bitmap_alloc.specs.Programs.{free_block}
-use Rattle.inode_data.specs.Freeing.{free_table}
-use Rattle.inode_data.proofs.NextFree.{none_next, some_next}
-use Rattle.fs_machine.specs.declared.hand.Place.TheVariants.{Second}
-use Rattle.fs_machine.specs.Hands.{block_at, bytes_at, inode_in}
-use Rattle.inode_data.specs.Emptying.{listed_rest, record_rest}
+use Rattle.inode_data.proofs.Lemmas.{◌+◌, ◌∙◌, sym, ap, ℕ, numbers_in, bind, P, free_block, free_table, none_next, some_next, Second, block_at, bytes_at, inode_in, listed_rest, record_rest}
 use Rattle.inode_data.proofs.truncate.free_listed.Goals as goal
 
 pub returns-in-None-clause-program : goal.returns-in-None-clause-program

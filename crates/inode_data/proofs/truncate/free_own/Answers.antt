@@ -1,15 +1,4 @@
-use Rattle.std.proofs.Common.{◌+◌, ◌∙◌, ◌<◌, take, sym, ap, subst, get_or, Some, None, List, ℕ}
-use Rattle.std.proofs.lemmas.List.{get_or-take}
-use Rattle.fs_layout.specs.declared.inode.Dinode.{Dinode}
-use Rattle.atomic_programs.specs.Prog.{bind}
-use Rattle.fs_machine.specs.Machines.{P}
-use Rattle.bitmap_alloc.specs.Programs.{free_block}
-use Rattle.inode_table.specs.Programs.{record_of}
-use Rattle.inode_data.specs.Numbers.{IsNext}
-use Rattle.inode_data.specs.Widths.{direct}
-use Rattle.inode_data.proofs.NextFree.{none_next, some_next}
-use Rattle.fs_machine.specs.Hands.{inode_in}
-use Rattle.inode_data.specs.Emptying.{own_rest, indirect_rest}
+use Rattle.inode_data.proofs.Lemmas.{◌+◌, ◌∙◌, ◌<◌, take, sym, ap, subst, get_or, Some, None, List, ℕ, get_or-take, Dinode, bind, P, free_block, record_of, IsNext, direct, none_next, some_next, inode_in, own_rest, indirect_rest}
 use Rattle.inode_data.proofs.truncate.free_own.Goals as goal
 
 pub returns-in-None-clause-program : goal.returns-in-None-clause-program

@@ -1,11 +1,4 @@
-use Rattle.std.proofs.Common.{◌≡◌, ap, ◌∙◌}
-use Rattle.fs_layout.specs.declared.inode.Dinode.{Dinode}
-use Rattle.atomic_programs.specs.Prog.{Ret, bind}
-use Rattle.fs_machine.specs.Machines.{P}
-use Rattle.inode_table.specs.Programs.{record_of, store as store_at}
-use Rattle.inode_data.specs.Freeing.{without_content}
-use Rattle.fs_machine.specs.Hands.{inode_in}
-use Rattle.inode_table.specs.HeldInodes.{record_in}
+use Rattle.inode_data.proofs.Lemmas.{◌≡◌, ap, ◌∙◌, Dinode, Ret, bind, P, record_of, store as store_at, without_content, inode_in, record_in}
 use Rattle.inode_data.proofs.truncate.store.Goals as goal
 
 pub returns-clause-program : goal.returns-clause-program

@@ -1,7 +1,4 @@
-use Rattle.std.proofs.Common.{◌∙◌}
-use Rattle.atomic_programs.specs.Prog.{Ret}
-use Rattle.inode_data.specs.Locating.{locate_left}
-use Rattle.inode_data.proofs.PartWritings.{goes_on_so}
+use Rattle.inode_data.proofs.Lemmas.{◌∙◌, Ret, locate_left, goes_on_so}
 use Rattle.inode_data.proofs.write_part.next_of.Goals as goal
 
 pub returns-in-Runs-clause-program : goal.returns-in-Runs-clause-program

@@ -1,5 +1,4 @@
-use Rattle.std.proofs.Common.{◌∙◌, sym}
-use Rattle.inode_data.proofs.PartWritings.{ends_there}
+use Rattle.inode_data.proofs.Lemmas.{◌∙◌, sym, ends_there}
 use Rattle.inode_data.proofs.write_part.onward.Goals as goal
 
 pub returns-then-writing-eq0-clause-program : goal.returns-then-writing-eq0-clause-program

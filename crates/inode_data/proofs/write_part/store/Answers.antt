@@ -1,4 +1,4 @@
-use Rattle.inode_data.proofs.PartWritings.{stored_so}
+use Rattle.inode_data.proofs.Lemmas.{stored_so}
 use Rattle.inode_data.proofs.write_part.store.Goals as goal
 
 pub returns-clause-program : goal.returns-clause-program

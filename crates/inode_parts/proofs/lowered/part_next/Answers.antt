@@ -1,16 +1,5 @@
-use Rattle.std.proofs.Common.{◌≡◌, ℕ, List, ◌++◌, length, take, drop, sym, ap, subst, ◌∙◌, arith}
-use Rattle.std.proofs.lemmas.List.{append-nil, drop_all, take_all}
-use Rattle.fs_machine.specs.Controls.{Goes, left_after}
-use Rattle.fs_machine.specs.Ops.{answer_in}
-use Rattle.whole_calls.specs.Wholes.{text_in}
-use Rattle.inode_parts.specs.Carries.{handed}
-use Rattle.inode_parts.specs.FileReads.{read_file_asked, read_file_left}
-use Rattle.inode_parts.specs.InodeParts.{part_left_after}
-use Rattle.inode_parts.specs.Leaving.{heard_if}
-use Rattle.inode_parts.specs.Parts.{Part}
+use Rattle.inode_parts.proofs.Lemmas.{◌≡◌, ℕ, List, ◌++◌, length, take, drop, sym, ap, subst, ◌∙◌, arith, append-nil, drop_all, take_all, Goes, left_after, answer_in, text_in, handed, read_file_asked, read_file_left, part_left_after, heard_if, Part, read_after, reads}
 use Rattle.inode_parts.specs.declared.part.InodePart.TheVariants as part
-use Rattle.inode_parts.proofs.Lefts.{read_after}
-use Rattle.inode_parts.proofs.UnderWay.{reads}
 use Rattle.inode_parts.proofs.lowered.part_next.Goals as goal
 
 -- the buffer has its new bytes

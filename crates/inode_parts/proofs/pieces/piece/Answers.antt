@@ -1,6 +1,4 @@
-use Rattle.std.proofs.Common.{◌≡◌, ◌-◌, ◌*◌, min, length, take, drop, ◌∙◌, arith, length-drop}
-use Rattle.std.proofs.lemmas.List.{take_all, take_min}
-use Rattle.plain_tree.specs.Widths.{piece_len}
+use Rattle.inode_parts.proofs.Lemmas.{◌≡◌, ◌-◌, ◌*◌, min, length, take, drop, ◌∙◌, arith, length-drop, take_all, take_min, piece_len}
 use Rattle.inode_parts.proofs.pieces.piece.Goals as goal
 
 pub returns-clause-is : goal.returns-clause-is

@@ -1,10 +1,6 @@
-use Rattle.std.proofs.Common.{true, Option, None, sym, ap}
-use Rattle.path_walk.specs.declared.asks.Face.{Face}
-use Rattle.path_walk.specs.declared.asks.Heard.{Heard}
+use Rattle.inode_parts.proofs.Lemmas.{true, Option, None, sym, ap, Face, Heard, counted_face, sees_nothing, seen_ends}
 use Rattle.path_walk.specs.declared.asks.Heard.TheVariants as heard
 use Rattle.inode_parts.specs.declared.note.Note.TheVariants as note
-use Rattle.inode_parts.proofs.Seeing.{counted_face, sees_nothing}
-use Rattle.inode_parts.proofs.Taking.{seen_ends}
 use Rattle.inode_parts.proofs.relock_part.seen.Goals as goal
 
 pub returns-clause-program : goal.returns-clause-program

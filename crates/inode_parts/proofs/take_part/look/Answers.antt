@@ -1,21 +1,5 @@
-use Rattle.std.proofs.Common.{◌≡◌, true, Option, None, refl, sym, subst, ◌∙◌}
-use Rattle.std.specs.Prelude.{is_some, not}
-use Rattle.fs_layout.specs.declared.inode.Dinode.{Dinode}
-use Rattle.atomic_programs.specs.Prog.{Ret, bind}
-use Rattle.fs_machine.specs.Machines.{P}
-use Rattle.directory.specs.Programs.{lookup}
-use Rattle.directory.specs.declared.found.Found.{Found}
-use Rattle.directory.specs.Searching.{entries}
-use Rattle.fs_machine.specs.Hands.{number_at}
-use Rattle.inode_table.specs.HeldInodes.{record_in}
-use Rattle.inodes_on_blocks.specs.Reading.{number_found}
-use Rattle.path_walk.specs.Elements.{name_in}
-use Rattle.inode_parts.specs.Sides.{beside_in}
-use Rattle.inode_parts.specs.Takes.{listed_ends, named_ends, note_of}
+use Rattle.inode_parts.proofs.Lemmas.{◌≡◌, true, Option, None, refl, sym, subst, ◌∙◌, is_some, not, Dinode, Ret, bind, P, lookup, Found, entries, number_at, record_in, number_found, name_in, beside_in, listed_ends, named_ends, note_of, face_unless_free, sees_entries, sees_name, sees_nothing, seen_ends}
 use Rattle.inode_parts.specs.declared.note.Note.TheVariants as note
-use Rattle.inode_parts.specs.Faces.{face_unless_free}
-use Rattle.inode_parts.proofs.Seeing.{sees_entries, sees_name, sees_nothing}
-use Rattle.inode_parts.proofs.Taking.{seen_ends}
 use Rattle.inode_parts.proofs.take_part.look.Goals as goal
 
 pub returns-in-Nothing-clause-program : goal.returns-in-Nothing-clause-program

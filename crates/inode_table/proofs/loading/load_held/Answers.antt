@@ -1,10 +1,4 @@
-use Rattle.std.proofs.Common.{◌∙◌, sym, ap, ℕ}
-use Rattle.fs_layout.specs.declared.inode.Dinode.{Dinode}
-use Rattle.fs_machine.specs.Machines.{P}
-use Rattle.inode_table.specs.Programs.{load}
-use Rattle.fs_machine.specs.Hands.{inode_in}
-use Rattle.inode_table.specs.HeldInodes.{number_in}
-use Rattle.inode_table.proofs.Goings.{not-loaded}
+use Rattle.inode_table.proofs.Lemmas.{◌∙◌, sym, ap, ℕ, Dinode, P, load, inode_in, number_in, not-loaded}
 use Rattle.inode_table.proofs.loading.load_held.Goals as goal
 
 pub returns-clause-program : goal.returns-clause-program

@@ -1,8 +1,4 @@
-use Rattle.std.proofs.Common.{◌≡◌, ℕ, ◌+◌, ◌*◌, ◌<◌, ◌≤◌, List, [], ◌∷◌, ◌++◌, length, take, set, Bool, true, false, cond, refl, ap, sym, ◌∙◌, arith, add-one}
-use Rattle.std.proofs.Math.Seq.{take-suc-set}
-use Rattle.std.proofs.lemmas.List.{append-nil, length-set}
-use Rattle.fs_layout.specs.Widths.{inodes_per_block}
-use Rattle.inode_table.specs.NewInodes.{is_free_in, free_among}
+use Rattle.inode_table.proofs.Lemmas.{◌≡◌, ℕ, ◌+◌, ◌*◌, ◌<◌, ◌≤◌, List, [], ◌∷◌, ◌++◌, length, take, set, Bool, true, false, cond, refl, ap, sym, ◌∙◌, arith, add-one, take-suc-set, append-nil, length-set, inodes_per_block, is_free_in, free_among}
 use Rattle.inode_table.proofs.new_inode.free_numbers.Goals as goal
 use Rattle.inode_table.proofs.new_inode.free_numbers.Goals.{then-is_free, else-is_free}
 

@@ -1,6 +1,4 @@
-use Rattle.std.proofs.Common.{◌≡◌, ◌*◌, ◌≤◌, length, take}
-use Rattle.fs_layout.specs.Widths.{inodes_per_block}
-use Rattle.inode_table.specs.NewInodes.{free_among}
+use Rattle.inode_table.proofs.Lemmas.{◌≡◌, ◌*◌, ◌≤◌, length, take, inodes_per_block, free_among}
 use Rattle.inode_table.proofs.new_inode.free_numbers.Given as goal
 
 abbrev pub invariant-loop-k : goal.invariant-loop-k

@@ -1,8 +1,4 @@
-use Rattle.std.proofs.Common.{rules, ◌≡◌, ◌+◌, ◌*◌, ◌%◌, w16, sym, ◌∙◌, ap, arith}
-use Rattle.std.specs.Int.{cast_signed}
-use Rattle.fs_layout.specs.Bytes.{u16_at}
-use Rattle.fs_layout.specs.Inode.{dinode_at}
-use Rattle.fs_layout.proofs.Numbers.{u16_at-part}
+use Rattle.inode_table.proofs.Lemmas.{rules, ◌≡◌, ◌+◌, ◌*◌, ◌%◌, w16, sym, ◌∙◌, ap, arith, cast_signed, u16_at, dinode_at, u16_at-part}
 use Rattle.inode_table.proofs.new_inode.is_free.Goals as goal
 
 pub returns-then-number-ninodes : goal.returns-then-number-ninodes

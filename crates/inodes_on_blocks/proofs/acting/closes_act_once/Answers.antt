@@ -1,8 +1,4 @@
-use Rattle.inode_machine.specs.World.Op.{Shut}
-use Rattle.inodes_on_blocks.specs.Handlers.{close}
-use Rattle.inodes_on_blocks.specs.Acting.{alone}
-use Rattle.inodes_on_blocks.proofs.SlotSteps.{close_acts}
-use Rattle.inodes_on_blocks.proofs.Alone.{alone_laws, alone_keeps, does_it}
+use Rattle.inodes_on_blocks.proofs.Lemmas.{Shut, close, alone, close_acts, alone_laws, alone_keeps, does_it}
 use Rattle.inodes_on_blocks.proofs.acting.closes_act_once.Goals as goal
 
 pub returns : goal.returns

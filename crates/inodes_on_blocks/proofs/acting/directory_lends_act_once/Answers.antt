@@ -1,8 +1,4 @@
-use Rattle.inode_machine.specs.World.Op.{LendDirectory}
-use Rattle.inodes_on_blocks.specs.Handlers.{lend_directory}
-use Rattle.inodes_on_blocks.specs.Acting.{alone}
-use Rattle.inodes_on_blocks.proofs.LendSteps.{lend_directory_acts}
-use Rattle.inodes_on_blocks.proofs.Alone.{alone_laws, alone_keeps, does_it}
+use Rattle.inodes_on_blocks.proofs.Lemmas.{LendDirectory, lend_directory, alone, lend_directory_acts, alone_laws, alone_keeps, does_it}
 use Rattle.inodes_on_blocks.proofs.acting.directory_lends_act_once.Goals as goal
 
 pub returns : goal.returns

@@ -1,8 +1,4 @@
-use Rattle.inode_machine.specs.World.Op.{Double}
-use Rattle.inodes_on_blocks.specs.Handlers.{double}
-use Rattle.inodes_on_blocks.specs.Acting.{alone}
-use Rattle.inodes_on_blocks.proofs.SlotSteps.{double_acts}
-use Rattle.inodes_on_blocks.proofs.Alone.{alone_laws, alone_keeps, does_it}
+use Rattle.inodes_on_blocks.proofs.Lemmas.{Double, double, alone, double_acts, alone_laws, alone_keeps, does_it}
 use Rattle.inodes_on_blocks.proofs.acting.doubles_act_once.Goals as goal
 
 pub returns : goal.returns

@@ -1,8 +1,4 @@
-use Rattle.inode_machine.specs.World.Op.{Down}
-use Rattle.inodes_on_blocks.specs.Handlers.{down}
-use Rattle.inodes_on_blocks.specs.Acting.{alone}
-use Rattle.inodes_on_blocks.proofs.CountSteps.{down_acts}
-use Rattle.inodes_on_blocks.proofs.Alone.{alone_laws, alone_keeps, does_it}
+use Rattle.inodes_on_blocks.proofs.Lemmas.{Down, down, alone, down_acts, alone_laws, alone_keeps, does_it}
 use Rattle.inodes_on_blocks.proofs.acting.downs_act_once.Goals as goal
 
 pub returns : goal.returns

@@ -1,8 +1,4 @@
-use Rattle.inode_machine.specs.World.Op.{JoinFile}
-use Rattle.inodes_on_blocks.specs.Handlers.{join_file}
-use Rattle.inodes_on_blocks.specs.Acting.{alone}
-use Rattle.inodes_on_blocks.proofs.JoinFileSteps.{join_file_acts}
-use Rattle.inodes_on_blocks.proofs.Alone.{alone_laws, alone_keeps, does_it}
+use Rattle.inodes_on_blocks.proofs.Lemmas.{JoinFile, join_file, alone, join_file_acts, alone_laws, alone_keeps, does_it}
 use Rattle.inodes_on_blocks.proofs.acting.file_joins_act_once.Goals as goal
 
 pub returns : goal.returns

@@ -1,8 +1,4 @@
-use Rattle.inode_machine.specs.World.Op.{Forget}
-use Rattle.inodes_on_blocks.specs.Handlers.{forget}
-use Rattle.inodes_on_blocks.specs.Acting.{alone}
-use Rattle.inodes_on_blocks.proofs.ForgetSteps.{forget_acts}
-use Rattle.inodes_on_blocks.proofs.Alone.{alone_laws, alone_keeps, does_it}
+use Rattle.inodes_on_blocks.proofs.Lemmas.{Forget, forget, alone, forget_acts, alone_laws, alone_keeps, does_it}
 use Rattle.inodes_on_blocks.proofs.acting.forgets_act_once.Goals as goal
 
 pub returns : goal.returns

@@ -1,8 +1,4 @@
-use Rattle.inode_machine.specs.World.Op.{Give}
-use Rattle.inodes_on_blocks.specs.Handlers.{give}
-use Rattle.inodes_on_blocks.specs.Acting.{alone}
-use Rattle.inodes_on_blocks.proofs.TableSteps.{give_acts}
-use Rattle.inodes_on_blocks.proofs.Alone.{alone_laws, alone_keeps, does_it}
+use Rattle.inodes_on_blocks.proofs.Lemmas.{Give, give, alone, give_acts, alone_laws, alone_keeps, does_it}
 use Rattle.inodes_on_blocks.proofs.acting.gives_act_once.Goals as goal
 
 pub returns : goal.returns

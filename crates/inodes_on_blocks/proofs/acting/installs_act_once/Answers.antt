@@ -1,8 +1,4 @@
-use Rattle.inode_machine.specs.World.Op.{Install}
-use Rattle.inodes_on_blocks.specs.Handlers.{install}
-use Rattle.inodes_on_blocks.specs.Acting.{alone}
-use Rattle.inodes_on_blocks.proofs.SlotSteps.{install_acts}
-use Rattle.inodes_on_blocks.proofs.Alone.{alone_laws, alone_keeps, does_it}
+use Rattle.inodes_on_blocks.proofs.Lemmas.{Install, install, alone, install_acts, alone_laws, alone_keeps, does_it}
 use Rattle.inodes_on_blocks.proofs.acting.installs_act_once.Goals as goal
 
 pub returns : goal.returns

@@ -1,8 +1,4 @@
-use Rattle.inode_machine.specs.World.Op.{Lend}
-use Rattle.inodes_on_blocks.specs.Handlers.{lend}
-use Rattle.inodes_on_blocks.specs.Acting.{alone}
-use Rattle.inodes_on_blocks.proofs.LendSteps.{lend_acts}
-use Rattle.inodes_on_blocks.proofs.Alone.{alone_laws, alone_keeps, does_it}
+use Rattle.inodes_on_blocks.proofs.Lemmas.{Lend, lend, alone, lend_acts, alone_laws, alone_keeps, does_it}
 use Rattle.inodes_on_blocks.proofs.acting.lends_act_once.Goals as goal
 
 pub returns : goal.returns

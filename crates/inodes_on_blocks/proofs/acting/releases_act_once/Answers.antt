@@ -1,8 +1,4 @@
-use Rattle.inode_machine.specs.World.Op.{Release}
-use Rattle.inodes_on_blocks.specs.Handlers.{release}
-use Rattle.inodes_on_blocks.specs.Acting.{alone}
-use Rattle.inodes_on_blocks.proofs.LendSteps.{release_acts}
-use Rattle.inodes_on_blocks.proofs.Alone.{alone_laws, alone_keeps, does_it}
+use Rattle.inodes_on_blocks.proofs.Lemmas.{Release, release, alone, release_acts, alone_laws, alone_keeps, does_it}
 use Rattle.inodes_on_blocks.proofs.acting.releases_act_once.Goals as goal
 
 pub returns : goal.returns

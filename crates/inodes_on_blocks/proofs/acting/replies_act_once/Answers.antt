@@ -1,8 +1,4 @@
-use Rattle.inode_machine.specs.World.Op.{Say}
-use Rattle.inodes_on_blocks.specs.Handlers.{say}
-use Rattle.inodes_on_blocks.specs.Acting.{alone}
-use Rattle.inodes_on_blocks.proofs.SlotSteps.{say_acts}
-use Rattle.inodes_on_blocks.proofs.Alone.{alone_laws, alone_keeps, does_it}
+use Rattle.inodes_on_blocks.proofs.Lemmas.{Say, say, alone, say_acts, alone_laws, alone_keeps, does_it}
 use Rattle.inodes_on_blocks.proofs.acting.replies_act_once.Goals as goal
 
 pub returns : goal.returns

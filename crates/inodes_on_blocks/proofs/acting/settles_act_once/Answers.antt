@@ -1,8 +1,4 @@
-use Rattle.inode_machine.specs.World.Op.{Settle}
-use Rattle.inodes_on_blocks.specs.Handlers.{settle}
-use Rattle.inodes_on_blocks.specs.Acting.{alone}
-use Rattle.inodes_on_blocks.proofs.TableSteps.{settle_acts}
-use Rattle.inodes_on_blocks.proofs.Alone.{alone_laws, alone_keeps, does_it}
+use Rattle.inodes_on_blocks.proofs.Lemmas.{Settle, settle, alone, settle_acts, alone_laws, alone_keeps, does_it}
 use Rattle.inodes_on_blocks.proofs.acting.settles_act_once.Goals as goal
 
 pub returns : goal.returns

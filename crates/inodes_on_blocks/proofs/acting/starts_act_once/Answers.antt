@@ -1,8 +1,4 @@
-use Rattle.inode_machine.specs.World.Op.{UpStart}
-use Rattle.inodes_on_blocks.specs.Handlers.{up_start}
-use Rattle.inodes_on_blocks.specs.Acting.{alone}
-use Rattle.inodes_on_blocks.proofs.CountSteps.{up_start_acts}
-use Rattle.inodes_on_blocks.proofs.Alone.{alone_laws, alone_keeps, does_it}
+use Rattle.inodes_on_blocks.proofs.Lemmas.{UpStart, up_start, alone, up_start_acts, alone_laws, alone_keeps, does_it}
 use Rattle.inodes_on_blocks.proofs.acting.starts_act_once.Goals as goal
 
 pub returns : goal.returns

@@ -1,8 +1,4 @@
-use Rattle.inode_machine.specs.World.Op.{Up}
-use Rattle.inodes_on_blocks.specs.Handlers.{up}
-use Rattle.inodes_on_blocks.specs.Acting.{alone}
-use Rattle.inodes_on_blocks.proofs.CountSteps.{up_acts}
-use Rattle.inodes_on_blocks.proofs.Alone.{alone_laws, alone_keeps, does_it}
+use Rattle.inodes_on_blocks.proofs.Lemmas.{Up, up, alone, up_acts, alone_laws, alone_keeps, does_it}
 use Rattle.inodes_on_blocks.proofs.acting.ups_act_once.Goals as goal
 
 pub returns : goal.returns

@@ -1,8 +1,4 @@
-use Rattle.inode_machine.specs.World.Op.{WalkDown}
-use Rattle.inodes_on_blocks.specs.Handlers.{walk_down}
-use Rattle.inodes_on_blocks.specs.Acting.{alone}
-use Rattle.inodes_on_blocks.proofs.CountSteps.{walk_down_acts}
-use Rattle.inodes_on_blocks.proofs.Alone.{alone_laws, alone_keeps, does_it}
+use Rattle.inodes_on_blocks.proofs.Lemmas.{WalkDown, walk_down, alone, walk_down_acts, alone_laws, alone_keeps, does_it}
 use Rattle.inodes_on_blocks.proofs.acting.walk_downs_act_once.Goals as goal
 
 pub returns : goal.returns

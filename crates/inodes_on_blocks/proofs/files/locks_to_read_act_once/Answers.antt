@@ -1,8 +1,4 @@
-use Rattle.inode_machine.specs.World.Op.{LockFile}
-use Rattle.inodes_on_blocks.specs.Files.{lock_file}
-use Rattle.inodes_on_blocks.specs.Acting.{alone}
-use Rattle.inodes_on_blocks.proofs.LockSteps.{file_acts}
-use Rattle.inodes_on_blocks.proofs.Alone.{alone_laws, alone_keeps, does_it_at}
+use Rattle.inodes_on_blocks.proofs.Lemmas.{LockFile, lock_file, alone, file_acts, alone_laws, alone_keeps, does_it_at}
 use Rattle.inodes_on_blocks.proofs.files.locks_to_read_act_once.Goals as goal
 
 pub returns : goal.returns

@@ -1,8 +1,4 @@
-use Rattle.inode_machine.specs.World.Op.{LockOpen}
-use Rattle.inodes_on_blocks.specs.Files.{lock_open}
-use Rattle.inodes_on_blocks.specs.Acting.{alone}
-use Rattle.inodes_on_blocks.proofs.LockSteps.{open_acts}
-use Rattle.inodes_on_blocks.proofs.Alone.{alone_laws, alone_keeps, does_it_at}
+use Rattle.inodes_on_blocks.proofs.Lemmas.{LockOpen, lock_open, alone, open_acts, alone_laws, alone_keeps, does_it_at}
 use Rattle.inodes_on_blocks.proofs.files.locks_to_write_act_once.Goals as goal
 
 pub returns : goal.returns

@@ -1,8 +1,4 @@
-use Rattle.inode_machine.specs.World.Op.{ReadFile}
-use Rattle.inodes_on_blocks.specs.Files.{read_file}
-use Rattle.inodes_on_blocks.specs.Acting.{alone}
-use Rattle.inodes_on_blocks.proofs.ReadSteps.{read_acts}
-use Rattle.inodes_on_blocks.proofs.Alone.{alone_laws, alone_keeps, does_it_at}
+use Rattle.inodes_on_blocks.proofs.Lemmas.{ReadFile, read_file, alone, read_acts, alone_laws, alone_keeps, does_it_at}
 use Rattle.inodes_on_blocks.proofs.files.reads_act_once.Goals as goal
 
 pub returns : goal.returns

@@ -1,4 +1,4 @@
-use Rattle.inodes_on_blocks.proofs.WriteSteps.{writes_within}
+use Rattle.inodes_on_blocks.proofs.Lemmas.{writes_within}
 use Rattle.inodes_on_blocks.proofs.files.writes_act_once.Goals as goal
 
 pub returns : goal.returns

@@ -1,4 +1,4 @@
-use Rattle.inodes_on_blocks.proofs.ClaimSteps.{claims_within}
+use Rattle.inodes_on_blocks.proofs.Lemmas.{claims_within}
 use Rattle.inodes_on_blocks.proofs.naming.claims_act_once.Goals as goal
 
 pub returns : goal.returns

@@ -1,4 +1,4 @@
-use Rattle.inodes_on_blocks.proofs.NamingWithins.{fills_within}
+use Rattle.inodes_on_blocks.proofs.Lemmas.{fills_within}
 use Rattle.inodes_on_blocks.proofs.naming.first_names_act_once.Goals as goal
 
 pub returns : goal.returns

@@ -1,4 +1,4 @@
-use Rattle.inodes_on_blocks.proofs.NamingWithins.{enters_within}
+use Rattle.inodes_on_blocks.proofs.Lemmas.{enters_within}
 use Rattle.inodes_on_blocks.proofs.naming.names_act_once.Goals as goal
 
 pub returns : goal.returns

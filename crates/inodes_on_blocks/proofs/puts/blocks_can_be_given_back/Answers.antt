@@ -1,4 +1,4 @@
-use Rattle.inodes_on_blocks.proofs.HeldPuts.{given_back}
+use Rattle.inodes_on_blocks.proofs.Lemmas.{given_back}
 use Rattle.inodes_on_blocks.proofs.puts.blocks_can_be_given_back.Goals as goal
 
 pub returns : goal.returns

@@ -1,4 +1,4 @@
-use Rattle.inodes_on_blocks.proofs.HeldPuts.{taken}
+use Rattle.inodes_on_blocks.proofs.Lemmas.{taken}
 use Rattle.inodes_on_blocks.proofs.puts.blocks_can_be_taken.Goals as goal
 
 pub returns : goal.returns

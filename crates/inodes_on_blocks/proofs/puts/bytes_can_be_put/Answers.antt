@@ -1,4 +1,4 @@
-use Rattle.inodes_on_blocks.proofs.LaidBytes.{bytes_laid}
+use Rattle.inodes_on_blocks.proofs.Lemmas.{bytes_laid}
 use Rattle.inodes_on_blocks.proofs.puts.bytes_can_be_put.Goals as goal
 
 pub returns : goal.returns

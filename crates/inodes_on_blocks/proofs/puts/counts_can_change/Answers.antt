@@ -1,4 +1,4 @@
-use Rattle.inodes_on_blocks.proofs.LaidInodes.{count_laid}
+use Rattle.inodes_on_blocks.proofs.Lemmas.{count_laid}
 use Rattle.inodes_on_blocks.proofs.puts.counts_can_change.Goals as goal
 
 pub returns : goal.returns

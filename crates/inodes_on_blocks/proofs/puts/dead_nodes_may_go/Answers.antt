@@ -1,4 +1,4 @@
-use Rattle.inodes_on_blocks.proofs.LaidInodes.{dead_goes}
+use Rattle.inodes_on_blocks.proofs.Lemmas.{dead_goes}
 use Rattle.inodes_on_blocks.proofs.puts.dead_nodes_may_go.Goals as goal
 
 pub returns : goal.returns

@@ -1,4 +1,4 @@
-use Rattle.inodes_on_blocks.proofs.LaidNumbers.{direct_named}
+use Rattle.inodes_on_blocks.proofs.Lemmas.{direct_named}
 use Rattle.inodes_on_blocks.proofs.puts.direct_numbers_can_be_set.Goals as goal
 
 pub returns : goal.returns

@@ -1,4 +1,4 @@
-use Rattle.inodes_on_blocks.proofs.LaidInodes.{empty_laid, empty_named}
+use Rattle.inodes_on_blocks.proofs.Lemmas.{empty_laid, empty_named}
 use Rattle.inodes_on_blocks.proofs.puts.empty_inodes_are_laid_out.Goals as goal
 
 pub returns : goal.returns

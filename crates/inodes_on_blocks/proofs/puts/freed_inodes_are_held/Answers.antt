@@ -1,4 +1,4 @@
-use Rattle.inodes_on_blocks.proofs.LaidInodes.{freed_held}
+use Rattle.inodes_on_blocks.proofs.Lemmas.{freed_held}
 use Rattle.inodes_on_blocks.proofs.puts.freed_inodes_are_held.Goals as goal
 
 pub returns : goal.returns

@@ -1,4 +1,4 @@
-use Rattle.inodes_on_blocks.proofs.LaidInodes.{laid_before}
+use Rattle.inodes_on_blocks.proofs.Lemmas.{laid_before}
 use Rattle.inodes_on_blocks.proofs.puts.held_nodes_are_laid_out.Goals as goal
 
 pub returns : goal.returns

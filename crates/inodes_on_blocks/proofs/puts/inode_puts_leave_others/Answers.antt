@@ -1,4 +1,4 @@
-use Rattle.inodes_on_blocks.proofs.HeldPuts.{inode_leaves}
+use Rattle.inodes_on_blocks.proofs.Lemmas.{inode_leaves}
 use Rattle.inodes_on_blocks.proofs.puts.inode_puts_leave_others.Goals as goal
 
 pub returns : goal.returns

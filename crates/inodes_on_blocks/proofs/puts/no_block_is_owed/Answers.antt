@@ -1,4 +1,4 @@
-use Rattle.inodes_on_blocks.proofs.HeldPuts.{nothing_owed}
+use Rattle.inodes_on_blocks.proofs.Lemmas.{nothing_owed}
 use Rattle.inodes_on_blocks.proofs.puts.no_block_is_owed.Goals as goal
 
 pub returns : goal.returns

@@ -1,4 +1,4 @@
-use Rattle.inodes_on_blocks.proofs.LaidNumbers.{number_named}
+use Rattle.inodes_on_blocks.proofs.Lemmas.{number_named}
 use Rattle.inodes_on_blocks.proofs.puts.numbers_can_be_put.Goals as goal
 
 pub returns : goal.returns

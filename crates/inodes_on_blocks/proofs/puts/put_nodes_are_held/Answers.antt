@@ -1,4 +1,4 @@
-use Rattle.inodes_on_blocks.proofs.LaidInodes.{node_held}
+use Rattle.inodes_on_blocks.proofs.Lemmas.{node_held}
 use Rattle.inodes_on_blocks.proofs.puts.put_nodes_are_held.Goals as goal
 
 pub returns : goal.returns

@@ -1,4 +1,4 @@
-use Rattle.inodes_on_blocks.proofs.HeldPuts.{data_leaves}
+use Rattle.inodes_on_blocks.proofs.Lemmas.{data_leaves}
 use Rattle.inodes_on_blocks.proofs.puts.puts_leave_others.Goals as goal
 
 pub returns : goal.returns

@@ -1,4 +1,4 @@
-use Rattle.inodes_on_blocks.proofs.LaidSlots.{slot_laid}
+use Rattle.inodes_on_blocks.proofs.Lemmas.{slot_laid}
 use Rattle.inodes_on_blocks.proofs.puts.slots_can_be_put.Goals as goal
 
 pub returns : goal.returns

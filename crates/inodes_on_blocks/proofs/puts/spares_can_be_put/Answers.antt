@@ -1,4 +1,4 @@
-use Rattle.inodes_on_blocks.proofs.HeldFrames.{spare_put}
+use Rattle.inodes_on_blocks.proofs.Lemmas.{spare_put}
 use Rattle.inodes_on_blocks.proofs.puts.spares_can_be_put.Goals as goal
 
 pub returns : goal.returns

@@ -1,4 +1,4 @@
-use Rattle.inodes_on_blocks.proofs.LaidNumbers.{table_named}
+use Rattle.inodes_on_blocks.proofs.Lemmas.{table_named}
 use Rattle.inodes_on_blocks.proofs.puts.tables_can_be_set.Goals as goal
 
 pub returns : goal.returns

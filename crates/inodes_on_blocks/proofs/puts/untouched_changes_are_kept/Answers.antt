@@ -1,4 +1,4 @@
-use Rattle.inodes_on_blocks.proofs.HeldFrames.{untouched_change}
+use Rattle.inodes_on_blocks.proofs.Lemmas.{untouched_change}
 use Rattle.inodes_on_blocks.proofs.puts.untouched_changes_are_kept.Goals as goal
 
 pub returns : goal.returns

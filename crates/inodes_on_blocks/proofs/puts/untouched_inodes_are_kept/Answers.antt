@@ -1,4 +1,4 @@
-use Rattle.inodes_on_blocks.proofs.HeldFrames.{untouched}
+use Rattle.inodes_on_blocks.proofs.Lemmas.{untouched}
 use Rattle.inodes_on_blocks.proofs.puts.untouched_inodes_are_kept.Goals as goal
 
 pub returns : goal.returns

@@ -1,8 +1,4 @@
-use Rattle.inode_machine.specs.World.Op.{StatFile}
-use Rattle.inodes_on_blocks.specs.Reading.{stat_file}
-use Rattle.inodes_on_blocks.specs.Acting.{alone}
-use Rattle.inodes_on_blocks.proofs.StatSteps.{stat_acts}
-use Rattle.inodes_on_blocks.proofs.Alone.{alone_laws, alone_keeps, does_it_at}
+use Rattle.inodes_on_blocks.proofs.Lemmas.{StatFile, stat_file, alone, stat_acts, alone_laws, alone_keeps, does_it_at}
 use Rattle.inodes_on_blocks.proofs.reading.stats_act_once.Goals as goal
 
 pub returns : goal.returns

@@ -1,8 +1,4 @@
-use Rattle.inode_machine.specs.World.Op.{Take}
-use Rattle.inodes_on_blocks.specs.Reading.{take}
-use Rattle.inodes_on_blocks.specs.Acting.{alone}
-use Rattle.inodes_on_blocks.proofs.TakeSteps.{take_acts}
-use Rattle.inodes_on_blocks.proofs.Alone.{alone_laws, alone_keeps, does_it_at}
+use Rattle.inodes_on_blocks.proofs.Lemmas.{Take, take, alone, take_acts, alone_laws, alone_keeps, does_it_at}
 use Rattle.inodes_on_blocks.proofs.reading.takes_act_once.Goals as goal
 
 pub returns : goal.returns

@@ -1,4 +1,4 @@
-use Rattle.inodes_on_blocks.proofs.PutLaws.{set_bits_leave as law}
+use Rattle.inodes_on_blocks.proofs.Lemmas.{set_bits_leave as law}
 use Rattle.inodes_on_blocks.proofs.recording.set_bits_leave.Goals as goal
 
 pub returns : goal.returns

@@ -1,4 +1,4 @@
-use Rattle.inodes_on_blocks.proofs.RunningBlocks.{node_any}
+use Rattle.inodes_on_blocks.proofs.Lemmas.{node_any}
 use Rattle.inodes_on_blocks.proofs.running.changed_nodes_may_be_any.Goals as goal
 
 pub returns : goal.returns

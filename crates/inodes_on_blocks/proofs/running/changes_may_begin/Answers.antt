@@ -1,4 +1,4 @@
-use Rattle.inodes_on_blocks.proofs.RunningBlocks.{begins}
+use Rattle.inodes_on_blocks.proofs.Lemmas.{begins}
 use Rattle.inodes_on_blocks.proofs.running.changes_may_begin.Goals as goal
 
 pub returns : goal.returns

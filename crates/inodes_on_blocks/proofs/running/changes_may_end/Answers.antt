@@ -1,4 +1,4 @@
-use Rattle.inodes_on_blocks.proofs.RunningBlocks.{ends}
+use Rattle.inodes_on_blocks.proofs.Lemmas.{ends}
 use Rattle.inodes_on_blocks.proofs.running.changes_may_end.Goals as goal
 
 pub returns : goal.returns

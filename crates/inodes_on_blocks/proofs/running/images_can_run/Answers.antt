@@ -1,4 +1,4 @@
-use Rattle.inodes_on_blocks.proofs.RunningBlocks.{image_runs, image_tree_runs}
+use Rattle.inodes_on_blocks.proofs.Lemmas.{image_runs, image_tree_runs}
 use Rattle.inodes_on_blocks.proofs.running.images_can_run.Goals as goal
 
 pub returns : goal.returns

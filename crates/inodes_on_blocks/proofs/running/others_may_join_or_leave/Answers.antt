@@ -1,4 +1,4 @@
-use Rattle.inodes_on_blocks.proofs.RunningBlocks.{joins}
+use Rattle.inodes_on_blocks.proofs.Lemmas.{joins}
 use Rattle.inodes_on_blocks.proofs.running.others_may_join_or_leave.Goals as goal
 
 pub returns : goal.returns

@@ -1,4 +1,4 @@
-use Rattle.inodes_on_blocks.proofs.RunningBlocks.{puts_keep}
+use Rattle.inodes_on_blocks.proofs.Lemmas.{puts_keep}
 use Rattle.inodes_on_blocks.proofs.running.puts_keep_running.Goals as goal
 
 pub returns : goal.returns

@@ -1,4 +1,4 @@
-use Rattle.inodes_on_blocks.proofs.RunningBlocks.{quiet_holds, quiet_image}
+use Rattle.inodes_on_blocks.proofs.Lemmas.{quiet_holds, quiet_image}
 use Rattle.inodes_on_blocks.proofs.running.quiet_blocks_are_images.Goals as goal
 
 pub returns : goal.returns

@@ -1,4 +1,4 @@
-use Rattle.inodes_on_blocks.proofs.SeenDisks.{recovered_image, image_seen}
+use Rattle.inodes_on_blocks.proofs.Lemmas.{recovered_image, image_seen}
 use Rattle.inodes_on_blocks.proofs.seen.recovered_disks_are_images.Goals as goal
 
 pub returns : goal.returns

@@ -1,4 +1,4 @@
-use Rattle.inodes_on_blocks.proofs.SeenDisks.{good_seen}
+use Rattle.inodes_on_blocks.proofs.Lemmas.{good_seen}
 use Rattle.inodes_on_blocks.proofs.seen.seen_disks_are_good.Goals as goal
 
 pub returns : goal.returns

@@ -1,4 +1,4 @@
-use Rattle.inodes_on_blocks.proofs.SeenDisks.{seen_stays}
+use Rattle.inodes_on_blocks.proofs.Lemmas.{seen_stays}
 use Rattle.inodes_on_blocks.proofs.seen.seen_disks_stay.Goals as goal
 
 pub returns : goal.returns

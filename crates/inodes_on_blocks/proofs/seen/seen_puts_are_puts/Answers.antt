@@ -1,4 +1,4 @@
-use Rattle.inodes_on_blocks.proofs.SeenDisks.{seen_put}
+use Rattle.inodes_on_blocks.proofs.Lemmas.{seen_put}
 use Rattle.inodes_on_blocks.proofs.seen.seen_puts_are_puts.Goals as goal
 
 pub returns : goal.returns

@@ -1,4 +1,4 @@
-use Rattle.inodes_on_blocks.proofs.Spends.{programs_spend}
+use Rattle.inodes_on_blocks.proofs.Lemmas.{programs_spend}
 use Rattle.inodes_on_blocks.proofs.spent.programs_spend.Goals as goal
 
 pub returns : goal.returns

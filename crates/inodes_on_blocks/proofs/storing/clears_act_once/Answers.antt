@@ -1,12 +1,4 @@
-use Rattle.std.proofs.Common.{[], ◌<◌, arith}
-use Rattle.inode_table.specs.Programs.{inode_block}
-use Rattle.inode_machine.specs.Budget.{size, with_record, with_contents, most_recorded}
-use Rattle.inode_machine.specs.World.Op.{Clear}
-use Rattle.inodes_on_blocks.specs.Acting.{alone, IsDone, Answers}
-use Rattle.inodes_on_blocks.specs.Room.{HasSpent}
-use Rattle.inodes_on_blocks.proofs.Alone.{alone_laws, alone_keeps, lasts_done}
-use Rattle.inodes_on_blocks.proofs.ClearSteps.{clear_acts}
-use Rattle.inodes_on_blocks.proofs.SpentRoom.{spent_gives, other_spends, record_spent, record_more}
+use Rattle.inodes_on_blocks.proofs.Lemmas.{[], ◌<◌, arith, inode_block, size, with_record, with_contents, most_recorded, Clear, alone, IsDone, Answers, HasSpent, alone_laws, alone_keeps, lasts_done, clear_acts, spent_gives, other_spends, record_spent, record_more}
 use Rattle.inodes_on_blocks.proofs.storing.clears_act_once.Goals as goal
 
 pub returns : goal.returns

@@ -1,12 +1,4 @@
-use Rattle.std.proofs.Common.{[]}
-use Rattle.inode_table.specs.Programs.{inode_block}
-use Rattle.inode_machine.specs.Budget.{spent_after, with_bitmap}
-use Rattle.inode_machine.specs.World.Op.{Empty}
-use Rattle.inodes_on_blocks.specs.Acting.{alone, IsDone, Answers}
-use Rattle.inodes_on_blocks.specs.Room.{HasSpent}
-use Rattle.inodes_on_blocks.proofs.Alone.{alone_laws, alone_keeps, lasts_done}
-use Rattle.inodes_on_blocks.proofs.SpentRoom.{spent_gives, record_spent, bitmap_spent, both_more}
-use Rattle.inodes_on_blocks.proofs.EmptySteps.{empty_acts}
+use Rattle.inodes_on_blocks.proofs.Lemmas.{[], inode_block, spent_after, with_bitmap, Empty, alone, IsDone, Answers, HasSpent, alone_laws, alone_keeps, lasts_done, spent_gives, record_spent, bitmap_spent, both_more, empty_acts}
 use Rattle.inodes_on_blocks.proofs.storing.empties_act_once.Goals as goal
 
 pub returns : goal.returns

@@ -1,12 +1,4 @@
-use Rattle.std.proofs.Common.{[]}
-use Rattle.inode_table.specs.Programs.{inode_block}
-use Rattle.inode_machine.specs.Budget.{spent_after}
-use Rattle.inode_machine.specs.World.Op.{Store}
-use Rattle.inodes_on_blocks.specs.Acting.{alone, IsDone, Answers}
-use Rattle.inodes_on_blocks.specs.Room.{HasSpent}
-use Rattle.inodes_on_blocks.proofs.Alone.{alone_laws, alone_keeps, lasts_done}
-use Rattle.inodes_on_blocks.proofs.SpentRoom.{spent_gives, record_spent, record_more}
-use Rattle.inodes_on_blocks.proofs.StoreSteps.{store_acts}
+use Rattle.inodes_on_blocks.proofs.Lemmas.{[], inode_block, spent_after, Store, alone, IsDone, Answers, HasSpent, alone_laws, alone_keeps, lasts_done, spent_gives, record_spent, record_more, store_acts}
 use Rattle.inodes_on_blocks.proofs.storing.stores_act_once.Goals as goal
 
 pub returns : goal.returns

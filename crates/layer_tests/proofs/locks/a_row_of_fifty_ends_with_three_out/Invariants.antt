@@ -1,5 +1,4 @@
-use Rattle.std.proofs.Common.{◌≡◌, length}
-use Rattle.sleep_lock.specs.Row.{IsNumbered}
+use Rattle.layer_tests.proofs.Lemmas.{◌≡◌, length, IsNumbered}
 use Rattle.layer_tests.proofs.locks.a_row_of_fifty_ends_with_three_out.Given as goal
 
 abbrev pub invariant-loop-number : goal.invariant-loop-number

@@ -1,4 +1,4 @@
-use Rattle.std.proofs.Common.{◌≡◌, length}
+use Rattle.layer_tests.proofs.Lemmas.{◌≡◌, length}
 use Rattle.layer_tests.proofs.locks.fifty.Given as goal
 
 abbrev pub invariant-loop-number : goal.invariant-loop-number

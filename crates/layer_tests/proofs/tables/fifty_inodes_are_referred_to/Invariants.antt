@@ -1,4 +1,4 @@
-use Rattle.std.proofs.Common.{◌≡◌, ◌+◌, length}
+use Rattle.layer_tests.proofs.Lemmas.{◌≡◌, ◌+◌, length}
 use Rattle.layer_tests.proofs.tables.fifty_inodes_are_referred_to.Given as goal
 
 abbrev pub invariant-loop-number : goal.invariant-loop-number

@@ -1,6 +1,4 @@
-use Rattle.std.proofs.Common.{◌∙◌, ap, sym}
-use Rattle.sleep_lock.specs.Row.{IsOut}
-use Rattle.fs_machine.specs.declared.entries.Inode.{Inode}
+use Rattle.layer_tests.proofs.Lemmas.{◌∙◌, ap, sym, IsOut, Inode}
 use Rattle.layer_tests.proofs.tables.loaded.Goals as goal
 
 pub returns-clause-locked : goal.returns-clause-locked

@@ -1,4 +1,4 @@
-use Rattle.std.proofs.Common.{rules}
+use Rattle.locked_world.proofs.Lemmas.{rules}
 use Rattle.locked_world.proofs.handing.copied.Goals as goal
 
 pub returns : goal.returns

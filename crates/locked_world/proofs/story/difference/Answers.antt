@@ -1,8 +1,4 @@
-use Rattle.std.proofs.Common.{rules, ◌≡◌, ◌∙◌, ap, sym, arith, length}
-use Rattle.std.proofs.lemmas.List.{take_all}
-use Rattle.std.proofs.lemmas.Option.{slice_get_past}
-use Rattle.locked_world.specs.Stories.{given_to}
-use Rattle.locked_world.proofs.Listed.{upto, reply_stands, taken_length, took, passed, seen_at, none_some, same_some, too_many}
+use Rattle.locked_world.proofs.Lemmas.{rules, ◌≡◌, ◌∙◌, ap, sym, arith, length, take_all, slice_get_past, given_to, upto, reply_stands, taken_length, took, passed, seen_at, none_some, same_some, too_many}
 use Rattle.locked_world.proofs.story.difference.Goals.{then-seen-replies-via-then-seen-replies, then-seen-replies-via-else-seen-replies+then-not-is_same, in-Some+else-seen-replies+else-not-is_same, in_default}
 use Rattle.locked_world.proofs.story.difference.Goals as goal
 

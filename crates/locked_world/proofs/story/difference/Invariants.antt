@@ -1,5 +1,4 @@
-use Rattle.std.proofs.Common.{◌≡◌, ◌≤◌, length, take}
-use Rattle.locked_world.specs.Stories.{given_to}
+use Rattle.locked_world.proofs.Lemmas.{◌≡◌, ◌≤◌, length, take, given_to}
 use Rattle.locked_world.proofs.story.difference.Given as goal
 
 abbrev pub invariant-loop-i : goal.invariant-loop-i

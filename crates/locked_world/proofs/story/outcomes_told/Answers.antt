@@ -1,8 +1,5 @@
-use Rattle.std.proofs.Common.{rules, ◌≡◌, ◌∙◌, ◌++◌, ◌+◌, arith, drop, get_or, sym, ap}
-use Rattle.locked_world.specs.declared.note.Note.{Note}
+use Rattle.locked_world.proofs.Lemmas.{rules, ◌≡◌, ◌∙◌, ◌++◌, ◌+◌, arith, drop, get_or, sym, ap, Note, noted_outcomes, told_reply, told_plain, same_at}
 use Rattle.locked_world.specs.declared.note.What.TheVariants as what
-use Rattle.locked_world.specs.Stories.{noted_outcomes}
-use Rattle.locked_world.proofs.Noted.{told_reply, told_plain, same_at}
 use Rattle.locked_world.proofs.story.outcomes_told.Goals.{then-is_reply+in_ok-reply_told+in_ok-push, else-is_reply+in_ok-push-2}
 use Rattle.locked_world.proofs.story.outcomes_told.Goals as goal
 

@@ -1,5 +1,4 @@
-use Rattle.std.proofs.Common.{◌≡◌, ◌≤◌, ◌++◌, drop}
-use Rattle.locked_world.specs.Stories.{noted_outcomes}
+use Rattle.locked_world.proofs.Lemmas.{◌≡◌, ◌≤◌, ◌++◌, drop, noted_outcomes}
 use Rattle.locked_world.proofs.story.outcomes_told.Given as goal
 
 abbrev pub invariant-loop-i : goal.invariant-loop-i

@@ -1,6 +1,4 @@
-use Rattle.std.proofs.Common.{◌-◌, ◌%◌, ◌++◌, List, ℕ, length, replicate, ap, ◌∙◌, refl, append_assoc}
-use Rattle.std.proofs.lemmas.Result.{IfOk-equal}
-use Rattle.mkfs.proofs.Padding.{whole-missing}
+use Rattle.mkfs.proofs.Lemmas.{◌-◌, ◌%◌, ◌++◌, List, ℕ, length, replicate, ap, ◌∙◌, refl, append_assoc, IfOk-equal, whole-missing}
 use Rattle.mkfs.proofs.appends.push_whole.Goals as goal
 
 pub returns : goal.returns

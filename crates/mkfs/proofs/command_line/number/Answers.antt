@@ -1,6 +1,4 @@
-use Rattle.std.proofs.Common.{subst}
-use Rattle.clap.specs.Matches.{ReadsOne}
-use Rattle.mkfs.proofs.Readings.{Reads, first_part, number_read, number_is}
+use Rattle.mkfs.proofs.Lemmas.{subst, ReadsOne, Reads, first_part, number_read, number_is}
 use Rattle.mkfs.proofs.command_line.number.Goals as goal
 
 pub unwrap-requires : goal.unwrap-requires

@@ -1,8 +1,4 @@
-use Rattle.std.proofs.Common.{ap, map, string_bytes, subst}
-use Rattle.clap.specs.Words.{FailsBy, fault_of, is_simple_and_free}
-use Rattle.mkfs.specs.Options.{mkfs_line}
-use Rattle.mkfs.proofs.OptionNumbers.{both_given}
-use Rattle.mkfs.proofs.OptionValues.{line_is_simple, values_given}
+use Rattle.mkfs.proofs.Lemmas.{ap, map, string_bytes, subst, FailsBy, fault_of, is_simple_and_free, mkfs_line, both_given, line_is_simple, values_given}
 use Rattle.mkfs.proofs.command_line.options.Goals as goal
 
 pub returns-clause-numbers : goal.returns-clause-numbers

@@ -1,8 +1,4 @@
-use Rattle.std.proofs.Common.{arith, refl, subst, sym, ◌∙◌}
-use Rattle.std.proofs.lemmas.List.Elements.{All-map}
-use Rattle.mkfs.specs.declared.new_file.NewFile.{NewFile}
-use Rattle.mkfs.specs.Refusals.{IsFileName}
-use Rattle.mkfs.proofs.Steps.{at-file}
+use Rattle.mkfs.proofs.Lemmas.{arith, refl, subst, sym, ◌∙◌, All-map, NewFile, IsFileName, at-file}
 use Rattle.mkfs.proofs.judges.are_file_names.Goals as goal
 
 pub returns-then-not-is_file_name : goal.returns-then-not-is_file_name

@@ -1,6 +1,4 @@
-use Rattle.std.proofs.Common.{ℕ, ◌<◌, get_or}
-use Rattle.mkfs.specs.declared.new_file.NewFile.{NewFile}
-use Rattle.mkfs.specs.Refusals.{IsFileName}
+use Rattle.mkfs.proofs.Lemmas.{ℕ, ◌<◌, get_or, NewFile, IsFileName}
 use Rattle.mkfs.proofs.judges.are_file_names.Given as goal
 
 abbrev pub invariant-loop-file : goal.invariant-loop-file

@@ -1,8 +1,4 @@
-use Rattle.std.proofs.Common.{arith, refl, ℕ, List, length, ◌≤◌}
-use Rattle.std.proofs.lemmas.List.{length-map}
-use Rattle.std.proofs.lemmas.List.Elements.{All-map}
-use Rattle.mkfs.specs.declared.new_file.NewFile.{NewFile}
-use Rattle.mkfs.proofs.Steps.{size-at}
+use Rattle.mkfs.proofs.Lemmas.{arith, refl, ℕ, List, length, ◌≤◌, length-map, All-map, NewFile, size-at}
 use Rattle.mkfs.proofs.judges.has_good_files.Goals as goal
 
 pub returns-then-content-gt-LARGEST_SIZE : goal.returns-then-content-gt-LARGEST_SIZE

@@ -1,5 +1,4 @@
-use Rattle.std.proofs.Common.{ℕ, ◌<◌, ◌≤◌, get_or, length}
-use Rattle.mkfs.specs.declared.new_file.NewFile.{NewFile}
+use Rattle.mkfs.proofs.Lemmas.{ℕ, ◌<◌, ◌≤◌, get_or, length, NewFile}
 use Rattle.mkfs.proofs.judges.has_good_files.Given as goal
 
 abbrev pub invariant-loop-file : goal.invariant-loop-file

@@ -1,10 +1,5 @@
-use Rattle.std.proofs.Common.{ℕ, ◌<◌, List, length, refl, sym, ◌∙◌, arith}
-use Rattle.std.proofs.lemmas.List.{length-map}
+use Rattle.mkfs.proofs.Lemmas.{ℕ, ◌<◌, List, length, refl, sym, ◌∙◌, arith, length-map, NewFile, names_of, seen-none, seen-more, seen-all, seen-double, contains-has, not-true, not-false, name-at}
 use denote.Bor.{Bor}
-use Rattle.mkfs.specs.declared.new_file.NewFile.{NewFile}
-use Rattle.mkfs.specs.Image.{names_of}
-use Rattle.mkfs.proofs.Doubles.{seen-none, seen-more, seen-all, seen-double, contains-has, not-true, not-false}
-use Rattle.mkfs.proofs.Steps.{name-at}
 use Rattle.mkfs.proofs.judges.has_no_double.Goals as goal
 
 pub loop-file-init : goal.loop-file-init

@@ -1,5 +1,4 @@
-use Rattle.mkfs.specs.Image.{names_of}
-use Rattle.mkfs.proofs.Doubles.{Seen}
+use Rattle.mkfs.proofs.Lemmas.{names_of, Seen}
 use Rattle.mkfs.proofs.judges.has_no_double.Given as goal
 
 abbrev pub invariant-loop-file : goal.invariant-loop-file

@@ -1,7 +1,4 @@
-use Rattle.std.proofs.Common.{ℕ, List, length, ap, ◌∙◌, arith}
-use Rattle.mkfs.specs.declared.new_file.NewFile.{NewFile}
-use Rattle.mkfs.specs.Layout.{node_blocks}
-use Rattle.mkfs.proofs.Steps.{size-at, blocks-next, blocks_more}
+use Rattle.mkfs.proofs.Lemmas.{ℕ, List, length, ap, ◌∙◌, arith, NewFile, node_blocks, size-at, blocks-next, blocks_more}
 use Rattle.mkfs.proofs.layout.file_blocks.Goals as goal
 
 pub node_blocks-blocks-requires : goal.node_blocks-blocks-requires

@@ -1,6 +1,4 @@
-use Rattle.std.proofs.Common.{◌≡◌, ◌≤◌, ◌+◌, ◌*◌, drop}
-use Rattle.mkfs.specs.Image.{contents_of}
-use Rattle.mkfs.specs.Layout.{file_blocks}
+use Rattle.mkfs.proofs.Lemmas.{◌≡◌, ◌≤◌, ◌+◌, ◌*◌, drop, contents_of, file_blocks}
 use Rattle.mkfs.proofs.layout.file_blocks.Given as goal
 
 abbrev pub invariant-loop-file : goal.invariant-loop-file

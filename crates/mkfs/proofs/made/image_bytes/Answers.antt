@@ -1,8 +1,4 @@
-use Rattle.std.proofs.Common.{rules, ◌≡◌, ◌≤◌, ◌∙◌, ℕ, List, sym, subst, length}
-use Rattle.mkfs.specs.Layout.{data_start}
-use Rattle.mkfs.specs.Image.{names_of, contents_of, image_of, nodes_with, used_by}
-use Rattle.mkfs.proofs.MadeImages.{is-made, same-length}
-use Rattle.mkfs.proofs.Wanted.{root_few, room}
+use Rattle.mkfs.proofs.Lemmas.{rules, ◌≡◌, ◌≤◌, ◌∙◌, ℕ, List, sym, subst, length, data_start, names_of, contents_of, image_of, nodes_with, used_by, is-made, same-length, root_few, room}
 use Rattle.mkfs.proofs.made.image_bytes.Goals as goal
 
 pub push_parts-requires-clause-root : goal.push_parts-requires-clause-root

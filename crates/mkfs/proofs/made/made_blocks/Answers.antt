@@ -1,8 +1,4 @@
-use Rattle.std.proofs.Common.{◌<◌, length, arith}
-use Rattle.std.proofs.lemmas.List.{length-map}
-use Rattle.mkfs.specs.Image.{nodes_with, root_content, file_node}
-use Rattle.mkfs.proofs.DataBlocks.{bitmap-there, node-there}
-use Rattle.mkfs.proofs.Wanted.{fits}
+use Rattle.mkfs.proofs.Lemmas.{◌<◌, length, arith, length-map, nodes_with, root_content, file_node, bitmap-there, node-there, fits}
 use Rattle.mkfs.proofs.made.made_blocks.Goals as goal
 
 pub returns-clause-bitmap : goal.returns-clause-bitmap

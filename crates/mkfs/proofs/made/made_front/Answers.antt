@@ -1,6 +1,4 @@
-use Rattle.mkfs.specs.Image.{nodes_with, root_content}
-use Rattle.mkfs.proofs.Wanted.{fits}
-use Rattle.mkfs.proofs.Places.{length-disk, sizes-there, log-empty, recovered-there}
+use Rattle.mkfs.proofs.Lemmas.{nodes_with, root_content, fits, length-disk, sizes-there, log-empty, recovered-there}
 use Rattle.mkfs.proofs.made.made_front.Goals as goal
 
 pub returns-clause-size : goal.returns-clause-size

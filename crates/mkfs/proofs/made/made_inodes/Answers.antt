@@ -1,9 +1,4 @@
-use Rattle.std.proofs.Common.{◌<◌, length, arith}
-use Rattle.std.proofs.lemmas.List.{length-map}
-use Rattle.mkfs.specs.Image.{nodes_with, root_content, file_node}
-use Rattle.mkfs.proofs.Lengths.{Fits}
-use Rattle.mkfs.proofs.Records.{inode-there, are-nodes}
-use Rattle.mkfs.proofs.Wanted.{fits}
+use Rattle.mkfs.proofs.Lemmas.{◌<◌, length, arith, length-map, nodes_with, root_content, file_node, Fits, inode-there, are-nodes, fits}
 use Rattle.mkfs.proofs.made.made_inodes.Goals as goal
 
 pub returns : goal.returns

@@ -1,10 +1,4 @@
-use Rattle.std.proofs.Common.{◌++◌, ◌∙◌, ℕ, List, ap, replicate}
-use Rattle.std.proofs.lemmas.Result.{IfOk-equal}
-use Rattle.fs_layout.specs.declared.superblock.Super.{Super}
-use Rattle.fs_layout.specs.Super.{spell_super}
-use Rattle.mkfs.specs.Layout.{super_for}
-use Rattle.mkfs.specs.Image.{padded}
-use Rattle.mkfs.proofs.Joins.{front-parts}
+use Rattle.mkfs.proofs.Lemmas.{◌++◌, ◌∙◌, ℕ, List, ap, replicate, IfOk-equal, Super, spell_super, super_for, padded, front-parts}
 use Rattle.mkfs.proofs.made.push_front.Goals as goal
 
 pub returns : goal.returns

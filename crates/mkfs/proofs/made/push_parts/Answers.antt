@@ -1,8 +1,4 @@
-use Rattle.std.proofs.Common.{◌≡◌, ◌++◌, ◌+◌, ◌*◌, ◌-◌, ◌∙◌, ℕ, List, ap, length, replicate}
-use Rattle.std.proofs.lemmas.Result.{IfOk-equal}
-use Rattle.mkfs.specs.Layout.{node_blocks, file_blocks, data_start}
-use Rattle.mkfs.specs.Image.{Node, contents_of, nodes_with, inode_table, bitmap, data_from, used_by}
-use Rattle.mkfs.proofs.Joins.{image-parts, used-parts}
+use Rattle.mkfs.proofs.Lemmas.{◌≡◌, ◌++◌, ◌+◌, ◌*◌, ◌-◌, ◌∙◌, ℕ, List, ap, length, replicate, IfOk-equal, node_blocks, file_blocks, data_start, Node, contents_of, nodes_with, inode_table, bitmap, data_from, used_by, image-parts, used-parts}
 use Rattle.mkfs.proofs.made.push_parts.Goals as goal
 
 pub returns : goal.returns

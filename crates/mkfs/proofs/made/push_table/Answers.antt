@@ -1,12 +1,4 @@
-use Rattle.std.proofs.Common.{◌≡◌, ◌++◌, ◌+◌, ◌*◌, ◌-◌, ◌/◌, ◌∙◌, ℕ, List, ap, arith, length, map, replicate, refl}
-use Rattle.std.proofs.lemmas.List.{length-map}
-use Rattle.std.proofs.lemmas.Result.{IfOk-equal}
-use Rattle.std.specs.List.{flat_map}
-use Rattle.fs_layout.specs.Inode.{spell_dinode}
-use Rattle.mkfs.specs.Layout.{node_blocks, data_start, inode_blocks}
-use Rattle.mkfs.specs.declared.new_file.NewFile.{NewFile}
-use Rattle.mkfs.specs.Image.{Node, contents_of, file_node, root_node, inode_for, inodes_from}
-use Rattle.mkfs.proofs.Joins.{table-parts}
+use Rattle.mkfs.proofs.Lemmas.{◌≡◌, ◌++◌, ◌+◌, ◌*◌, ◌-◌, ◌/◌, ◌∙◌, ℕ, List, ap, arith, length, map, replicate, refl, length-map, IfOk-equal, flat_map, spell_dinode, node_blocks, data_start, inode_blocks, NewFile, Node, contents_of, file_node, root_node, inode_for, inodes_from, table-parts}
 use Rattle.mkfs.proofs.made.push_table.Goals as goal
 
 pub returns : goal.returns

@@ -1,9 +1,4 @@
-use Rattle.std.proofs.Common.{◌++◌, ℕ, List, ap, ◌∙◌, subst, sym, arith}
-use Rattle.fs_layout.specs.Name.{IsName}
-use Rattle.fs_layout.specs.Entry.{spell_dirent}
-use Rattle.fs_layout.specs.declared.entry.Dirent.TheVariants.{Used}
-use Rattle.mkfs.specs.declared.new_file.NewFile.{NewFile}
-use Rattle.mkfs.proofs.Steps.{at-file, entries-next, one_more}
+use Rattle.mkfs.proofs.Lemmas.{◌++◌, ℕ, List, ap, ◌∙◌, subst, sym, arith, IsName, spell_dirent, Used, NewFile, at-file, entries-next, one_more}
 use Rattle.mkfs.proofs.nodes.push_entries.Goals as goal
 
 pub push_entry-requires-clause-name : goal.push_entry-requires-clause-name

@@ -1,7 +1,4 @@
-use Rattle.std.proofs.Common.{◌≡◌, ◌+◌, ◌++◌, drop}
-use Rattle.std.specs.List.{flat_map}
-use Rattle.fs_layout.specs.Entry.{spell_dirent}
-use Rattle.mkfs.specs.Image.{entries_from, names_of}
+use Rattle.mkfs.proofs.Lemmas.{◌≡◌, ◌+◌, ◌++◌, drop, flat_map, spell_dirent, entries_from, names_of}
 use Rattle.mkfs.proofs.nodes.push_entries.Given as goal
 
 abbrev pub invariant-loop-file : goal.invariant-loop-file

@@ -1,10 +1,4 @@
-use Rattle.std.proofs.Common.{◌≡◌, ◌≤◌, ◌++◌, ◌+◌, ℕ, List, ap, ◌∙◌, sym, arith, length, map, drop}
-use Rattle.std.specs.List.{flat_map}
-use Rattle.fs_layout.specs.Inode.{spell_dinode}
-use Rattle.mkfs.specs.Layout.{node_blocks}
-use Rattle.mkfs.specs.declared.new_file.NewFile.{NewFile}
-use Rattle.mkfs.specs.Image.{file_node, inodes_from, contents_of}
-use Rattle.mkfs.proofs.Steps.{size-at, inodes-next, one_more}
+use Rattle.mkfs.proofs.Lemmas.{◌≡◌, ◌≤◌, ◌++◌, ◌+◌, ℕ, List, ap, ◌∙◌, sym, arith, length, map, drop, flat_map, spell_dinode, node_blocks, NewFile, file_node, inodes_from, contents_of, size-at, inodes-next, one_more}
 use Rattle.mkfs.proofs.nodes.push_file_inodes.Goals as goal
 
 pub push_inode-requires-clause-size : goal.push_inode-requires-clause-size

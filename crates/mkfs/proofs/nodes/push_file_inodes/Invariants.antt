@@ -1,7 +1,4 @@
-use Rattle.std.proofs.Common.{◌≡◌, ◌≤◌, ◌+◌, ◌*◌, ◌++◌, drop, map}
-use Rattle.std.specs.List.{flat_map}
-use Rattle.fs_layout.specs.Inode.{spell_dinode}
-use Rattle.mkfs.specs.Image.{contents_of, file_node, inodes_from}
+use Rattle.mkfs.proofs.Lemmas.{◌≡◌, ◌≤◌, ◌+◌, ◌*◌, ◌++◌, drop, map, flat_map, spell_dinode, contents_of, file_node, inodes_from}
 use Rattle.mkfs.proofs.nodes.push_file_inodes.Given as goal
 
 abbrev pub invariant-loop-file : goal.invariant-loop-file

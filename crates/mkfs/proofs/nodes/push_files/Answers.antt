@@ -1,8 +1,4 @@
-use Rattle.std.proofs.Common.{◌≡◌, ◌≤◌, ◌++◌, ◌+◌, ℕ, List, ap, ◌∙◌, arith, length, map, drop}
-use Rattle.mkfs.specs.Layout.{node_blocks}
-use Rattle.mkfs.specs.declared.new_file.NewFile.{NewFile}
-use Rattle.mkfs.specs.Image.{file_node, data_from, contents_of, node_bytes}
-use Rattle.mkfs.proofs.Steps.{size-at, data-next, one_more}
+use Rattle.mkfs.proofs.Lemmas.{◌≡◌, ◌≤◌, ◌++◌, ◌+◌, ℕ, List, ap, ◌∙◌, arith, length, map, drop, node_blocks, NewFile, file_node, data_from, contents_of, node_bytes, size-at, data-next, one_more}
 use Rattle.mkfs.proofs.nodes.push_files.Goals as goal
 
 pub push_content-requires-clause-size : goal.push_content-requires-clause-size

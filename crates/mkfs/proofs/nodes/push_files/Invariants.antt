@@ -1,5 +1,4 @@
-use Rattle.std.proofs.Common.{◌≡◌, ◌≤◌, ◌+◌, ◌*◌, ◌++◌, drop, map}
-use Rattle.mkfs.specs.Image.{contents_of, data_from, file_node}
+use Rattle.mkfs.proofs.Lemmas.{◌≡◌, ◌≤◌, ◌+◌, ◌*◌, ◌++◌, drop, map, contents_of, data_from, file_node}
 use Rattle.mkfs.proofs.nodes.push_files.Given as goal
 
 abbrev pub invariant-loop-file : goal.invariant-loop-file

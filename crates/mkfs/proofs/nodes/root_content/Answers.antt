@@ -1,9 +1,4 @@
-use Rattle.std.proofs.Common.{◌≡◌, ◌++◌, List, ℕ, ap, ◌∙◌, append_assoc}
-use Rattle.std.specs.List.{flat_map}
-use Rattle.fs_layout.specs.Entry.{spell_dirent}
-use Rattle.fs_layout.specs.declared.entry.Dirent.TheVariants.{Used}
-use Rattle.plain_tree.specs.Tree.{dot, dotdot}
-use Rattle.mkfs.specs.Image.{root_content, whole, entries_from, names_of}
+use Rattle.mkfs.proofs.Lemmas.{◌≡◌, ◌++◌, List, ℕ, ap, ◌∙◌, append_assoc, flat_map, spell_dirent, Used, dot, dotdot, root_content, whole, entries_from, names_of}
 use Rattle.mkfs.proofs.nodes.root_content.Goals as goal
 
 pub returns : goal.returns

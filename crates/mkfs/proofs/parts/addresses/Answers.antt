@@ -1,7 +1,4 @@
-use Rattle.std.proofs.Common.{◌∙◌, ap, ℕ}
-use Rattle.std.specs.List.{range_with_len}
-use Rattle.mkfs.specs.Image.{padded}
-use Rattle.mkfs.proofs.Padding.{range-padded}
+use Rattle.mkfs.proofs.Lemmas.{◌∙◌, ap, ℕ, range_with_len, padded, range-padded}
 use Rattle.mkfs.proofs.parts.addresses.Goals as goal
 
 pub returns : goal.returns

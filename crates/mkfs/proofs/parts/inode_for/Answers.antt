@@ -1,9 +1,4 @@
-use Rattle.std.proofs.Common.{◌≡◌, List, ℕ, ℤ, pos, sym, ap, ◌∙◌, length, min, rules, w16, SFits}
-use Rattle.std.proofs.lemmas.Int.{to_z-of_z}
-use Rattle.std.specs.List.{range_with_len}
-use Rattle.fs_layout.specs.declared.inode.Dinode.{Dinode}
-use Rattle.mkfs.specs.Layout.{node_blocks}
-use Rattle.mkfs.specs.Image.{inode_for, padded}
+use Rattle.mkfs.proofs.Lemmas.{◌≡◌, List, ℕ, ℤ, pos, sym, ap, ◌∙◌, length, min, rules, w16, SFits, to_z-of_z, range_with_len, Dinode, node_blocks, inode_for, padded}
 use Rattle.mkfs.proofs.parts.inode_for.Goals as goal
 
 abbrev fields : ℤ → ℕ → List ℕ → Dinode

@@ -1,6 +1,4 @@
-use Rattle.std.proofs.Common.{◌-◌, ◌^◌, ◌*◌, ◌/◌, ◌%◌, ◌++◌, ◌∙◌, ap, List, [], ◌∷◌, ℕ, replicate}
-use Rattle.std.proofs.lemmas.Result.{IfOk-equal}
-use Rattle.mkfs.proofs.Padding.{bitmap-parts}
+use Rattle.mkfs.proofs.Lemmas.{◌-◌, ◌^◌, ◌*◌, ◌/◌, ◌%◌, ◌++◌, ◌∙◌, ap, List, [], ◌∷◌, ℕ, replicate, IfOk-equal, bitmap-parts}
 use Rattle.mkfs.proofs.parts.push_bitmap.Goals as goal
 
 pub returns : goal.returns

@@ -1,10 +1,4 @@
-use Rattle.std.proofs.Common.{◌++◌, ◌∙◌, ◌+◌, ◌-◌, ap, sym, arith, List, ℕ}
-use Rattle.std.specs.List.{range_with_len}
-use Rattle.std.proofs.lemmas.Result.{IfOk-equal}
-use Rattle.fs_layout.specs.Indirect.{spell_numbers}
-use Rattle.mkfs.specs.Image.{padded, whole}
-use Rattle.mkfs.proofs.Padding.{node_bytes-small}
-use Rattle.mkfs.proofs.Steps.{content-parts}
+use Rattle.mkfs.proofs.Lemmas.{◌++◌, ◌∙◌, ◌+◌, ◌-◌, ap, sym, arith, List, ℕ, range_with_len, IfOk-equal, spell_numbers, padded, whole, node_bytes-small, content-parts}
 use Rattle.mkfs.proofs.parts.push_content.Goals as goal
 
 pub returns-then-content-le-DIRECT_LEN : goal.returns-then-content-le-DIRECT_LEN

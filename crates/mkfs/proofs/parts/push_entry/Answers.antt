@@ -1,12 +1,4 @@
-use Rattle.std.proofs.Common.{◌++◌, ◌<◌, ◌^◌, List, ℕ, Some, subst, ap, ◌∙◌, take, arith}
-use Rattle.std.specs.Option.{SomeIff}
-use Rattle.fs_layout.specs.declared.entry.Dirent.TheVariants.{Used}
-use Rattle.fs_layout.specs.Name.{IsName}
-use Rattle.fs_layout.specs.Entry.{spell_dirent, IsDirent}
-use Rattle.fs_layout.proofs.Entries.{length-spell_dirent}
-use Rattle.mkfs.specs.Image.{padded}
-use Rattle.mkfs.proofs.Padding.{overwrite-zeros, take-padded}
-use Rattle.mkfs.proofs.Steps.{ok_items}
+use Rattle.mkfs.proofs.Lemmas.{◌++◌, ◌<◌, ◌^◌, List, ℕ, Some, subst, ap, ◌∙◌, take, arith, SomeIff, Used, IsName, spell_dirent, IsDirent, length-spell_dirent, padded, overwrite-zeros, take-padded, ok_items}
 use Rattle.mkfs.proofs.parts.push_entry.Goals as goal
 
 pub returns : goal.returns

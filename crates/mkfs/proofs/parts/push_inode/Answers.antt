@@ -1,12 +1,4 @@
-use Rattle.std.proofs.Common.{◌++◌, ◌≡◌, List, ℕ, ap, ◌∙◌, take, arith, rules, w16, SFits}
-use Rattle.std.proofs.lemmas.List.{length-take-le}
-use Rattle.std.proofs.lemmas.Int.{to_z-of_z}
-use Rattle.fs_layout.specs.declared.inode.Dinode.{Dinode}
-use Rattle.fs_layout.specs.Inode.{spell_dinode}
-use Rattle.fs_layout.proofs.Inodes.{length-spell_dinode}
-use Rattle.mkfs.specs.Image.{Node, inode_for, padded}
-use Rattle.mkfs.proofs.Padding.{overwrite-zeros, take-padded, length-addrs}
-use Rattle.mkfs.proofs.Steps.{ok_items}
+use Rattle.mkfs.proofs.Lemmas.{◌++◌, ◌≡◌, List, ℕ, ap, ◌∙◌, take, arith, rules, w16, SFits, length-take-le, to_z-of_z, Dinode, spell_dinode, length-spell_dinode, Node, inode_for, padded, overwrite-zeros, take-padded, length-addrs, ok_items}
 use Rattle.mkfs.proofs.parts.push_inode.Goals as goal
 
 pub slice_bounds-extend_from_slice-end : goal.slice_bounds-extend_from_slice-end

@@ -1,7 +1,4 @@
-use Rattle.std.proofs.Common.{◌++◌, ◌∙◌, ap, List, ℕ}
-use Rattle.fs_layout.specs.Indirect.{spell_numbers}
-use Rattle.mkfs.proofs.Padding.{range-padded}
-use Rattle.mkfs.proofs.Steps.{ok_items}
+use Rattle.mkfs.proofs.Lemmas.{◌++◌, ◌∙◌, ap, List, ℕ, spell_numbers, range-padded, ok_items}
 use Rattle.mkfs.proofs.parts.push_numbers.Goals as goal
 
 pub returns : goal.returns

@@ -1,7 +1,4 @@
-use Rattle.std.proofs.Common.{◌++◌, List, ℕ, ap, ◌∙◌}
-use Rattle.fs_layout.specs.Super.{spell_super}
-use Rattle.mkfs.proofs.Padding.{overwrite-zeros}
-use Rattle.mkfs.proofs.Steps.{ok_items}
+use Rattle.mkfs.proofs.Lemmas.{◌++◌, List, ℕ, ap, ◌∙◌, spell_super, overwrite-zeros, ok_items}
 use Rattle.mkfs.proofs.parts.push_super.Goals as goal
 
 pub returns : goal.returns

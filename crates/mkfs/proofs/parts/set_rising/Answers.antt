@@ -1,5 +1,4 @@
-use Rattle.std.proofs.Common.{◌+◌, ◌∙◌, List, ℕ, ap, set, arith}
-use Rattle.mkfs.proofs.Padding.{range-set}
+use Rattle.mkfs.proofs.Lemmas.{◌+◌, ◌∙◌, List, ℕ, ap, set, arith, range-set}
 use Rattle.mkfs.proofs.parts.set_rising.Goals as goal
 
 pub loop-k-preserved : goal.loop-k-preserved

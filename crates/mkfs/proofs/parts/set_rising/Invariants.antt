@@ -1,5 +1,4 @@
-use Rattle.std.proofs.Common.{◌≡◌, ◌++◌, drop}
-use Rattle.std.specs.List.{range_with_len}
+use Rattle.mkfs.proofs.Lemmas.{◌≡◌, ◌++◌, drop, range_with_len}
 use Rattle.mkfs.proofs.parts.set_rising.Given as goal
 
 abbrev pub invariant-loop-k : goal.invariant-loop-k

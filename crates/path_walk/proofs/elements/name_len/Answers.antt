@@ -1,5 +1,4 @@
-use Rattle.std.proofs.Common.{arith, ◌∙◌, below_more}
-use Rattle.plain_tree.proofs.PathLemmas.{pieces_more, found_slash, found_end}
+use Rattle.path_walk.proofs.Lemmas.{arith, ◌∙◌, below_more, pieces_more, found_slash, found_end}
 use Rattle.path_walk.proofs.elements.name_len.Goals as goal
 
 pub returns-then-byte-eq-SLASH-clause-cut : goal.returns-then-byte-eq-SLASH-clause-cut

@@ -1,5 +1,4 @@
-use Rattle.std.proofs.Common.{◌≡◌, ◌≢◌, ℕ, ◌<◌, [], take, drop, get_or}
-use Rattle.plain_tree.specs.Tree.{pieces}
+use Rattle.path_walk.proofs.Lemmas.{◌≡◌, ◌≢◌, ℕ, ◌<◌, [], take, drop, get_or, pieces}
 use Rattle.path_walk.proofs.elements.name_len.Given as goal
 
 abbrev pub invariant-loop-i : goal.invariant-loop-i

@@ -1,5 +1,4 @@
-use Rattle.std.proofs.Common.{◌≡◌, ◌≤◌, ◌-◌, length, drop}
-use Rattle.plain_tree.specs.Tree.{elements}
+use Rattle.path_walk.proofs.Lemmas.{◌≡◌, ◌≤◌, ◌-◌, length, drop, elements}
 use Rattle.path_walk.proofs.elements.next_element.Given as goal
 
 abbrev pub invariant-loop-at : goal.invariant-loop-at

@@ -1,4 +1,4 @@
-use Rattle.plain_tree.proofs.CheckLemmas.{stray, belong_on, belong_end}
+use Rattle.plain_tree.proofs.Lemmas.{stray, belong_on, belong_end}
 use Rattle.plain_tree.proofs.belongs.all_belong.Goals as goal
 
 pub returns-then-not-belongs : goal.returns-then-not-belongs

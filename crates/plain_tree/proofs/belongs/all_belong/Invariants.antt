@@ -1,5 +1,4 @@
-use Rattle.std.proofs.Common.{◌↔◌, drop}
-use Rattle.plain_tree.specs.Explains.{AllBelong}
+use Rattle.plain_tree.proofs.Lemmas.{◌↔◌, drop, AllBelong}
 use Rattle.plain_tree.proofs.belongs.all_belong.Given as goal
 
 abbrev pub invariant-loop-entry : goal.invariant-loop-entry

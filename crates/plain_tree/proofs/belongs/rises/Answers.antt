@@ -1,4 +1,4 @@
-use Rattle.plain_tree.proofs.CheckLemmas.{falls, rises_on, rises_end}
+use Rattle.plain_tree.proofs.Lemmas.{falls, rises_on, rises_end}
 use Rattle.plain_tree.proofs.belongs.rises.Goals as goal
 
 pub returns-then-entry-lowest : goal.returns-then-entry-lowest

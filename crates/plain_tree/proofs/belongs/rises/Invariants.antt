@@ -1,5 +1,4 @@
-use Rattle.std.proofs.Common.{◌↔◌, drop}
-use Rattle.plain_tree.specs.Explains.{Rises}
+use Rattle.plain_tree.proofs.Lemmas.{◌↔◌, drop, Rises}
 use Rattle.plain_tree.proofs.belongs.rises.Given as goal
 
 abbrev pub invariant-loop-entry : goal.invariant-loop-entry

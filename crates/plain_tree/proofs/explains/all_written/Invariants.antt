@@ -1,7 +1,4 @@
-use Rattle.std.proofs.Common.{◌≡◌, ℕ, ◌<◌, Some}
-use Rattle.std.specs.List.{slice_get}
-use Rattle.plain_tree.specs.declared.trace.TracedCall.{TracedCall}
-use Rattle.plain_tree.specs.Explains.{IsWritten, acts_of}
+use Rattle.plain_tree.proofs.Lemmas.{◌≡◌, ℕ, ◌<◌, Some, slice_get, TracedCall, IsWritten, acts_of}
 use Rattle.plain_tree.proofs.explains.all_written.Given as goal
 
 abbrev pub invariant-loop-id : goal.invariant-loop-id

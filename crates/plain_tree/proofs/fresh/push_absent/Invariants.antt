@@ -1,4 +1,4 @@
-use Rattle.std.proofs.Common.{◌≡◌, ◌++◌, replicate, None}
+use Rattle.plain_tree.proofs.Lemmas.{◌≡◌, ◌++◌, replicate, None}
 use Rattle.plain_tree.proofs.fresh.push_absent.Given as goal
 
 abbrev pub invariant-loop : goal.invariant-loop

@@ -1,4 +1,4 @@
-use Rattle.plain_tree.proofs.StepLaws.{step_or_nothing}
+use Rattle.plain_tree.proofs.Lemmas.{step_or_nothing}
 use Rattle.plain_tree.proofs.laws.answers_are_steps.Goals as goal
 
 pub returns : goal.returns

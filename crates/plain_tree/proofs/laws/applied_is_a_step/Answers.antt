@@ -1,6 +1,4 @@
-use Rattle.std.proofs.Common.{refl}
-use Rattle.plain_tree.specs.Applied.{applied}
-use Rattle.plain_tree.proofs.StepLaws.{applied_step}
+use Rattle.plain_tree.proofs.Lemmas.{refl, applied, applied_step}
 use Rattle.plain_tree.proofs.laws.applied_is_a_step.Goals as goal
 
 pub returns : goal.returns

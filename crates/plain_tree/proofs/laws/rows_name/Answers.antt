@@ -1,4 +1,4 @@
-use Rattle.plain_tree.proofs.RowLemmas.{rows_name}
+use Rattle.plain_tree.proofs.Lemmas.{rows_name}
 use Rattle.plain_tree.proofs.laws.rows_name.Goals as goal
 
 pub returns : goal.returns

@@ -1,4 +1,4 @@
-use Rattle.plain_tree.proofs.RowsStay.{rows_stay}
+use Rattle.plain_tree.proofs.Lemmas.{rows_stay}
 use Rattle.plain_tree.proofs.laws.rows_stay.Goals as goal
 
 pub returns : goal.returns

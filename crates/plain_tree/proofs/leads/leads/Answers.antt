@@ -1,6 +1,4 @@
-use Rattle.std.proofs.Common.{refl, arith}
-use Rattle.plain_tree.specs.Tree.{tree_of}
-use Rattle.plain_tree.proofs.LeadLemmas.{leads_more, leads_not, leads_end}
+use Rattle.plain_tree.proofs.Lemmas.{refl, arith, tree_of, leads_more, leads_not, leads_end}
 use Rattle.plain_tree.proofs.leads.leads.Goals as goal
 
 pub returns-then-not-branch : goal.returns-then-not-branch

@@ -1,6 +1,4 @@
-use Rattle.std.proofs.Common.{drop}
-use Rattle.plain_tree.specs.Tree.{tree_of}
-use Rattle.plain_tree.proofs.LeadLemmas.{LeadsSame}
+use Rattle.plain_tree.proofs.Lemmas.{drop, tree_of, LeadsSame}
 use Rattle.plain_tree.proofs.leads.leads.Given as goal
 
 abbrev pub invariant-loop-entry : goal.invariant-loop-entry

@@ -1,5 +1,4 @@
-use Rattle.std.proofs.Common.{◌≡◌, drop}
-use Rattle.plain_tree.specs.Tree.{first_slot}
+use Rattle.plain_tree.proofs.Lemmas.{◌≡◌, drop, first_slot}
 use Rattle.plain_tree.proofs.look.number_of.Given as goal
 
 abbrev pub invariant-loop-slot : goal.invariant-loop-slot

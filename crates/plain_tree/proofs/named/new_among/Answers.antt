@@ -1,5 +1,4 @@
-use Rattle.std.proofs.Common.{arith}
-use Rattle.plain_tree.proofs.MarkLemmas.{all_found}
+use Rattle.plain_tree.proofs.Lemmas.{arith, all_found}
 use Rattle.plain_tree.proofs.named.new_among.Goals as goal
 
 pub returns : goal.returns

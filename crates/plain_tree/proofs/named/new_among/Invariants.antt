@@ -1,7 +1,4 @@
-use Rattle.std.proofs.Common.{◌≡◌, ℕ, ◌<◌, true, Some, None, get_or}
-use Rattle.plain_tree.specs.declared.node.Slot.{Slot}
-use Rattle.plain_tree.specs.Tree.{first_slot}
-use Rattle.plain_tree.specs.Marks.{is_marked}
+use Rattle.plain_tree.proofs.Lemmas.{◌≡◌, ℕ, ◌<◌, true, Some, None, get_or, Slot, first_slot, is_marked}
 use Rattle.plain_tree.proofs.named.new_among.Given as goal
 
 abbrev pub invariant-loop-slot : goal.invariant-loop-slot

@@ -1,4 +1,4 @@
-use Rattle.std.proofs.Common.{◌≡◌, false, replicate}
+use Rattle.plain_tree.proofs.Lemmas.{◌≡◌, false, replicate}
 use Rattle.plain_tree.proofs.named.no_marks.Given as goal
 
 abbrev pub invariant-loop : goal.invariant-loop

@@ -1,5 +1,4 @@
-use Rattle.std.proofs.Common.{arith, ◌∙◌}
-use Rattle.plain_tree.proofs.PathLemmas.{pieces_more, found_slash, found_end}
+use Rattle.plain_tree.proofs.Lemmas.{arith, ◌∙◌, pieces_more, found_slash, found_end}
 use Rattle.plain_tree.proofs.paths.name_end.Goals as goal
 
 pub returns-then-byte-eq-SLASH-clause-cut : goal.returns-then-byte-eq-SLASH-clause-cut

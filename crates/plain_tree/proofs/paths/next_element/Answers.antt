@@ -1,5 +1,4 @@
-use Rattle.std.proofs.Common.{◌∙◌, sym}
-use Rattle.plain_tree.proofs.PathLemmas.{no_elements}
+use Rattle.plain_tree.proofs.Lemmas.{◌∙◌, sym, no_elements}
 use Rattle.plain_tree.proofs.paths.next_element.Goals as goal
 
 pub returns : goal.returns

@@ -1,5 +1,4 @@
-use Rattle.std.proofs.Common.{◌≡◌, ◌≤◌, length}
-use Rattle.plain_tree.specs.Tree.{elements}
+use Rattle.plain_tree.proofs.Lemmas.{◌≡◌, ◌≤◌, length, elements}
 use Rattle.plain_tree.proofs.paths.next_element.Given as goal
 
 abbrev pub invariant-loop-rest : goal.invariant-loop-rest

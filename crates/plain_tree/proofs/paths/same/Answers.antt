@@ -1,5 +1,4 @@
-use Rattle.std.proofs.Common.{◌∙◌}
-use Rattle.plain_tree.proofs.PathLemmas.{same_pointwise}
+use Rattle.plain_tree.proofs.Lemmas.{◌∙◌, same_pointwise}
 use Rattle.plain_tree.proofs.paths.same.Goals as goal
 
 pub returns : goal.returns

@@ -1,6 +1,4 @@
-use Rattle.std.proofs.Common.{◌+◌, ◌∙◌, subst, sym}
-use Rattle.plain_tree.specs.declared.progress.Progress.{Progress}
-use Rattle.plain_tree.proofs.ProgressLemmas.{HasCome, all_come, none_come, other_come, own_come}
+use Rattle.plain_tree.proofs.Lemmas.{◌+◌, ◌∙◌, subst, sym, Progress, HasCome, all_come, none_come, other_come, own_come}
 use Rattle.plain_tree.proofs.progress.progress_in.Goals as goal
 use Rattle.plain_tree.proofs.progress.progress_in.Goals.{then-placed-id, else-placed-id}
 

@@ -1,4 +1,4 @@
-use Rattle.plain_tree.proofs.ProgressLemmas.{HasCome}
+use Rattle.plain_tree.proofs.Lemmas.{HasCome}
 use Rattle.plain_tree.proofs.progress.progress_in.Given as goal
 
 abbrev pub invariant-loop-placed : goal.invariant-loop-placed

@@ -1,5 +1,4 @@
-use Rattle.std.proofs.Common.{sym, ◌∙◌}
-use Rattle.plain_tree.proofs.ReadLemmas.{few_unused, few_not}
+use Rattle.plain_tree.proofs.Lemmas.{sym, ◌∙◌, few_unused, few_not}
 use Rattle.plain_tree.proofs.refusal.has_entries.Goals as goal
 
 pub returns-else-slots-gt2 : goal.returns-else-slots-gt2

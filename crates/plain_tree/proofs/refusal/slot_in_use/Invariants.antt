@@ -1,5 +1,4 @@
-use Rattle.std.proofs.Common.{◌≡◌, drop}
-use Rattle.plain_tree.specs.Steps.{any_used}
+use Rattle.plain_tree.proofs.Lemmas.{◌≡◌, drop, any_used}
 use Rattle.plain_tree.proofs.refusal.slot_in_use.Given as goal
 
 abbrev pub invariant-loop-slot : goal.invariant-loop-slot

@@ -1,6 +1,4 @@
-use Rattle.std.proofs.Common.{◌∙◌, ap, sym}
-use Rattle.plain_tree.specs.Calls.{first_answer}
-use Rattle.plain_tree.proofs.ReplyLemmas.{acts_own, acts_other, acts_end}
+use Rattle.plain_tree.proofs.Lemmas.{◌∙◌, ap, sym, first_answer, acts_own, acts_other, acts_end}
 use Rattle.plain_tree.proofs.reply.first_answer.Goals as goal
 
 pub returns-then-entry-id : goal.returns-then-entry-id

@@ -1,5 +1,4 @@
-use Rattle.std.proofs.Common.{◌≡◌, drop}
-use Rattle.plain_tree.specs.Explains.{acts_of}
+use Rattle.plain_tree.proofs.Lemmas.{◌≡◌, drop, acts_of}
 use Rattle.plain_tree.proofs.reply.first_answer.Given as goal
 
 abbrev pub invariant-loop-entry : goal.invariant-loop-entry

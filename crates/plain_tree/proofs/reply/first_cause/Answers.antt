@@ -1,6 +1,4 @@
-use Rattle.std.proofs.Common.{◌∙◌, ap, sym}
-use Rattle.plain_tree.specs.Calls.{first_cause}
-use Rattle.plain_tree.proofs.ReplyLemmas.{acts_other, cause_own, cause_on, cause_end}
+use Rattle.plain_tree.proofs.Lemmas.{◌∙◌, ap, sym, first_cause, acts_other, cause_own, cause_on, cause_end}
 use Rattle.plain_tree.proofs.reply.first_cause.Goals as goal
 use Rattle.plain_tree.proofs.reply.first_cause.Goals.{then-entry-id+in-None, else-entry-id}
 

@@ -1,6 +1,4 @@
-use Rattle.std.proofs.Common.{◌≡◌, drop}
-use Rattle.plain_tree.specs.Calls.{first_cause}
-use Rattle.plain_tree.specs.Explains.{acts_of}
+use Rattle.plain_tree.proofs.Lemmas.{◌≡◌, drop, first_cause, acts_of}
 use Rattle.plain_tree.proofs.reply.first_cause.Given as goal
 
 abbrev pub invariant-loop-entry : goal.invariant-loop-entry

@@ -1,6 +1,4 @@
-use Rattle.std.proofs.Common.{◌∙◌, ap, sym}
-use Rattle.plain_tree.specs.Calls.{had_room}
-use Rattle.plain_tree.proofs.ReplyLemmas.{acts_other, no_room, room_own, room_end}
+use Rattle.plain_tree.proofs.Lemmas.{◌∙◌, ap, sym, had_room, acts_other, no_room, room_own, room_end}
 use Rattle.plain_tree.proofs.reply.had_room.Goals as goal
 use Rattle.plain_tree.proofs.reply.had_room.Goals.{else-entry-id-via-then-entry-id+else-is_full, else-entry-id-via-else-entry-id}
 

@@ -1,6 +1,4 @@
-use Rattle.std.proofs.Common.{◌≡◌, drop}
-use Rattle.plain_tree.specs.Calls.{had_room}
-use Rattle.plain_tree.specs.Explains.{acts_of}
+use Rattle.plain_tree.proofs.Lemmas.{◌≡◌, drop, had_room, acts_of}
 use Rattle.plain_tree.proofs.reply.had_room.Given as goal
 
 abbrev pub invariant-loop-entry : goal.invariant-loop-entry

@@ -1,5 +1,4 @@
-use Rattle.std.proofs.Common.{refl}
-use Rattle.plain_tree.specs.Tree.{pieces}
+use Rattle.plain_tree.proofs.Lemmas.{refl, pieces}
 use Rattle.plain_tree.proofs.rows.cuts_elements.Goals as goal
 
 pub returns : goal.returns

@@ -1,6 +1,4 @@
-use Rattle.std.proofs.Common.{ap, sym, ◌∙◌, ◌++◌}
-use Rattle.plain_tree.specs.Steps.{entry_bytes}
-use Rattle.plain_tree.proofs.SlotLemmas.{entries_more, entries_nil}
+use Rattle.plain_tree.proofs.Lemmas.{ap, sym, ◌∙◌, ◌++◌, entry_bytes, entries_more, entries_nil}
 use Rattle.plain_tree.proofs.slots.entries.Goals as goal
 
 pub loop-slot-init : goal.loop-slot-init

@@ -1,5 +1,4 @@
-use Rattle.std.proofs.Common.{◌≡◌, take}
-use Rattle.plain_tree.specs.Steps.{entries}
+use Rattle.plain_tree.proofs.Lemmas.{◌≡◌, take, entries}
 use Rattle.plain_tree.proofs.slots.entries.Given as goal
 
 abbrev pub invariant-loop-slot : goal.invariant-loop-slot

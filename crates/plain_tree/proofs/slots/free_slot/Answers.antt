@@ -1,4 +1,4 @@
-use Rattle.plain_tree.proofs.SlotLemmas.{free_next, free_found, free_end}
+use Rattle.plain_tree.proofs.Lemmas.{free_next, free_found, free_end}
 use Rattle.plain_tree.proofs.slots.free_slot.Goals as goal
 
 pub returns-in-None : goal.returns-in-None

@@ -1,6 +1,4 @@
-use Rattle.std.proofs.Common.{◌≡◌, ◌++◌, take, drop}
-use Rattle.plain_tree.specs.declared.node.Slot.{Slot}
-use Rattle.plain_tree.specs.Steps.{first_free}
+use Rattle.plain_tree.proofs.Lemmas.{◌≡◌, ◌++◌, take, drop, Slot, first_free}
 use Rattle.plain_tree.proofs.slots.free_slot.Given as goal
 
 abbrev pub invariant-loop-i : goal.invariant-loop-i

@@ -1,4 +1,4 @@
-use Rattle.std.proofs.Common.{◌≡◌, ◌++◌, replicate}
+use Rattle.plain_tree.proofs.Lemmas.{◌≡◌, ◌++◌, replicate}
 use Rattle.plain_tree.proofs.slots.push_zeros.Given as goal
 
 abbrev pub invariant-loop : goal.invariant-loop

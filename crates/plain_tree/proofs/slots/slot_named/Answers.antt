@@ -1,6 +1,4 @@
-use Rattle.std.proofs.Common.{ap, sym, ◌∙◌, ◌≡◌, true, false}
-use Rattle.plain_tree.specs.Tree.{same_name}
-use Rattle.plain_tree.proofs.SlotLemmas.{pass_none, pass_other, clears_found, clears_none}
+use Rattle.plain_tree.proofs.Lemmas.{ap, sym, ◌∙◌, ◌≡◌, true, false, same_name, pass_none, pass_other, clears_found, clears_none}
 use Rattle.plain_tree.proofs.slots.slot_named.Goals as goal
 use Rattle.plain_tree.proofs.slots.slot_named.Goals.{in-None, in-Some+else-same}
 

@@ -1,5 +1,4 @@
-use Rattle.std.proofs.Common.{◌≡◌, ◌++◌, take, drop}
-use Rattle.plain_tree.specs.Steps.{cleared}
+use Rattle.plain_tree.proofs.Lemmas.{◌≡◌, ◌++◌, take, drop, cleared}
 use Rattle.plain_tree.proofs.slots.slot_named.Given as goal
 
 abbrev pub invariant-loop-i : goal.invariant-loop-i

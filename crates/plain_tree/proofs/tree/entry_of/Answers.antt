@@ -1,4 +1,4 @@
-use Rattle.plain_tree.proofs.TreeLemmas.{none_next}
+use Rattle.plain_tree.proofs.Lemmas.{none_next}
 use Rattle.plain_tree.proofs.tree.entry_of.Goals as goal
 
 pub loop-i-preserved : goal.loop-i-preserved

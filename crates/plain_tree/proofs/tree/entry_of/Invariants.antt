@@ -1,5 +1,4 @@
-use Rattle.std.proofs.Common.{◌≡◌, None, take}
-use Rattle.plain_tree.specs.Tree.{file_in}
+use Rattle.plain_tree.proofs.Lemmas.{◌≡◌, None, take, file_in}
 use Rattle.plain_tree.proofs.tree.entry_of.Given as goal
 
 abbrev pub invariant-loop-i : goal.invariant-loop-i

@@ -1,6 +1,4 @@
-use Rattle.std.proofs.Common.{◌+◌, ◌∙◌, refl, subst, sym}
-use Rattle.plain_tree.specs.declared.progress.Progress.{Progress}
-use Rattle.plain_tree.proofs.ProgressLemmas.{HasCome, none_come, other_come, own_come, follows_none, own_follows, other_follows, all_follow, next_follows}
+use Rattle.plain_tree.proofs.Lemmas.{◌+◌, ◌∙◌, refl, subst, sym, Progress, HasCome, none_come, other_come, own_come, follows_none, own_follows, other_follows, all_follow, next_follows}
 use Rattle.plain_tree.proofs.written.is_beginning.Goals as goal
 use Rattle.plain_tree.proofs.written.is_beginning.Goals.{then-placed-id+else-not-is_next, else-placed-id}
 

@@ -1,7 +1,4 @@
-use Rattle.std.proofs.Common.{[], take}
-use Rattle.plain_tree.specs.Calls.{Follows}
-use Rattle.plain_tree.specs.Explains.{acts_of}
-use Rattle.plain_tree.proofs.ProgressLemmas.{HasCome}
+use Rattle.plain_tree.proofs.Lemmas.{[], take, Follows, acts_of, HasCome}
 use Rattle.plain_tree.proofs.written.is_beginning.Given as goal
 
 abbrev pub invariant-loop-placed : goal.invariant-loop-placed

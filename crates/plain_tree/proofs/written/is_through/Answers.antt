@@ -1,4 +1,4 @@
-use Rattle.plain_tree.proofs.ProgressLemmas.{through_decides}
+use Rattle.plain_tree.proofs.Lemmas.{through_decides}
 use Rattle.plain_tree.proofs.written.is_through.Goals as goal
 
 pub returns : goal.returns

@@ -1,11 +1,9 @@
 use denote.RattleType.{RattleType}
 use denote.Param.SendFields.{declared_send}
-use Rattle.std.proofs.Crossing.{crosses}
-use Rattle.std.specs.declared.sync.ledger.Ledger.{Ghosts}
+use Rattle.runner_tests.proofs.Lemmas.{crosses, Ghosts, four_send, kernel_sync, seat_send}
 use Rattle.plain_tree.proofs.call.Call.TheSendSync as call
 use denote.Exit.{no}
 use denote.Param.Send.{IsSend, sendable, param_send, arg_send, shr_send}
-use Rattle.hart_runner.proofs.Sent.{four_send, kernel_sync, seat_send}
 use Rattle.runner_tests.specs.contracts.work.two_work.{L-row, G-row}
 use Rattle.runner_tests.specs.contracts.work.Task as task
 use Rattle.runner_tests.proofs.work.two_work.Goals as goal

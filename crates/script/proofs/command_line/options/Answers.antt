@@ -1,6 +1,4 @@
-use Rattle.std.proofs.Common.{map, string_bytes}
-use Rattle.script.specs.Options.{console_line}
-use Rattle.script.proofs.Reading.{faults_as, line_is_simple, read_as}
+use Rattle.script.proofs.Lemmas.{map, string_bytes, console_line, faults_as, line_is_simple, read_as}
 use Rattle.script.proofs.command_line.options.Goals as goal
 
 pub returns-clause-values : goal.returns-clause-values

@@ -1,5 +1,4 @@
-use Rattle.std.proofs.Common.{◌≡◌, drop}
-use Rattle.script.specs.Words.{value_after}
+use Rattle.script.proofs.Lemmas.{◌≡◌, drop, value_after}
 use Rattle.script.proofs.digits.digits_value.Given as goal
 
 abbrev pub invariant-loop-byte : goal.invariant-loop-byte

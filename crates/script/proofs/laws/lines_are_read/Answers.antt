@@ -1,9 +1,4 @@
-use Rattle.std.proofs.Common.{◌≡◌, Bool, true, false, cond, Option, Some, None, refl, ap, ◌∙◌}
-use Rattle.std.proofs.lemmas.Option.{none-some}
-use Rattle.script.specs.Said.{Line}
-use Rattle.script.specs.Reading.{words_of, line_in, ends_in_return}
-use Rattle.script.proofs.Saying.{line_read}
-use Rattle.script.proofs.Standing.{line_says}
+use Rattle.script.proofs.Lemmas.{◌≡◌, Bool, true, false, cond, Option, Some, None, refl, ap, ◌∙◌, none-some, Line, words_of, line_in, ends_in_return, line_read, line_says}
 use Rattle.script.proofs.laws.lines_are_read.Goals as goal
 
 -- what is said although a line may end in a carriage return is said in one that doesn't

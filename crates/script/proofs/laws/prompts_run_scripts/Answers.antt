@@ -1,4 +1,4 @@
-use Rattle.script.proofs.Prompting.{is_run, run_is_said}
+use Rattle.script.proofs.Lemmas.{is_run, run_is_said}
 use Rattle.script.proofs.laws.prompts_run_scripts.Goals as goal
 
 pub returns : goal.returns

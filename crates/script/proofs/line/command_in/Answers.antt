@@ -1,11 +1,4 @@
-use Rattle.std.proofs.Common.{rules, tests, arith, ap, ◌∙◌, subst, length, ◌==◌}
-use Rattle.std.proofs.lemmas.Iterator.Splits.{YieldsList-from_slice_split}
-use Rattle.std.proofs.lemmas.Iterator.Consumers.{YieldsList-turn, YieldsList-end}
-use Rattle.std.specs.Slice.Iter.{split_rest, split_done, split_callee}
-use Rattle.script.specs.Reading.{line_in, words_of}
-use Rattle.script.specs.Said.{line_said}
-use Rattle.script.specs.Gives.{Gives, words_now}
-use Rattle.script.proofs.Lines.{too_many_words}
+use Rattle.script.proofs.Lemmas.{rules, tests, arith, ap, ◌∙◌, subst, length, ◌==◌, YieldsList-from_slice_split, YieldsList-turn, YieldsList-end, split_rest, split_done, split_callee, line_in, words_of, line_said, Gives, words_now, too_many_words}
 use Rattle.script.proofs.line.command_in.Goals as goal
 
 -- src/line.rt:22:1

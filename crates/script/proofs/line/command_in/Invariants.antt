@@ -1,4 +1,4 @@
-use Rattle.std.proofs.Common.{◌≡◌}
+use Rattle.script.proofs.Lemmas.{◌≡◌}
 use Rattle.script.proofs.line.command_in.Given as goal
 
 abbrev pub invariant-loop-word : goal.invariant-loop-word

@@ -1,7 +1,4 @@
-use Rattle.std.proofs.Common.{rules, ◌∷◌, [], get_or}
-use Rattle.std.specs.Io.KnownBytes.{Appends}
-use Rattle.script.specs.Text.{hex}
-use Rattle.script.proofs.Appending.{hex_turn}
+use Rattle.script.proofs.Lemmas.{rules, ◌∷◌, [], get_or, Appends, hex, hex_turn}
 use Rattle.script.proofs.replies.write_hex.Goals as goal
 
 -- src/text.rt:83:5

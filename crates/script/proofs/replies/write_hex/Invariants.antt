@@ -1,6 +1,4 @@
-use Rattle.std.proofs.Common.{take}
-use Rattle.std.specs.Io.KnownBytes.{Appends}
-use Rattle.script.specs.Text.{hex}
+use Rattle.script.proofs.Lemmas.{take, Appends, hex}
 use Rattle.script.proofs.replies.write_hex.Given as goal
 
 abbrev pub invariant-loop-byte : goal.invariant-loop-byte

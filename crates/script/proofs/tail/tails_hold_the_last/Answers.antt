@@ -1,4 +1,4 @@
-use Rattle.script.proofs.Tailing.{all_noted}
+use Rattle.script.proofs.Lemmas.{all_noted}
 use Rattle.script.proofs.tail.tails_hold_the_last.Goals as goal
 
 pub returns : goal.returns

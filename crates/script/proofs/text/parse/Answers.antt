@@ -1,13 +1,4 @@
-use Rattle.std.proofs.Common.{rules, tests, arith, ◌≡◌, ◌==◌, ◌+◌, [], ◌∷◌, ◌++◌, ap, sym, ◌∙◌, subst, length, drop, map}
-use Rattle.std.proofs.lemmas.Iterator.Splits.{YieldsList-from_slice_split}
-use Rattle.std.proofs.lemmas.Iterator.Consumers.{YieldsList-turn, YieldsList-end}
-use Rattle.std.proofs.lemmas.List.{length_push, map-append}
-use Rattle.std.specs.Slice.Iter.{split_rest, split_done, split_callee}
-use Rattle.script.specs.declared.command.ScriptLine.{ScriptLine}
-use Rattle.script.specs.Said.{line_said, numbered}
-use Rattle.script.specs.Reading.{lines_of, lines_from, said_in}
-use Rattle.script.specs.Gives.{Fails}
-use Rattle.script.proofs.Scripts.{with_lines, none_left, passed_over, nothing_said, one_said}
+use Rattle.script.proofs.Lemmas.{rules, tests, arith, ◌≡◌, ◌==◌, ◌+◌, [], ◌∷◌, ◌++◌, ap, sym, ◌∙◌, subst, length, drop, map, YieldsList-from_slice_split, YieldsList-turn, YieldsList-end, length_push, map-append, split_rest, split_done, split_callee, ScriptLine, line_said, numbered, lines_of, lines_from, said_in, Fails, with_lines, none_left, passed_over, nothing_said, one_said}
 use Rattle.script.proofs.text.parse.Goals as goal
 
 -- src/text.rt:11:1

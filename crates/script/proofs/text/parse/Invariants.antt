@@ -1,7 +1,4 @@
-use Rattle.std.proofs.Common.{◌≡◌, ◌+◌, length, map, drop}
-use Rattle.script.specs.Said.{numbered}
-use Rattle.script.specs.Reading.{lines_from, lines_of, script_in}
-use Rattle.script.proofs.Scripts.{with_lines}
+use Rattle.script.proofs.Lemmas.{◌≡◌, ◌+◌, length, map, drop, numbered, lines_from, lines_of, script_in, with_lines}
 use Rattle.script.proofs.text.parse.Given as goal
 
 abbrev pub invariant-loop-line : goal.invariant-loop-line

@@ -1,9 +1,4 @@
-use Rattle.std.proofs.Common.{rules, arith, min, length, Some, ap, sym, ◌∙◌}
-use Rattle.std.proofs.lemmas.List.{append-nil}
-use Rattle.std.specs.Option.{option_and_then}
-use Rattle.std.specs.Slice.Iter.{chunks_rest}
-use Rattle.script.specs.Words.{with_first, pairs_in}
-use Rattle.script.proofs.Pairs.{with_front, one_pair, no_pair, push_front}
+use Rattle.script.proofs.Lemmas.{rules, arith, min, length, Some, ap, sym, ◌∙◌, append-nil, option_and_then, chunks_rest, with_first, pairs_in, with_front, one_pair, no_pair, push_front}
 use Rattle.script.proofs.words.hex_bytes.Goals as goal
 
 -- src/words.rt:41:13

@@ -1,7 +1,4 @@
-use Rattle.std.proofs.Common.{◌≡◌}
-use Rattle.std.specs.Slice.Iter.{chunks_rest, chunks_size}
-use Rattle.script.specs.Words.{pairs_in}
-use Rattle.script.proofs.Pairs.{with_front}
+use Rattle.script.proofs.Lemmas.{◌≡◌, chunks_rest, chunks_size, pairs_in, with_front}
 use Rattle.script.proofs.words.hex_bytes.Given as goal
 
 abbrev pub invariant-loop-pair : goal.invariant-loop-pair

@@ -1,11 +1,4 @@
-use Rattle.std.proofs.Common.{[]}
-use Rattle.syscalls.proofs.Closing.{close_runs, inherit_runs, stat_runs}
-use Rattle.syscalls.proofs.Describing.{dup_runs, read_runs, write_runs}
-use Rattle.syscalls.proofs.Walking.{chdir_runs}
-use Rattle.syscalls.proofs.Opening.{open_runs}
-use Rattle.syscalls.proofs.Linking.{link_runs}
-use Rattle.syscalls.proofs.Making.{mkdir_runs}
-use Rattle.syscalls.proofs.Unlinking.{unlink_runs}
+use Rattle.syscalls.proofs.Lemmas.{[], close_runs, inherit_runs, stat_runs, dup_runs, read_runs, write_runs, chdir_runs, open_runs, link_runs, mkdir_runs, unlink_runs}
 use Rattle.syscalls.proofs.laws.calls_find_what_they_ask.Goals as goal
 
 pub returns : goal.returns

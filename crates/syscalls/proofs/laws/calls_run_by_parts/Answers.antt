@@ -1,15 +1,5 @@
-use Rattle.std.proofs.Common.{[], ◌++◌}
-use Rattle.plain_tree.specs.declared.call.Call.{Call}
+use Rattle.syscalls.proofs.Lemmas.{[], ◌++◌, Call, IsCall, path_of, RunsByParts, close_runs, inherit_runs, stat_runs, dup_runs, read_runs, write_runs, chdir_runs, open_runs, link_runs, mkdir_runs, unlink_runs}
 use Rattle.plain_tree.specs.declared.call.Call.TheVariants as calls
-use Rattle.whole_calls.specs.Wholes.{IsCall}
-use Rattle.inode_parts.specs.Calls.{path_of, RunsByParts}
-use Rattle.syscalls.proofs.Closing.{close_runs, inherit_runs, stat_runs}
-use Rattle.syscalls.proofs.Describing.{dup_runs, read_runs, write_runs}
-use Rattle.syscalls.proofs.Walking.{chdir_runs}
-use Rattle.syscalls.proofs.Opening.{open_runs}
-use Rattle.syscalls.proofs.Linking.{link_runs}
-use Rattle.syscalls.proofs.Making.{mkdir_runs}
-use Rattle.syscalls.proofs.Unlinking.{unlink_runs}
 use Rattle.syscalls.proofs.laws.calls_run_by_parts.Goals as goal
 
 each : (call : Call) → IsCall call → RunsByParts (path_of call) call

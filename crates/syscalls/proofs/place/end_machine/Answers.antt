@@ -1,4 +1,4 @@
-use Rattle.syscalls.proofs.Places.{has_nothing}
+use Rattle.syscalls.proofs.Lemmas.{has_nothing}
 use Rattle.syscalls.proofs.place.end_machine.Goals as goal
 
 pub end-requires : goal.end-requires

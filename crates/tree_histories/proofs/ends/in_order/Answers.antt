@@ -1,7 +1,4 @@
-use Rattle.std.proofs.Common.{rules, arith}
-use Rattle.tree_histories.specs.declared.ends.Due.{Due}
-use Rattle.std.proofs.lemmas.List.Sorted.{IsNonDecreasingBy-from_sort_by_key}
-use Rattle.tree_histories.proofs.OrderLemmas.{in_order}
+use Rattle.tree_histories.proofs.Lemmas.{rules, arith, Due, IsNonDecreasingBy-from_sort_by_key, in_order}
 use Rattle.tree_histories.proofs.ends.in_order.Goals as goal
 
 pub returns : goal.returns

@@ -1,4 +1,4 @@
-use Rattle.tree_histories.proofs.OrderLemmas.{HasEnds}
+use Rattle.tree_histories.proofs.Lemmas.{HasEnds}
 use Rattle.tree_histories.proofs.ends.in_order.Given as goal
 
 abbrev pub invariant-loop-id : goal.invariant-loop-id

@@ -1,4 +1,4 @@
-use Rattle.tree_histories.proofs.ExploreLemmas.{explored, found_explains}
+use Rattle.tree_histories.proofs.Lemmas.{explored, found_explains}
 use Rattle.tree_histories.proofs.explore.find_history.Goals as goal
 
 pub returns-then-branch : goal.returns-then-branch

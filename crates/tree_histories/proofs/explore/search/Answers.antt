@@ -1,4 +1,4 @@
-use Rattle.tree_histories.proofs.ExploreLemmas.{explored, explored_not, found_explains, none_explains}
+use Rattle.tree_histories.proofs.Lemmas.{explored, explored_not, found_explains, none_explains}
 use Rattle.tree_histories.proofs.explore.search.Goals as goal
 
 pub returns-then-branch : goal.returns-then-branch

@@ -1,7 +1,4 @@
-use Rattle.plain_tree.specs.Tree.{tree_of}
-use Rattle.path_walk.specs.Asks.{asks}
-use Rattle.whole_calls.specs.Wholes.{whole_of}
-use Rattle.tree_histories.proofs.Seeing.{seen_take}
+use Rattle.tree_histories.proofs.Lemmas.{tree_of, asks, whole_of, seen_take}
 use Rattle.tree_histories.proofs.kept.seen.Goals as goal
 
 pub returns-in-Take : goal.returns-in-Take

@@ -1,5 +1,4 @@
-use Rattle.std.proofs.Common.{sym, ◌∙◌}
-use Rattle.tree_histories.proofs.Climbing.{climbs_here, climbs_after, climbs_nowhere}
+use Rattle.tree_histories.proofs.Lemmas.{sym, ◌∙◌, climbs_here, climbs_after, climbs_nowhere}
 use Rattle.tree_histories.proofs.paths.climbs.Goals as goal
 
 pub returns-then-is_dotdot : goal.returns-then-is_dotdot

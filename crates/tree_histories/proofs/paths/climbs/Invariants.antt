@@ -1,5 +1,4 @@
-use Rattle.std.proofs.Common.{◌≡◌, length}
-use Rattle.plain_tree.specs.Tree.{climbs}
+use Rattle.tree_histories.proofs.Lemmas.{◌≡◌, length, climbs}
 use Rattle.tree_histories.proofs.paths.climbs.Given as goal
 
 abbrev pub invariant-loop-element : goal.invariant-loop-element

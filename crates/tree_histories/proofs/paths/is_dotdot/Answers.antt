@@ -1,6 +1,4 @@
-use Rattle.std.proofs.Common.{◌∙◌, ap}
-use Rattle.plain_tree.specs.Tree.{same_name}
-use Rattle.plain_tree.proofs.PathLemmas.{same_pointwise}
+use Rattle.tree_histories.proofs.Lemmas.{◌∙◌, ap, same_name, same_pointwise}
 use Rattle.tree_histories.proofs.paths.is_dotdot.Goals as goal
 
 pub returns : goal.returns

@@ -1,5 +1,4 @@
-use Rattle.std.proofs.Common.{◌≡◌, [], take, drop}
-use Rattle.plain_tree.specs.Tree.{pieces}
+use Rattle.tree_histories.proofs.Lemmas.{◌≡◌, [], take, drop, pieces}
 use Rattle.tree_histories.proofs.paths.name_end.Given as goal
 
 abbrev pub invariant-loop-i : goal.invariant-loop-i

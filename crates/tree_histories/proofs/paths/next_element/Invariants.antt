@@ -1,6 +1,4 @@
-use Rattle.std.proofs.Common.{◌≡◌, ◌≤◌, length}
-use Rattle.plain_tree.specs.Tree.{elements}
-use Rattle.tree_histories.specs.Ends.{IsEnd}
+use Rattle.tree_histories.proofs.Lemmas.{◌≡◌, ◌≤◌, length, elements, IsEnd}
 use Rattle.tree_histories.proofs.paths.next_element.Given as goal
 
 abbrev pub invariant-loop-rest : goal.invariant-loop-rest

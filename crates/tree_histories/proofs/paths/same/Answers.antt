@@ -1,5 +1,4 @@
-use Rattle.std.proofs.Common.{◌∙◌}
-use Rattle.plain_tree.proofs.PathLemmas.{same_pointwise}
+use Rattle.tree_histories.proofs.Lemmas.{◌∙◌, same_pointwise}
 use Rattle.tree_histories.proofs.paths.same.Goals as goal
 
 pub returns : goal.returns

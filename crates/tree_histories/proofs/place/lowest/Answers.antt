@@ -1,5 +1,4 @@
-use Rattle.std.proofs.Common.{◌∙◌}
-use Rattle.plain_tree.proofs.ReadLemmas.{lowest_next}
+use Rattle.tree_histories.proofs.Lemmas.{◌∙◌, lowest_next}
 use Rattle.tree_histories.proofs.place.lowest.Goals as goal
 
 pub loop-fd-preserved : goal.loop-fd-preserved

@@ -1,5 +1,4 @@
-use Rattle.std.proofs.Common.{sym}
-use Rattle.tree_histories.proofs.ListLemmas.{last_at, last_none}
+use Rattle.tree_histories.proofs.Lemmas.{sym, last_at, last_none}
 use Rattle.tree_histories.proofs.position.last_event.Goals as goal
 
 pub returns-in-Some : goal.returns-in-Some

@@ -1,7 +1,4 @@
-use Rattle.std.proofs.Common.{◌∙◌, ap, arith}
-use Rattle.tree_histories.specs.declared.stand.Stand.{Stand}
-use Rattle.tree_histories.specs.Stands.{after}
-use Rattle.tree_histories.proofs.PlaceLemmas.{stand_none, stand_other, stand_own}
+use Rattle.tree_histories.proofs.Lemmas.{◌∙◌, ap, arith, Stand, after, stand_none, stand_other, stand_own}
 use Rattle.tree_histories.proofs.position.stand_in.Goals as goal
 use Rattle.tree_histories.proofs.position.stand_in.Goals.{then-placed-id, else-placed-id}
 

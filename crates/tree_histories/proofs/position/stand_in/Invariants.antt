@@ -1,6 +1,4 @@
-use Rattle.std.proofs.Common.{◌≡◌, ◌≤◌, take}
-use Rattle.plain_tree.specs.Explains.{acts_of}
-use Rattle.tree_histories.specs.Stands.{stand_of}
+use Rattle.tree_histories.proofs.Lemmas.{◌≡◌, ◌≤◌, take, acts_of, stand_of}
 use Rattle.tree_histories.proofs.position.stand_in.Given as goal
 
 abbrev pub invariant-loop-placed : goal.invariant-loop-placed

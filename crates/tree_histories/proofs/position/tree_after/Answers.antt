@@ -1,9 +1,4 @@
-use Rattle.std.proofs.Common.{[], subst, sym}
-use Rattle.plain_tree.specs.Explains.{Chain}
-use Rattle.plain_tree.specs.TreeData.{TreeData}
-use Rattle.plain_tree.specs.Tree.{tree_of}
-use Rattle.tree_histories.proofs.ListLemmas.{chain_none}
-use Rattle.tree_histories.proofs.PlaceLemmas.{leads_next}
+use Rattle.tree_histories.proofs.Lemmas.{[], subst, sym, Chain, TreeData, tree_of, chain_none, leads_next}
 use Rattle.tree_histories.proofs.position.tree_after.Goals as goal
 
 pub loop-entry-init : goal.loop-entry-init

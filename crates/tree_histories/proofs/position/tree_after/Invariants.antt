@@ -1,6 +1,4 @@
-use Rattle.std.proofs.Common.{take}
-use Rattle.plain_tree.specs.Explains.{Chain}
-use Rattle.plain_tree.specs.Tree.{tree_of}
+use Rattle.tree_histories.proofs.Lemmas.{take, Chain, tree_of}
 use Rattle.tree_histories.proofs.position.tree_after.Given as goal
 
 abbrev pub invariant-loop-entry : goal.invariant-loop-entry

@@ -1,5 +1,4 @@
-use Rattle.plain_tree.specs.Tree.{tree_of}
-use Rattle.tree_histories.proofs.Seeing.{found_name}
+use Rattle.tree_histories.proofs.Lemmas.{tree_of, found_name}
 use Rattle.tree_histories.proofs.sees.found_in.Goals as goal
 
 pub returns-in-Name : goal.returns-in-Name

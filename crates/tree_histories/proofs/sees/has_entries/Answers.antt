@@ -1,5 +1,4 @@
-use Rattle.std.proofs.Common.{sym, ◌∙◌}
-use Rattle.plain_tree.proofs.ReadLemmas.{few_unused, few_not}
+use Rattle.tree_histories.proofs.Lemmas.{sym, ◌∙◌, few_unused, few_not}
 use Rattle.tree_histories.proofs.sees.has_entries.Goals as goal
 
 pub returns-else-slots-gt-FIRST_SLOTS : goal.returns-else-slots-gt-FIRST_SLOTS

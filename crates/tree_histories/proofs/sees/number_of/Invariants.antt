@@ -1,5 +1,4 @@
-use Rattle.std.proofs.Common.{◌≡◌, drop}
-use Rattle.plain_tree.specs.Tree.{first_slot}
+use Rattle.tree_histories.proofs.Lemmas.{◌≡◌, drop, first_slot}
 use Rattle.tree_histories.proofs.sees.number_of.Given as goal
 
 abbrev pub invariant-loop-slot : goal.invariant-loop-slot

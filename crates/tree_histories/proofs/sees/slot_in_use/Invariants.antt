@@ -1,5 +1,4 @@
-use Rattle.std.proofs.Common.{◌≡◌, drop}
-use Rattle.plain_tree.specs.Steps.{any_used}
+use Rattle.tree_histories.proofs.Lemmas.{◌≡◌, drop, any_used}
 use Rattle.tree_histories.proofs.sees.slot_in_use.Given as goal
 
 abbrev pub invariant-loop-slot : goal.invariant-loop-slot

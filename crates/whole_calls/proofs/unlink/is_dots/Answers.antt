@@ -1,6 +1,4 @@
-use Rattle.std.proofs.Common.{◌≡◌, ◌∙◌, length, get_or, nat_eq, Bool, true, false, ◌&&◌, sym, ap, arith, eq-eqb}
-use Rattle.std.proofs.lemmas.Bool.{ne_eqb}
-use Rattle.whole_calls.proofs.Dots.{one_dots, two_dots, more_dots}
+use Rattle.whole_calls.proofs.Lemmas.{◌≡◌, ◌∙◌, length, get_or, nat_eq, Bool, true, false, ◌&&◌, sym, ap, arith, eq-eqb, ne_eqb, one_dots, two_dots, more_dots}
 use Rattle.whole_calls.proofs.unlink.is_dots.Goals as goal
 
 pub returns-then-len-eq1 : goal.returns-then-len-eq1

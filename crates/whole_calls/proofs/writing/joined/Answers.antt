@@ -1,5 +1,4 @@
-use Rattle.std.proofs.Common.{sym}
-use Rattle.whole_calls.proofs.Writes.{from_is}
+use Rattle.whole_calls.proofs.Lemmas.{sym, from_is}
 use Rattle.whole_calls.proofs.writing.joined.Goals as goal
 
 pub returns-in-For-clause-goes : goal.returns-in-For-clause-goes

@@ -1,8 +1,4 @@
-use Rattle.std.proofs.Common.{false, refl, sym, arith, subst}
-use Rattle.atomic_programs.specs.Tables.{IsKept}
-use Rattle.atomic_programs.specs.Cell.{Cell, rest, swaps}
-use Rattle.atomic_programs.specs.CellCode.{machine_of, MachineFits, code}
-use Rattle.atomic_programs.proofs.Tables.{kept_first}
+use Rattle.atomic_programs.proofs.Lemmas.{false, refl, sym, arith, subst, IsKept, Cell, rest, swaps, machine_of, MachineFits, code, kept_first}
 use Rattle.atomic_programs.proofs.cell.World.new.Goals as goal
 
 pub invariant_of-result : goal.invariant_of-result

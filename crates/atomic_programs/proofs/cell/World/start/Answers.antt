@@ -1,11 +1,4 @@
-use Rattle.std.proofs.Common.{◌≡◌, subst}
-use Rattle.atomic_programs.specs.Calls.{Start, is_some}
-use Rattle.atomic_programs.specs.Plain.{plain_makes}
-use Rattle.atomic_programs.specs.Machines.{programs_in}
-use Rattle.atomic_programs.specs.Cell.{swaps}
-use Rattle.atomic_programs.specs.CellCode.{Harts, call_of, outcome_of, machine_of, MachineFits, code, plain_of}
-use Rattle.atomic_programs.proofs.Tables.{start_gives, kept_on}
-use Rattle.atomic_programs.proofs.Harts.{is_code}
+use Rattle.atomic_programs.proofs.Lemmas.{◌≡◌, subst, Start, is_some, plain_makes, programs_in, swaps, Harts, call_of, outcome_of, machine_of, MachineFits, code, plain_of, start_gives, kept_on, is_code}
 use Rattle.atomic_programs.proofs.cell.World.start.Goals as goal
 
 pub invariant_of-self : goal.invariant_of-self

@@ -1,11 +1,4 @@
-use Rattle.std.proofs.Common.{◌≡◌, subst}
-use Rattle.atomic_programs.specs.Calls.{Step}
-use Rattle.atomic_programs.specs.Plain.{plain_makes, PlainHonest}
-use Rattle.atomic_programs.specs.Cell.{swaps}
-use Rattle.atomic_programs.specs.CellCode.{Harts, said, outcome_of, machine_of, MachineFits, code, plain_of}
-use Rattle.atomic_programs.proofs.Tables.{step_gives, honest_here, kept_on, may_here, fits_here}
-use Rattle.atomic_programs.proofs.Harts.{is_code}
-use Rattle.atomic_programs.proofs.Swapping.{lawful}
+use Rattle.atomic_programs.proofs.Lemmas.{◌≡◌, subst, Step, plain_makes, PlainHonest, swaps, Harts, said, outcome_of, machine_of, MachineFits, code, plain_of, step_gives, honest_here, kept_on, may_here, fits_here, is_code, lawful}
 use Rattle.atomic_programs.proofs.cell.World.step.Goals as goal
 
 -- what the logic shows of the hart's next operation is what its machine asks

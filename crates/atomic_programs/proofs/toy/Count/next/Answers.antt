@@ -1,4 +1,4 @@
-use Rattle.atomic_programs.proofs.Counting.{goes_down}
+use Rattle.atomic_programs.proofs.Lemmas.{goes_down}
 use Rattle.atomic_programs.proofs.toy.Count.next.Goals as goal
 
 pub returns-else-self-eq0 : goal.returns-else-self-eq0

@@ -1,7 +1,4 @@
-use Rattle.std.proofs.Common.{sym}
-use Rattle.atomic_programs.specs.Toy.{Twice, answer_to, counting, handler, lower, part_of, upper}
-use Rattle.atomic_programs.proofs.Below.{part_begins}
-use Rattle.atomic_programs.proofs.Counting.{asks_twice}
+use Rattle.atomic_programs.proofs.Lemmas.{sym, Twice, answer_to, counting, handler, lower, part_of, upper, part_begins, asks_twice}
 use Rattle.atomic_programs.proofs.toy.Under.new.Goals as goal
 
 pub returns : goal.returns

@@ -1,7 +1,4 @@
-use Rattle.atomic_programs.specs.Prog.{WentOn}
-use Rattle.atomic_programs.specs.Toy.{Tick, Twice, answer_to, control_of, exec, handler, kind, lower, part_of, upper}
-use Rattle.atomic_programs.proofs.Below.{begins_next, goes_on}
-use Rattle.atomic_programs.proofs.Counting.{asks_twice}
+use Rattle.atomic_programs.proofs.Lemmas.{WentOn, Tick, Twice, answer_to, control_of, exec, handler, kind, lower, part_of, upper, begins_next, goes_on, asks_twice}
 use Rattle.atomic_programs.proofs.toy.Under.step.Goals as goal
 
 pub returns-in-Ran : goal.returns-in-Ran

@@ -1,11 +1,4 @@
-use Rattle.std.proofs.Common.{List, refl, sym, subst}
-use Rattle.std.proofs.lemmas.Result.{on_ok_weaker}
-use Rattle.buffer_cache.specs.Seats.{SeatState, has_block, with_content}
-use Rattle.buffer_cache.specs.Order.{IsLinked}
-use Rattle.buffer_cache.proofs.Seated.{either_way}
-use Rattle.buffer_cache.proofs.Ordered.{once_of}
-use Rattle.buffer_cache.proofs.Kept.{held_of, keeps_filled}
-use Rattle.buffer_cache.proofs.Chained.{chained_with}
+use Rattle.buffer_cache.proofs.Lemmas.{List, refl, sym, subst, on_ok_weaker, SeatState, has_block, with_content, IsLinked, either_way, once_of, held_of, keeps_filled, chained_with}
 use Rattle.buffer_cache.proofs.buffers.Buffers.fill.Goals as goal
 
 pub fill_in-requires-clause-held : goal.fill_in-requires-clause-held

@@ -1,5 +1,4 @@
-use Rattle.buffer_cache.specs.Seats.{has_block}
-use Rattle.buffer_cache.proofs.Ordered.{once_of}
+use Rattle.buffer_cache.proofs.Lemmas.{has_block, once_of}
 use Rattle.buffer_cache.proofs.buffers.Buffers.get.Goals as goal
 
 pub get_in-requires-clause-once : goal.get_in-requires-clause-once

@@ -1,12 +1,4 @@
-use Rattle.std.proofs.Common.{rules, ◌≡◌, ◌<◌, ℕ, List, length, Option, Some, sym, ◌∙◌, ap, subst}
-use Rattle.std.specs.List.{position}
-use Rattle.std.specs.Prelude.{IfSome}
-use Rattle.buffer_cache.specs.Seats.{SeatState, has_block}
-use Rattle.buffer_cache.specs.Getting.{get_of}
-use Rattle.buffer_cache.specs.Order.{numbered}
-use Rattle.buffer_cache.proofs.Ordered.{numbered_read, once_of}
-use Rattle.buffer_cache.proofs.Kept.{IsIn, slot_in, keeps_lent}
-use Rattle.buffer_cache.proofs.Chained.{chained_lent}
+use Rattle.buffer_cache.proofs.Lemmas.{rules, ◌≡◌, ◌<◌, ℕ, List, length, Option, Some, sym, ◌∙◌, ap, subst, position, IfSome, SeatState, has_block, get_of, numbered, numbered_read, once_of, IsIn, slot_in, keeps_lent, chained_lent}
 use Rattle.buffer_cache.proofs.buffers.Buffers.get_at.Goals as goal
 
 -- the block that the code read

@@ -1,10 +1,4 @@
-use Rattle.std.proofs.Common.{◌≤◌, List, Option, ℕ, sym, ◌∙◌, ap, subst, is_some, IsSome}
-use Rattle.std.specs.List.{position}
-use Rattle.buffer_cache.specs.Lists.{count_of}
-use Rattle.buffer_cache.specs.Seats.{SeatState, has_block}
-use Rattle.buffer_cache.specs.Links.{IsChained}
-use Rattle.buffer_cache.proofs.Firsts.{placed}
-use Rattle.buffer_cache.proofs.Ordered.{once_of, first_of}
+use Rattle.buffer_cache.proofs.Lemmas.{◌≤◌, List, Option, ℕ, sym, ◌∙◌, ap, subst, is_some, IsSome, position, count_of, SeatState, has_block, IsChained, placed, once_of, first_of}
 use Rattle.buffer_cache.proofs.buffers.Buffers.is_cached.Goals as goal
 
 pub find-requires : goal.find-requires

@@ -1,11 +1,4 @@
-use Rattle.std.proofs.Common.{ℕ, List, Option, Some, None, IsSome, refl}
-use Rattle.std.specs.Prelude.{IfSome}
-use Rattle.buffer_cache.specs.Seats.{has_block, with_content}
-use Rattle.buffer_cache.specs.Order.{IsLinked}
-use Rattle.buffer_cache.proofs.Seated.{held_cached}
-use Rattle.buffer_cache.proofs.Ordered.{once_of}
-use Rattle.buffer_cache.proofs.Kept.{held_of, keeps_filled}
-use Rattle.buffer_cache.proofs.Chained.{chained_with}
+use Rattle.buffer_cache.proofs.Lemmas.{ℕ, List, Option, Some, None, IsSome, refl, IfSome, has_block, with_content, IsLinked, held_cached, once_of, held_of, keeps_filled, chained_with}
 use Rattle.buffer_cache.proofs.buffers.Buffers.keep.Goals as goal
 
 some_then : (o : Option (List ℕ)) {P : List ℕ → Type 0} (Q : Type 0) → IsSome o → IfSome o P → ((x : List ℕ) → P x → Q) → Q

@@ -1,9 +1,4 @@
-use Rattle.std.proofs.Common.{List, sym, ◌∙◌, ap, subst}
-use Rattle.buffer_cache.specs.Seats.{SeatState, unused_from}
-use Rattle.buffer_cache.specs.Links.{IsChained}
-use Rattle.buffer_cache.specs.Order.{in_order}
-use Rattle.buffer_cache.proofs.Ordered.{in_order_new}
-use Rattle.buffer_cache.proofs.Kept.{kept_new}
+use Rattle.buffer_cache.proofs.Lemmas.{List, sym, ◌∙◌, ap, subst, SeatState, unused_from, IsChained, in_order, in_order_new, kept_new}
 use Rattle.buffer_cache.proofs.buffers.Buffers.new.Goals as goal
 
 pub invariant_of-result : goal.invariant_of-result

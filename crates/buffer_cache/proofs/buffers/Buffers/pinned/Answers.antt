@@ -1,8 +1,4 @@
-use Rattle.std.proofs.Common.{◌∙◌, List, sym, ap}
-use Rattle.buffer_cache.specs.Lists.{count_of}
-use Rattle.buffer_cache.specs.Seats.{SeatState, is_pinned}
-use Rattle.buffer_cache.proofs.Firsts.{counted_in}
-use Rattle.buffer_cache.proofs.Ordered.{counted}
+use Rattle.buffer_cache.proofs.Lemmas.{◌∙◌, List, sym, ap, count_of, SeatState, is_pinned, counted_in, counted}
 use Rattle.buffer_cache.proofs.buffers.Buffers.pinned.Goals as goal
 
 pub returns : goal.returns

@@ -1,10 +1,4 @@
-use Rattle.std.proofs.Common.{◌≡◌, ℕ, ◌<◌, length, sym, ◌∙◌, ap, subst, set}
-use Rattle.buffer_cache.specs.Lists.{change_to_end}
-use Rattle.buffer_cache.specs.Seats.{without_holder}
-use Rattle.buffer_cache.specs.Order.{IsKept, numbered, is_same}
-use Rattle.buffer_cache.proofs.Seated.{Row, held_out}
-use Rattle.buffer_cache.proofs.Kept.{held_of, held_number, keeps_given}
-use Rattle.buffer_cache.proofs.Chained.{chained_back}
+use Rattle.buffer_cache.proofs.Lemmas.{◌≡◌, ℕ, ◌<◌, length, sym, ◌∙◌, ap, subst, set, change_to_end, without_holder, IsKept, numbered, is_same, Row, held_out, held_of, held_number, keeps_given, chained_back}
 use Rattle.buffer_cache.proofs.buffers.Buffers.release.Goals as goal
 
 pub unlock-requires : goal.unlock-requires

@@ -1,5 +1,4 @@
-use Rattle.std.proofs.Common.{◌<◌, ℕ, sym, subst}
-use Rattle.buffer_cache.proofs.Kept.{held_within}
+use Rattle.buffer_cache.proofs.Lemmas.{◌<◌, ℕ, sym, subst, held_within}
 use Rattle.buffer_cache.proofs.buffers.Buffers.retire.Goals as goal
 
 pub returns : goal.returns

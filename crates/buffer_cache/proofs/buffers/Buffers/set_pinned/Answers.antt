@@ -1,8 +1,4 @@
-use Rattle.std.proofs.Common.{Option, IsSome, refl, subst}
-use Rattle.buffer_cache.specs.Seats.{SeatState, has_block, with_pin}
-use Rattle.buffer_cache.proofs.Ordered.{once_of, first_of}
-use Rattle.buffer_cache.proofs.Kept.{keeps_pinned}
-use Rattle.buffer_cache.proofs.Chained.{chained_with}
+use Rattle.buffer_cache.proofs.Lemmas.{Option, IsSome, refl, subst, SeatState, has_block, with_pin, once_of, first_of, keeps_pinned, chained_with}
 use Rattle.buffer_cache.proofs.buffers.Buffers.set_pinned.Goals as goal
 
 pub pin_in-requires-clause-there : goal.pin_in-requires-clause-there

@@ -1,6 +1,4 @@
-use Rattle.std.proofs.Common.{ℕ, List, sym, ◌∙◌, ap, subst}
-use Rattle.buffer_cache.specs.Seats.{Keeps, is_recorded, is_pinned, SeatState, seen, seen_in, IsHeld, KeepsOthers}
-use Rattle.buffer_cache.proofs.Laws.{fill_either}
+use Rattle.buffer_cache.proofs.Lemmas.{ℕ, List, sym, ◌∙◌, ap, subst, Keeps, is_recorded, is_pinned, SeatState, seen, seen_in, IsHeld, KeepsOthers, fill_either}
 use Rattle.buffer_cache.proofs.cache.Cache.fill.Goals as goal
 
 pub invariant_of-self : goal.invariant_of-self

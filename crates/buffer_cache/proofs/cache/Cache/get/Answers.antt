@@ -1,12 +1,4 @@
-use Rattle.std.proofs.Common.{◌<◌, ◌≡◌, ◌≤◌, List, sym, ◌∙◌, ap, subst, IsSome}
-use Rattle.std.specs.Prelude.{◌↔◌, IfSome}
-use Rattle.buffer_cache.specs.Lists.{count_of}
-use Rattle.buffer_cache.specs.Seats.{is_any, is_unused, Keeps, is_recorded, is_pinned, SeatState, is_held_by, holder_of, seen, KeepsHeld}
-use Rattle.buffer_cache.specs.Getting.{IfHeld}
-use Rattle.buffer_cache.specs.declared.got.Got.{Got}
-use Rattle.buffer_cache.specs.declared.got.Got.TheVariants.{Waits}
-use Rattle.buffer_cache.proofs.Enough.{some_free}
-use Rattle.buffer_cache.proofs.Laws.{GetLaws, get_laws}
+use Rattle.buffer_cache.proofs.Lemmas.{◌<◌, ◌≡◌, ◌≤◌, List, sym, ◌∙◌, ap, subst, IsSome, ◌↔◌, IfSome, count_of, is_any, is_unused, Keeps, is_recorded, is_pinned, SeatState, is_held_by, holder_of, seen, KeepsHeld, IfHeld, Got, Waits, some_free, GetLaws, get_laws}
 use Rattle.buffer_cache.proofs.cache.Cache.get.Goals as goal
 
 pub get-requires-clause-free : goal.get-requires-clause-free

@@ -1,11 +1,4 @@
-use Rattle.std.proofs.Common.{◌≡◌, ℕ, ◌≤◌, List, Some, sym, ◌∙◌, ap, subst, IsSome}
-use Rattle.std.specs.Prelude.{◌↔◌, IfSome}
-use Rattle.buffer_cache.specs.Lists.{count_of}
-use Rattle.buffer_cache.specs.Seats.{Keeps, is_recorded, is_pinned, SeatState, is_held_by, slot_of, holder_of, seen, KeepsHeld}
-use Rattle.buffer_cache.specs.Getting.{IfHeld}
-use Rattle.buffer_cache.specs.declared.got.Got.{Got}
-use Rattle.buffer_cache.specs.declared.got.Got.TheVariants.{Waits}
-use Rattle.buffer_cache.proofs.Laws.{GetLaws, get_laws}
+use Rattle.buffer_cache.proofs.Lemmas.{◌≡◌, ℕ, ◌≤◌, List, Some, sym, ◌∙◌, ap, subst, IsSome, ◌↔◌, IfSome, count_of, Keeps, is_recorded, is_pinned, SeatState, is_held_by, slot_of, holder_of, seen, KeepsHeld, IfHeld, Got, Waits, GetLaws, get_laws}
 use Rattle.buffer_cache.proofs.cache.Cache.get_at.Goals as goal
 
 pub get_at-requires : goal.get_at-requires

@@ -1,4 +1,4 @@
-use Rattle.buffer_cache.proofs.Sound.{sound_unused}
+use Rattle.buffer_cache.proofs.Lemmas.{sound_unused}
 use Rattle.buffer_cache.proofs.cache.Cache.new.Goals as goal
 
 pub invariant_of-result : goal.invariant_of-result

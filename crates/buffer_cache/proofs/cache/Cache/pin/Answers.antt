@@ -1,9 +1,4 @@
-use Rattle.std.proofs.Common.{◌≡◌, IsSome, ◌<◌, ◌⊎◌, List, sym, ◌∙◌, ap, subst, Some, true}
-use Rattle.std.specs.Option.{option_map}
-use Rattle.buffer_cache.specs.Lists.{count_of}
-use Rattle.buffer_cache.specs.Seats.{Keeps, is_recorded, IsPinned, SeatState, is_pinned, seat_of, seen, seen_in, KeepsHeld, IsSound}
-use Rattle.buffer_cache.proofs.Sound.{sound_pin}
-use Rattle.buffer_cache.proofs.Laws.{pin_block, pin_pins, pin_recorded, pin_keeps, pin_seen}
+use Rattle.buffer_cache.proofs.Lemmas.{◌≡◌, IsSome, ◌<◌, ◌⊎◌, List, sym, ◌∙◌, ap, subst, Some, true, option_map, count_of, Keeps, is_recorded, IsPinned, SeatState, is_pinned, seat_of, seen, seen_in, KeepsHeld, IsSound, sound_pin, pin_block, pin_pins, pin_recorded, pin_keeps, pin_seen}
 use Rattle.buffer_cache.proofs.cache.Cache.pin.Goals as goal
 
 pub invariant_of-self : goal.invariant_of-self

@@ -1,7 +1,4 @@
-use Rattle.std.proofs.Common.{◌≡◌, List, sym, ◌∙◌, ap, subst}
-use Rattle.std.specs.Prelude.{IfSome}
-use Rattle.buffer_cache.specs.Seats.{Keeps, is_recorded, is_pinned, SeatState, seen, IsHeld, KeepsOthers}
-use Rattle.buffer_cache.proofs.Laws.{BackLaws, back_laws, unchanged_kept}
+use Rattle.buffer_cache.proofs.Lemmas.{◌≡◌, List, sym, ◌∙◌, ap, subst, IfSome, Keeps, is_recorded, is_pinned, SeatState, seen, IsHeld, KeepsOthers, BackLaws, back_laws, unchanged_kept}
 use Rattle.buffer_cache.proofs.cache.Cache.release.Goals as goal
 
 pub release-requires-clause-unchanged : goal.release-requires-clause-unchanged

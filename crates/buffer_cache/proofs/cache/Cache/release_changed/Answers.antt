@@ -1,8 +1,4 @@
-use Rattle.std.proofs.Common.{◌≡◌, List, sym, ◌∙◌, ap, subst, Some, true, ◌==◌, if◌then◌else◌, []}
-use Rattle.std.specs.Option.{option_map, unwrap_or}
-use Rattle.buffer_cache.specs.Seats.{Keeps, is_recorded, is_pinned, IsRecorded, SeatState, seat_of, seen, seen_in, IsHeld, KeepsOthers, IsSound}
-use Rattle.buffer_cache.proofs.Laws.{change_some}
-use Rattle.buffer_cache.proofs.Sound.{once_content}
+use Rattle.buffer_cache.proofs.Lemmas.{◌≡◌, List, sym, ◌∙◌, ap, subst, Some, true, ◌==◌, if◌then◌else◌, [], option_map, unwrap_or, Keeps, is_recorded, is_pinned, IsRecorded, SeatState, seat_of, seen, seen_in, IsHeld, KeepsOthers, IsSound, change_some, once_content}
 use Rattle.buffer_cache.proofs.cache.Cache.release_changed.Goals as goal
 
 pub release-requires-clause-held : goal.release-requires-clause-held

@@ -1,8 +1,4 @@
-use Rattle.std.proofs.Common.{◌≡◌, List, sym, ◌∙◌, ap, subst, false}
-use Rattle.block_device.specs.Blocks.{block_at}
-use Rattle.buffer_cache.specs.Seats.{is_recorded, is_pinned, IsPinned, IsRecorded, SeatState, seen, seen_in, KeepsHeld, IsSound}
-use Rattle.buffer_cache.proofs.Sound.{sound_unpin}
-use Rattle.buffer_cache.proofs.Laws.{unpin_others, pin_keeps, pin_seen}
+use Rattle.buffer_cache.proofs.Lemmas.{◌≡◌, List, sym, ◌∙◌, ap, subst, false, block_at, is_recorded, is_pinned, IsPinned, IsRecorded, SeatState, seen, seen_in, KeepsHeld, IsSound, sound_unpin, unpin_others, pin_keeps, pin_seen}
 use Rattle.buffer_cache.proofs.cache.Cache.unpin.Goals as goal
 
 pub invariant_of-self : goal.invariant_of-self

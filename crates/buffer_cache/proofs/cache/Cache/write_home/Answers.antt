@@ -1,9 +1,4 @@
-use Rattle.std.proofs.Common.{◌≡◌, ◌<◌, inl, inr, ℕ, List, length, sym, ◌∙◌, ap, subst}
-use Rattle.std.specs.Prelude.{IfSome, slice_set}
-use Rattle.buffer_cache.specs.Buffers.{BufferState}
-use Rattle.buffer_cache.specs.Seats.{SeatState, seen, seen_in, IsHeld, IsSound}
-use Rattle.buffer_cache.proofs.Sound.{sound_home, seen_home}
-use Rattle.buffer_cache.proofs.Laws.{home_then, written_ok, written_err, home_bytes, written_either}
+use Rattle.buffer_cache.proofs.Lemmas.{◌≡◌, ◌<◌, inl, inr, ℕ, List, length, sym, ◌∙◌, ap, subst, IfSome, slice_set, BufferState, SeatState, seen, seen_in, IsHeld, IsSound, sound_home, seen_home, home_then, written_ok, written_err, home_bytes, written_either}
 use Rattle.buffer_cache.proofs.cache.Cache.write_home.Goals as goal
 
 pub invariant_of-self : goal.invariant_of-self

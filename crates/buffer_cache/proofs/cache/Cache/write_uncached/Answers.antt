@@ -1,8 +1,4 @@
-use Rattle.std.proofs.Common.{◌≡◌, inl, inr, ℕ, List, sym, ◌∙◌, ap, subst, None}
-use Rattle.std.specs.Prelude.{slice_set}
-use Rattle.buffer_cache.specs.Seats.{SeatState, seat_of, seen, seen_in, IsSound}
-use Rattle.buffer_cache.proofs.Sound.{sound_uncached, seen_past}
-use Rattle.buffer_cache.proofs.Laws.{written_either}
+use Rattle.buffer_cache.proofs.Lemmas.{◌≡◌, inl, inr, ℕ, List, sym, ◌∙◌, ap, subst, None, slice_set, SeatState, seat_of, seen, seen_in, IsSound, sound_uncached, seen_past, written_either}
 use Rattle.buffer_cache.proofs.cache.Cache.write_uncached.Goals as goal
 
 pub invariant_of-self : goal.invariant_of-self

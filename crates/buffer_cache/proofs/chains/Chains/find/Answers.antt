@@ -1,10 +1,4 @@
-use Rattle.std.proofs.Common.{◌≡◌, ◌<◌, ℕ, length, get_or, refl, sym, ◌∙◌, ap, subst, arith}
-use Rattle.std.proofs.lemmas.Option.{slice_get_read}
-use Rattle.buffer_cache.specs.Seats.{has_block}
-use Rattle.buffer_cache.specs.Order.{numbered}
-use Rattle.buffer_cache.proofs.Once.{once_at}
-use Rattle.buffer_cache.proofs.Ordered.{numbered_read}
-use Rattle.buffer_cache.proofs.Chained.{IsSeeking, seek_begun, seeks_on, sought, sought_all}
+use Rattle.buffer_cache.proofs.Lemmas.{◌≡◌, ◌<◌, ℕ, length, get_or, refl, sym, ◌∙◌, ap, subst, arith, slice_get_read, has_block, numbered, once_at, numbered_read, IsSeeking, seek_begun, seeks_on, sought, sought_all}
 use Rattle.buffer_cache.proofs.chains.Chains.find.Goals as goal
 
 pub loop-init : goal.loop-init

@@ -1,6 +1,4 @@
-use Rattle.std.proofs.Common.{◌-◌}
-use Rattle.buffer_cache.specs.Seats.{has_block}
-use Rattle.buffer_cache.proofs.Chained.{IsSeeking}
+use Rattle.buffer_cache.proofs.Lemmas.{◌-◌, has_block, IsSeeking}
 use Rattle.buffer_cache.proofs.chains.Chains.find.Given as goal
 
 abbrev pub invariant-loop : goal.invariant-loop

@@ -1,7 +1,4 @@
-use Rattle.std.proofs.Common.{ℕ, List, Some, refl, sym, subst, arith}
-use Rattle.buffer_cache.specs.Links.{AreGrouped}
-use Rattle.buffer_cache.proofs.Rings.{unlinked}
-use Rattle.buffer_cache.proofs.Chained.{moved_to}
+use Rattle.buffer_cache.proofs.Lemmas.{ℕ, List, Some, refl, sym, subst, arith, AreGrouped, unlinked, moved_to}
 use Rattle.buffer_cache.proofs.chains.Chains.move_to.Goals as goal
 
 pub unlink-requires-clause-before : goal.unlink-requires-clause-before

@@ -1,6 +1,4 @@
-use Rattle.std.proofs.Common.{arith}
-use Rattle.buffer_cache.proofs.Rings.{AreInOrder, ring_made}
-use Rattle.buffer_cache.proofs.Chained.{chained_new}
+use Rattle.buffer_cache.proofs.Lemmas.{arith, AreInOrder, ring_made, chained_new}
 use Rattle.buffer_cache.proofs.chains.Chains.new.Goals as goal
 
 pub invariant_of-result : goal.invariant_of-result

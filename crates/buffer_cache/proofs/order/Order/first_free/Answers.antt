@@ -1,8 +1,4 @@
-use Rattle.std.proofs.Common.{◌≡◌, ◌<◌, ℕ, length, get_or, sym, ◌∙◌, ap, arith}
-use Rattle.buffer_cache.specs.Seats.{is_free}
-use Rattle.buffer_cache.specs.Order.{numbered}
-use Rattle.buffer_cache.proofs.Ordered.{seats_count, numbered_read}
-use Rattle.buffer_cache.proofs.Walks.{going_begun, goes_on, gone}
+use Rattle.buffer_cache.proofs.Lemmas.{◌≡◌, ◌<◌, ℕ, length, get_or, sym, ◌∙◌, ap, arith, is_free, numbered, seats_count, numbered_read, going_begun, goes_on, gone}
 use Rattle.buffer_cache.proofs.order.Order.first_free.Goals as goal
 
 pub loop-init : goal.loop-init

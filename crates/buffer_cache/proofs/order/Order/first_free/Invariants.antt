@@ -1,8 +1,4 @@
-use Rattle.std.proofs.Common.{◌-◌}
-use Rattle.std.specs.List.{find}
-use Rattle.buffer_cache.specs.Seats.{is_free}
-use Rattle.buffer_cache.specs.Order.{numbered}
-use Rattle.buffer_cache.proofs.Walks.{IsGoing}
+use Rattle.buffer_cache.proofs.Lemmas.{◌-◌, find, is_free, numbered, IsGoing}
 use Rattle.buffer_cache.proofs.order.Order.first_free.Given as goal
 
 abbrev pub invariant-loop : goal.invariant-loop

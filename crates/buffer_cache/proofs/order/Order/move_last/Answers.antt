@@ -1,8 +1,4 @@
-use Rattle.std.proofs.Common.{ℕ, List, refl, sym, ◌∙◌, ap, arith}
-use Rattle.buffer_cache.specs.Lists.{change_to_end}
-use Rattle.buffer_cache.specs.Order.{is_same}
-use Rattle.buffer_cache.proofs.Rings.{unlinked}
-use Rattle.buffer_cache.proofs.Moved.{moved_last, youngest_stays}
+use Rattle.buffer_cache.proofs.Lemmas.{ℕ, List, refl, sym, ◌∙◌, ap, arith, change_to_end, is_same, unlinked, moved_last, youngest_stays}
 use Rattle.buffer_cache.proofs.order.Order.move_last.Goals as goal
 
 pub unlink-requires-clause-before : goal.unlink-requires-clause-before

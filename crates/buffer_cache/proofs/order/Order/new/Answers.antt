@@ -1,6 +1,4 @@
-use Rattle.std.proofs.Common.{arith}
-use Rattle.buffer_cache.specs.Order.{numbers}
-use Rattle.buffer_cache.proofs.Rings.{AreInOrder, ring_made}
+use Rattle.buffer_cache.proofs.Lemmas.{arith, numbers, AreInOrder, ring_made}
 use Rattle.buffer_cache.proofs.order.Order.new.Goals as goal
 
 pub invariant_of-result : goal.invariant_of-result

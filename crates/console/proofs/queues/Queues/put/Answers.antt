@@ -1,6 +1,4 @@
-use Rattle.std.proofs.Common.{arith, length, ◌<◌}
-use Rattle.script.specs.Said.{call_said}
-use Rattle.console.proofs.Queueing.{put_last}
+use Rattle.console.proofs.Lemmas.{arith, length, ◌<◌, call_said, put_last}
 use Rattle.console.proofs.queues.Queues.put.Goals as goal
 
 pub returns : goal.returns

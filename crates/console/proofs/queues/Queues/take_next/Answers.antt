@@ -1,6 +1,4 @@
-use Rattle.std.proofs.Common.{arith, refl, length, ◌<◌, ◌≤◌}
-use Rattle.script.specs.Said.{call_said}
-use Rattle.console.proofs.Queueing.{none_past, taken}
+use Rattle.console.proofs.Lemmas.{arith, refl, length, ◌<◌, ◌≤◌, call_said, none_past, taken}
 use Rattle.console.proofs.queues.Queues.take_next.Goals as goal
 
 pub returns-then-place-lt8 : goal.returns-then-place-lt8

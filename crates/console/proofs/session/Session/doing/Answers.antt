@@ -1,5 +1,4 @@
-use Rattle.std.proofs.Common.{arith, sym, None}
-use Rattle.std.proofs.lemmas.List.{get_or_past}
+use Rattle.console.proofs.Lemmas.{arith, sym, None, get_or_past}
 use Rattle.console.proofs.session.Session.doing.Goals as goal
 
 pub returns-else-place-lt8 : goal.returns-else-place-lt8

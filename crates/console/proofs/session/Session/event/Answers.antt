@@ -1,6 +1,4 @@
-use Rattle.std.proofs.Common.{rules, ◌≡◌}
-use Rattle.console.specs.Sessions.{doing_at, hart_in}
-use Rattle.console.proofs.Doings.{doing_set}
+use Rattle.console.proofs.Lemmas.{rules, ◌≡◌, doing_at, hart_in, doing_set}
 use Rattle.console.proofs.session.Session.event.Goals as goal
 
 pub returns : goal.returns

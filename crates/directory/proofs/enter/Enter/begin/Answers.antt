@@ -1,11 +1,4 @@
-use Rattle.std.proofs.Common.{List, ℕ, Option, ap, ◌∙◌}
-use Rattle.atomic_programs.specs.Prog.{bind}
-use Rattle.fs_machine.specs.Machines.{P}
-use Rattle.fs_layout.specs.Entry.{spell_dirent}
-use Rattle.fs_layout.specs.declared.entry.Dirent.TheVariants.{Used}
-use Rattle.directory.specs.Programs.{Unused}
-use Rattle.directory.specs.Entering.{EnteredState, enter_at}
-use Rattle.directory.specs.declared.found.Found.{Found}
+use Rattle.directory.proofs.Lemmas.{List, ℕ, Option, ap, ◌∙◌, bind, P, spell_dirent, Used, Unused, EnteredState, enter_at, Found}
 use Rattle.directory.proofs.enter.Enter.begin.Goals as goal
 
 pub returns-in-Is-clause-program : goal.returns-in-Is-clause-program

@@ -1,12 +1,4 @@
-use Rattle.std.proofs.Common.{subst, sym}
-use Rattle.atomic_programs.specs.Prog.{Ret, bind}
-use Rattle.fs_machine.specs.Machines.{P}
-use Rattle.directory.specs.Programs.{Unused}
-use Rattle.directory.specs.Entering.{EnteredState, enter_at}
-use Rattle.fs_machine.specs.Ops.{answer_in}
-use Rattle.fs_machine.specs.Controls.{Goes}
-use Rattle.fs_machine.proofs.Going.{goes_bind}
-use Rattle.directory.specs.Searching.{search_left, search_asked}
+use Rattle.directory.proofs.Lemmas.{subst, sym, Ret, bind, P, Unused, EnteredState, enter_at, answer_in, Goes, goes_bind, search_left, search_asked}
 use Rattle.directory.proofs.enter.EnterRoutine.next.Goals as goal
 
 pub returns-in-Is-clause-goes : goal.returns-in-Is-clause-goes

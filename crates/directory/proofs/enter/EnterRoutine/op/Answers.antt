@@ -1,7 +1,4 @@
-use Rattle.directory.specs.Entering.{entered_by}
-use Rattle.fs_machine.specs.Ops.{op_in}
-use Rattle.inode_data.specs.PartWriting.{write_left}
-use Rattle.inode_data.proofs.Asking.{asks_bind}
+use Rattle.directory.proofs.Lemmas.{entered_by, op_in, write_left, asks_bind}
 use Rattle.directory.proofs.enter.EnterRoutine.op.Goals as goal
 
 pub returns-in-Writing-clause-asks : goal.returns-in-Writing-clause-asks

@@ -1,7 +1,4 @@
-use Rattle.fs_machine.specs.Ops.{op_in}
-use Rattle.inode_data.specs.PartWriting.{write_left}
-use Rattle.directory.specs.Filling.{filled_by}
-use Rattle.inode_data.proofs.Asking.{asks_bind}
+use Rattle.directory.proofs.Lemmas.{op_in, write_left, filled_by, asks_bind}
 use Rattle.directory.proofs.fill.FillRoutine.op.Goals as goal
 
 pub returns-clause-asks : goal.returns-clause-asks

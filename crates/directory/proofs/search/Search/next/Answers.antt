@@ -1,5 +1,4 @@
-use Rattle.std.proofs.Common.{sym}
-use Rattle.directory.specs.Sought.{aim_of}
+use Rattle.directory.proofs.Lemmas.{sym, aim_of}
 use Rattle.directory.proofs.search.Search.next.Goals as goal
 
 pub returns-in-Is-clause-goes : goal.returns-in-Is-clause-goes

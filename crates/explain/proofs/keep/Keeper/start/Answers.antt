@@ -1,7 +1,4 @@
-use Rattle.std.proofs.Common.{sym, subst, ◌∙◌}
-use Rattle.plain_tree.specs.declared.call.Call.{Call}
-use Rattle.whole_calls.specs.Wholes.{IsCall}
-use Rattle.hart_core.proofs.RightCalls.{right_call}
+use Rattle.explain.proofs.Lemmas.{sym, subst, ◌∙◌, Call, IsCall, right_call}
 use Rattle.explain.proofs.keep.Keeper.start.Goals as goal
 
 pub starts-requires : goal.starts-requires

@@ -1,14 +1,4 @@
-use Rattle.std.proofs.Common.{◌≡◌, ◌∙◌, refl, sym, ap, ℕ}
-use Rattle.fs_layout.specs.declared.inode.Dinode.{Dinode}
-use Rattle.atomic_programs.specs.Prog.{bind}
-use Rattle.fs_machine.specs.declared.entries.Inode.{Inode}
-use Rattle.fs_machine.specs.Machines.{P}
-use Rattle.inode_table.specs.Programs.{load_unless}
-use Rattle.fs_machine.specs.Hands.{inode_in}
-use Rattle.fs_machine.specs.Ops.{answer_in}
-use Rattle.inode_table.specs.HeldInodes.{number_in}
-use Rattle.file_table.specs.LockingFiles.{locks}
-use Rattle.fs_machine.proofs.Goings.{inode-there}
+use Rattle.file_table.proofs.Lemmas.{◌≡◌, ◌∙◌, refl, sym, ap, ℕ, Dinode, bind, Inode, P, load_unless, inode_in, answer_in, number_in, locks, inode-there}
 use Rattle.file_table.proofs.lock_file.LockFileRoutine.next.Goals as goal
 
 pub returns-in-None-clause-goes : goal.returns-in-None-clause-goes

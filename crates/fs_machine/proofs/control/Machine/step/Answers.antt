@@ -1,12 +1,4 @@
-use Rattle.std.proofs.Common.{◌≡◌, refl, sym, ap, ◌∙◌, subst}
-use Rattle.atomic_programs.specs.Prog.{Ran, Ret}
-use Rattle.fs_machine.specs.LogPart.{Passes, Fails}
-use Rattle.fs_machine.specs.Steps.{state_of, exec, kind_of}
-use Rattle.fs_machine.specs.Premises.{Honest}
-use Rattle.fs_machine.specs.declared.hand.Hand.{Hand}
-use Rattle.fs_machine.specs.declared.op.Op.{Op}
-use Rattle.fs_machine.specs.Ops.{op_in, answer_in, IsAfter}
-use Rattle.fs_machine.proofs.Stepping.{ran-step, waits-step, stops-step, of-next, after-prepared, prepared-waits, prepared-stops, bare-fits}
+use Rattle.fs_machine.proofs.Lemmas.{◌≡◌, refl, sym, ap, ◌∙◌, subst, Ran, Ret, Passes, Fails, state_of, exec, kind_of, Honest, Hand, Op, op_in, answer_in, IsAfter, ran-step, waits-step, stops-step, of-next, after-prepared, prepared-waits, prepared-stops, bare-fits}
 use Rattle.fs_machine.proofs.control.Machine.step.Goals as goal
 
 pub returns-in-Waits-clause-steps : goal.returns-in-Waits-clause-steps

@@ -1,11 +1,5 @@
-use Rattle.std.proofs.Common.{ℕ, true, false, sym, subst, ◌∙◌, arith}
-use Rattle.atomic_programs.specs.Prog.{Ret}
-use Rattle.fs_machine.specs.Machines.{P}
-use Rattle.fs_machine.specs.Programs.{commits}
+use Rattle.fs_machine.proofs.Lemmas.{ℕ, true, false, sym, subst, ◌∙◌, arith, Ret, P, commits, answer_in, Goes, leave-goes, commit-goes}
 use Rattle.fs_machine.specs.declared.op.Op.TheVariants as ops
-use Rattle.fs_machine.specs.Ops.{answer_in}
-use Rattle.fs_machine.specs.Controls.{Goes}
-use Rattle.fs_machine.proofs.Ends.{leave-goes, commit-goes}
 use Rattle.fs_machine.proofs.finish.FinishControl.next.Goals as goal
 
 pub returns-then-yes-clause-goes : goal.returns-then-yes-clause-goes

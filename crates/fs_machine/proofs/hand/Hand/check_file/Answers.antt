@@ -1,7 +1,4 @@
-use Rattle.std.proofs.Common.{refl, inl}
-use Rattle.fs_machine.specs.LogPart.{Passes}
-use Rattle.fs_machine.specs.Premises.{Honest}
-use Rattle.fs_machine.specs.Ops.{answer_in}
+use Rattle.fs_machine.proofs.Lemmas.{refl, inl, Passes, Honest, answer_in}
 use Rattle.fs_machine.proofs.hand.Hand.check_file.Goals as goal
 
 pub returns-in-None : goal.returns-in-None

@@ -1,15 +1,5 @@
-use Rattle.std.proofs.Common.{◌≡◌, ℕ, Some, None, refl, sym, ap, ◌∙◌, subst, inl}
-use Rattle.atomic_programs.specs.Prog.{Ran}
-use Rattle.fs_machine.specs.LogPart.{Passes}
+use Rattle.fs_machine.proofs.Lemmas.{◌≡◌, ℕ, Some, None, refl, sym, ap, ◌∙◌, subst, inl, Ran, Passes, State, state_of, exec, Honest, HandFits, with_buffer, with_reference, answer_in, block-there, buffer-back, buffer-again, refers, only-buffer, no-buffer, take, GuardState, BufferState}
 use Rattle.fs_machine.specs.Steps as steps
-use Rattle.fs_machine.specs.Steps.{State, state_of, exec}
-use Rattle.fs_machine.specs.Premises.{Honest}
-use Rattle.fs_machine.specs.Hands.{HandFits, with_buffer, with_reference}
-use Rattle.fs_machine.specs.Ops.{answer_in}
-use Rattle.fs_machine.proofs.Fits.{block-there, buffer-back, buffer-again, refers, only-buffer, no-buffer}
-use Rattle.std.specs.Prelude.{take}
-use Rattle.sleep_lock.specs.SleepLock.{GuardState}
-use Rattle.buffer_cache.specs.Buffers.{BufferState}
 use Rattle.fs_machine.proofs.hand.Hand.claim.Goals as goal
 
 pub claim-requires-clause-own : goal.claim-requires-clause-own

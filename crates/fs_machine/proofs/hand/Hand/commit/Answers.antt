@@ -1,8 +1,4 @@
-use Rattle.std.proofs.Common.{refl, inr}
-use Rattle.fs_machine.specs.Steps.{state_of}
-use Rattle.fs_machine.specs.Premises.{Honest}
-use Rattle.fs_machine.specs.Ops.{answer_in}
-use Rattle.fs_machine.proofs.Fits.{log-stays}
+use Rattle.fs_machine.proofs.Lemmas.{refl, inr, state_of, Honest, answer_in, log-stays}
 use Rattle.fs_machine.proofs.hand.Hand.commit.Goals as goal
 
 pub returns-in-Wrote : goal.returns-in-Wrote

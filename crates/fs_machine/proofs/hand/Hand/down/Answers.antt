@@ -1,15 +1,5 @@
-use Rattle.std.proofs.Common.{◌≡◌, ℕ, Some, None, refl, sym, ap, ◌∙◌, subst, inl, true}
-use Rattle.atomic_programs.specs.Prog.{Ran}
-use Rattle.fs_machine.specs.Inodes.{Counts, Dies}
-use Rattle.fs_machine.specs.LogPart.{Passes, part_of}
+use Rattle.fs_machine.proofs.Lemmas.{◌≡◌, ℕ, Some, None, refl, sym, ap, ◌∙◌, subst, inl, true, Ran, Counts, Dies, Passes, part_of, State, state_of, exec, Honest, HandFits, inode_at, inode_in, with_inode, with_reference, answer_in, dropped_by, inode-there, tables-stay, inode-taken, refers, reference-back, inode-in, number-there, dies_loaded, Inode}
 use Rattle.fs_machine.specs.Steps as steps
-use Rattle.fs_machine.specs.Steps.{State, state_of, exec}
-use Rattle.fs_machine.specs.Premises.{Honest}
-use Rattle.fs_machine.specs.Hands.{HandFits, inode_at, inode_in, with_inode, with_reference}
-use Rattle.fs_machine.specs.Ops.{answer_in, dropped_by}
-use Rattle.fs_machine.proofs.Fits.{inode-there, tables-stay, inode-taken, refers, reference-back, inode-in, number-there}
-use Rattle.fs_machine.proofs.DyingHands.{dies_loaded}
-use Rattle.fs_machine.specs.declared.entries.Inode.{Inode}
 use Rattle.fs_machine.proofs.hand.Hand.down.Goals as goal
 
 pub returns-in-Counted : goal.returns-in-Counted

@@ -1,13 +1,5 @@
-use Rattle.std.proofs.Common.{◌≡◌, ℕ, None, refl, sym, ap, ◌∙◌, subst, inl}
-use Rattle.atomic_programs.specs.Prog.{Ran}
-use Rattle.fs_machine.specs.Inodes.{Counts}
-use Rattle.fs_machine.specs.LogPart.{Passes, part_of}
+use Rattle.fs_machine.proofs.Lemmas.{◌≡◌, ℕ, None, refl, sym, ap, ◌∙◌, subst, inl, Ran, Counts, Passes, part_of, State, state_of, exec, Honest, HandFits, answer_in, tables-stay, refers, number-there}
 use Rattle.fs_machine.specs.Steps as steps
-use Rattle.fs_machine.specs.Steps.{State, state_of, exec}
-use Rattle.fs_machine.specs.Premises.{Honest}
-use Rattle.fs_machine.specs.Hands.{HandFits}
-use Rattle.fs_machine.specs.Ops.{answer_in}
-use Rattle.fs_machine.proofs.Fits.{tables-stay, refers, number-there}
 use Rattle.fs_machine.proofs.hand.Hand.down_freed.Goals as goal
 
 pub returns : goal.returns

@@ -1,14 +1,5 @@
-use Rattle.std.proofs.Common.{◌≡◌, ℕ, List, [], ◌∷◌, ◌++◌, None, refl, sym, ap, ◌∙◌, subst, inl}
-use Rattle.atomic_programs.specs.Prog.{Ran}
-use Rattle.fs_machine.specs.Inodes.{Counts, Keeps}
-use Rattle.fs_machine.specs.LogPart.{Passes, part_of}
+use Rattle.fs_machine.proofs.Lemmas.{◌≡◌, ℕ, List, [], ◌∷◌, ◌++◌, None, refl, sym, ap, ◌∙◌, subst, inl, Ran, Counts, Keeps, Passes, part_of, State, state_of, exec, Honest, Hand, HandFits, number_at, with_listed, with_seated, answer_in, lists, number-there, seated-again, seated-beside, seats-aside, tables-stay}
 use Rattle.fs_machine.specs.Steps as steps
-use Rattle.fs_machine.specs.Steps.{State, state_of, exec}
-use Rattle.fs_machine.specs.Premises.{Honest}
-use Rattle.fs_machine.specs.declared.hand.Hand.{Hand}
-use Rattle.fs_machine.specs.Hands.{HandFits, number_at, with_listed, with_seated}
-use Rattle.fs_machine.specs.Ops.{answer_in}
-use Rattle.fs_machine.proofs.Fits.{lists, number-there, seated-again, seated-beside, seats-aside, tables-stay}
 use Rattle.fs_machine.proofs.hand.Hand.down_walked.Goals as goal
 
 pub returns-in-None-drop_walked : goal.returns-in-None-drop_walked

@@ -1,11 +1,4 @@
-use Rattle.std.proofs.Common.{ℕ, Option, List, subst, refl, sym, ap, ◌∙◌, inl}
-use Rattle.atomic_programs.specs.Prog.{Ran}
-use Rattle.fs_machine.specs.LogPart.{Passes}
-use Rattle.fs_machine.specs.Steps.{state_of}
-use Rattle.fs_machine.specs.Premises.{Honest}
-use Rattle.fs_machine.specs.Hands.{HandFits}
-use Rattle.fs_machine.specs.Ops.{answer_in}
-use Rattle.fs_machine.proofs.Fits.{buffer-taken, content-there}
+use Rattle.fs_machine.proofs.Lemmas.{ℕ, Option, List, subst, refl, sym, ap, ◌∙◌, inl, Ran, Passes, state_of, Honest, HandFits, answer_in, buffer-taken, content-there}
 use Rattle.fs_machine.proofs.hand.Hand.get.Goals as goal
 
 pub returns-in-Waits : goal.returns-in-Waits

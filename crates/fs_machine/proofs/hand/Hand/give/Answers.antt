@@ -1,12 +1,5 @@
-use Rattle.std.proofs.Common.{◌≡◌, None, refl, sym, ◌∙◌, subst, inl}
-use Rattle.atomic_programs.specs.Prog.{Ran}
-use Rattle.fs_machine.specs.LogPart.{Passes}
+use Rattle.fs_machine.proofs.Lemmas.{◌≡◌, None, refl, sym, ◌∙◌, subst, inl, Ran, Passes, State, state_of, exec, Honest, HandFits, answer_in, buffer-given, block-there}
 use Rattle.fs_machine.specs.Steps as steps
-use Rattle.fs_machine.specs.Steps.{State, state_of, exec}
-use Rattle.fs_machine.specs.Premises.{Honest}
-use Rattle.fs_machine.specs.Hands.{HandFits}
-use Rattle.fs_machine.specs.Ops.{answer_in}
-use Rattle.fs_machine.proofs.Fits.{buffer-given, block-there}
 use Rattle.fs_machine.proofs.hand.Hand.give.Goals as goal
 
 pub put_back-requires-clause-own : goal.put_back-requires-clause-own

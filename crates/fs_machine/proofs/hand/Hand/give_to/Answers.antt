@@ -1,13 +1,5 @@
-use Rattle.std.proofs.Common.{◌<◌, ◌≤◌, arith, ℕ, Some, refl, sym, ap, ◌∙◌, subst, inl}
-use Rattle.atomic_programs.specs.Prog.{Ran}
-use Rattle.fs_machine.specs.LogPart.{Passes, part_of}
-use Rattle.fs_machine.specs.Steps.{state_of}
-use Rattle.fs_machine.specs.Premises.{Honest}
-use Rattle.fs_machine.specs.Hands.{HandFits, reference_at}
-use Rattle.fs_machine.specs.Ops.{answer_in}
-use Rattle.fs_machine.proofs.Fits.{tables-stay, refers, number-there, reference-there}
+use Rattle.fs_machine.proofs.Lemmas.{◌<◌, ◌≤◌, arith, ℕ, Some, refl, sym, ap, ◌∙◌, subst, inl, Ran, Passes, part_of, state_of, Honest, HandFits, reference_at, answer_in, tables-stay, refers, number-there, reference-there, descriptor_count}
 use Rattle.fs_machine.specs.declared.slots.Given.TheVariants as given
-use Rattle.fs_machine.specs.Limits.{descriptor_count}
 use Rattle.fs_machine.proofs.hand.Hand.give_to.Goals as goal
 
 below : (a b : ℕ) → (b ≤ a → ⊥) → a < b

@@ -1,12 +1,5 @@
-use Rattle.std.proofs.Common.{Some, refl, sym, subst, inl}
-use Rattle.fs_machine.specs.LogPart.{Passes}
-use Rattle.fs_machine.specs.Steps.{state_of}
-use Rattle.fs_machine.specs.Premises.{Honest}
+use Rattle.fs_machine.proofs.Lemmas.{Some, refl, sym, subst, inl, Passes, state_of, Honest, HandFits, answer_in, log-stays, has-txn, waits}
 use Rattle.fs_machine.specs.declared.op.Op.TheVariants as ops
-use Rattle.fs_machine.specs.Hands.{HandFits}
-use Rattle.fs_machine.specs.Ops.{answer_in}
-use Rattle.fs_machine.proofs.Fits.{log-stays, has-txn}
-use Rattle.fs_machine.proofs.Performing.{waits}
 use Rattle.fs_machine.proofs.hand.Hand.join.Goals as goal
 
 pub returns-in-None : goal.returns-in-None

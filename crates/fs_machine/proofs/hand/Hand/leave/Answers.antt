@@ -1,11 +1,4 @@
-use Rattle.std.proofs.Common.{◌≡◌, ℕ, Option, None, refl, sym, ap, ◌∙◌, subst, inl}
-use Rattle.atomic_programs.specs.Prog.{Ran}
-use Rattle.fs_machine.specs.LogPart.{Passes}
-use Rattle.fs_machine.specs.Steps.{state_of}
-use Rattle.fs_machine.specs.Premises.{Honest}
-use Rattle.fs_machine.specs.Hands.{HandFits, with_txn}
-use Rattle.fs_machine.specs.Ops.{answer_in}
-use Rattle.fs_machine.proofs.Fits.{log-stays, has-txn}
+use Rattle.fs_machine.proofs.Lemmas.{◌≡◌, ℕ, Option, None, refl, sym, ap, ◌∙◌, subst, inl, Ran, Passes, state_of, Honest, HandFits, with_txn, answer_in, log-stays, has-txn}
 use Rattle.fs_machine.proofs.hand.Hand.leave.Goals as goal
 
 pub returns : goal.returns

@@ -1,15 +1,6 @@
-use Rattle.std.proofs.Common.{◌≡◌, ℕ, Some, refl, sym, ap, ◌∙◌, subst, inl}
-use Rattle.atomic_programs.specs.Prog.{Ran, Waits as ItWaits}
-use Rattle.fs_machine.specs.LogPart.{Passes, part_of}
+use Rattle.fs_machine.proofs.Lemmas.{◌≡◌, ℕ, Some, refl, sym, ap, ◌∙◌, subst, inl, Ran, ItWaits, Passes, part_of, State, state_of, exec, Honest, HandFits, inode_at, inode_in, number_at, with_inode, answer_in, inode-there, inode-taken, inode-in, number-there, Inode, waits}
 use Rattle.fs_machine.specs.Steps as steps
-use Rattle.fs_machine.specs.Steps.{State, state_of, exec}
-use Rattle.fs_machine.specs.Premises.{Honest}
 use Rattle.fs_machine.specs.declared.op.Op.TheVariants as ops
-use Rattle.fs_machine.specs.Hands.{HandFits, inode_at, inode_in, number_at, with_inode}
-use Rattle.fs_machine.specs.Ops.{answer_in}
-use Rattle.fs_machine.proofs.Fits.{inode-there, inode-taken, inode-in, number-there}
-use Rattle.fs_machine.specs.declared.entries.Inode.{Inode}
-use Rattle.fs_machine.proofs.Performing.{waits}
 use Rattle.fs_machine.proofs.hand.Hand.lock.Goals as goal
 
 pub returns-in-None-lock : goal.returns-in-None-lock

@@ -1,15 +1,5 @@
-use Rattle.std.proofs.Common.{Some, refl, sym, ap, ◌∙◌, subst, inl}
-use Rattle.atomic_programs.specs.Prog.{Ran}
-use Rattle.fs_machine.specs.Inodes.{Locks}
-use Rattle.fs_machine.specs.LogPart.{Passes, part_of}
-use Rattle.fs_machine.specs.Steps.{state_of}
-use Rattle.fs_machine.specs.Premises.{Honest}
+use Rattle.fs_machine.proofs.Lemmas.{Some, refl, sym, ap, ◌∙◌, subst, inl, Ran, Locks, Passes, part_of, state_of, Honest, HandFits, inode_at, answer_in, inode-there, tables-stay, inode-taken, inode-in, Inode, waits}
 use Rattle.fs_machine.specs.declared.op.Op.TheVariants as ops
-use Rattle.fs_machine.specs.Hands.{HandFits, inode_at}
-use Rattle.fs_machine.specs.Ops.{answer_in}
-use Rattle.fs_machine.proofs.Fits.{inode-there, tables-stay, inode-taken, inode-in}
-use Rattle.fs_machine.specs.declared.entries.Inode.{Inode}
-use Rattle.fs_machine.proofs.Performing.{waits}
 use Rattle.fs_machine.proofs.hand.Hand.lock_file.Goals as goal
 
 pub returns-in-Waits : goal.returns-in-Waits

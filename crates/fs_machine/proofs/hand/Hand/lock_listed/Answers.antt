@@ -1,15 +1,6 @@
-use Rattle.std.proofs.Common.{◌≡◌, ℕ, drop, Some, refl, sym, ap, ◌∙◌, subst, inl}
-use Rattle.atomic_programs.specs.Prog.{Ran, Waits as ItWaits}
-use Rattle.fs_machine.specs.LogPart.{Passes, part_of}
+use Rattle.fs_machine.proofs.Lemmas.{◌≡◌, ℕ, drop, Some, refl, sym, ap, ◌∙◌, subst, inl, Ran, ItWaits, Passes, part_of, State, state_of, exec, Honest, HandFits, first_in, first_listed, inode_at, inode_in, with_first, with_inode, with_listed, answer_in, inode-there, inode-taken, inode-in, lists, refers, Inode, waits}
 use Rattle.fs_machine.specs.Steps as steps
-use Rattle.fs_machine.specs.Steps.{State, state_of, exec}
-use Rattle.fs_machine.specs.Premises.{Honest}
 use Rattle.fs_machine.specs.declared.op.Op.TheVariants as ops
-use Rattle.fs_machine.specs.Hands.{HandFits, first_in, first_listed, inode_at, inode_in, with_first, with_inode, with_listed}
-use Rattle.fs_machine.specs.Ops.{answer_in}
-use Rattle.fs_machine.proofs.Fits.{inode-there, inode-taken, inode-in, lists, refers}
-use Rattle.fs_machine.specs.declared.entries.Inode.{Inode}
-use Rattle.fs_machine.proofs.Performing.{waits}
 use Rattle.fs_machine.proofs.hand.Hand.lock_listed.Goals as goal
 
 pub returns-in-None-lock : goal.returns-in-None-lock

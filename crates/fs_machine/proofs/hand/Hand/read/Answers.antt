@@ -1,14 +1,5 @@
-use Rattle.std.proofs.Common.{◌≡◌, ℕ, Some, None, List, refl, sym, ap, ◌∙◌, subst, inr}
-use Rattle.atomic_programs.specs.Prog.{Ran, Stops}
-use Rattle.fs_machine.specs.LogPart.{Passes, Fails}
+use Rattle.fs_machine.proofs.Lemmas.{◌≡◌, ℕ, Some, None, List, refl, sym, ap, ◌∙◌, subst, inr, Ran, Stops, Passes, Fails, State, state_of, exec, Honest, HandFits, buffer_at, bytes_at, with_buffer, answer_in, block-there, bytes-there, buffer-back, buffer-again, buffer-there, buffer-changed, GuardState, BufferState}
 use Rattle.fs_machine.specs.Steps as steps
-use Rattle.fs_machine.specs.Steps.{State, state_of, exec}
-use Rattle.fs_machine.specs.Premises.{Honest}
-use Rattle.fs_machine.specs.Hands.{HandFits, buffer_at, bytes_at, with_buffer}
-use Rattle.fs_machine.specs.Ops.{answer_in}
-use Rattle.fs_machine.proofs.Fits.{block-there, bytes-there, buffer-back, buffer-again, buffer-there, buffer-changed}
-use Rattle.sleep_lock.specs.SleepLock.{GuardState}
-use Rattle.buffer_cache.specs.Buffers.{BufferState}
 use Rattle.fs_machine.proofs.hand.Hand.read.Goals as goal
 
 pub read-requires-clause-own : goal.read-requires-clause-own

@@ -1,18 +1,5 @@
-use Rattle.std.proofs.Common.{◌≡◌, ℕ, Some, None, List, refl, sym, ap, ◌∙◌, subst, inl}
-use Rattle.atomic_programs.specs.Prog.{Ran}
-use Rattle.fs_machine.specs.LogPart.{Passes}
+use Rattle.fs_machine.proofs.Lemmas.{◌≡◌, ℕ, Some, None, List, refl, sym, ap, ◌∙◌, subst, inl, Ran, Passes, State, state_of, exec, Honest, HandFits, with_content, buffer_at, bytes_at, with_buffer, with_txn, answer_in, buffer-given, block-there, bytes-there, buffer-again, txn-back, prepared, held-with, option_map, GuardState, BufferState, IsHeld, IsOwn, LeavesAllBut}
 use Rattle.fs_machine.specs.Steps as steps
-use Rattle.fs_machine.specs.Steps.{State, state_of, exec}
-use Rattle.fs_machine.specs.Premises.{Honest}
-use Rattle.fs_machine.specs.Hands.{HandFits, with_content, buffer_at, bytes_at, with_buffer, with_txn}
-use Rattle.fs_machine.specs.Ops.{answer_in}
-use Rattle.fs_machine.proofs.Fits.{buffer-given, block-there, bytes-there, buffer-again, txn-back, prepared, held-with}
-use Rattle.std.specs.Option.{option_map}
-use Rattle.sleep_lock.specs.SleepLock.{GuardState}
-use Rattle.buffer_cache.specs.Buffers.{BufferState}
-use Rattle.buffer_cache.specs.Seats.{IsHeld}
-use Rattle.fs_machine.specs.Tied.{IsOwn}
-use Rattle.fs_machine.specs.Stays.{LeavesAllBut}
 use Rattle.fs_machine.proofs.hand.Hand.record.Goals as goal
 
 pub put_changed-requires-clause-hand : goal.put_changed-requires-clause-hand

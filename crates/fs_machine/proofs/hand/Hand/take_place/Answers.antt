@@ -1,9 +1,4 @@
-use Rattle.std.proofs.Common.{refl, ap, inl}
-use Rattle.fs_machine.specs.LogPart.{Passes, part_of}
-use Rattle.fs_machine.specs.Steps.{state_of}
-use Rattle.fs_machine.specs.Premises.{Honest}
-use Rattle.fs_machine.specs.Ops.{answer_in}
-use Rattle.fs_machine.proofs.Fits.{tables-stay}
+use Rattle.fs_machine.proofs.Lemmas.{refl, ap, inl, Passes, part_of, state_of, Honest, answer_in, tables-stay}
 use Rattle.fs_machine.proofs.hand.Hand.take_place.Goals as goal
 
 pub returns : goal.returns

@@ -1,12 +1,5 @@
-use Rattle.std.proofs.Common.{◌≡◌, Some, refl, sym, ap, ◌∙◌, subst, inl}
-use Rattle.atomic_programs.specs.Prog.{Ran}
-use Rattle.fs_machine.specs.LogPart.{Passes, part_of}
+use Rattle.fs_machine.proofs.Lemmas.{◌≡◌, Some, refl, sym, ap, ◌∙◌, subst, inl, Ran, Passes, part_of, State, state_of, exec, Honest, HandFits, answer_in, inode-given, inode-in}
 use Rattle.fs_machine.specs.Steps as steps
-use Rattle.fs_machine.specs.Steps.{State, state_of, exec}
-use Rattle.fs_machine.specs.Premises.{Honest}
-use Rattle.fs_machine.specs.Hands.{HandFits}
-use Rattle.fs_machine.specs.Ops.{answer_in}
-use Rattle.fs_machine.proofs.Fits.{inode-given, inode-in}
 use Rattle.fs_machine.proofs.hand.Hand.unlock_moving.Goals as goal
 
 pub unlock_moving-requires-clause-own : goal.unlock_moving-requires-clause-own

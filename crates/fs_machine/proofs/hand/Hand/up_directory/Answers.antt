@@ -1,11 +1,4 @@
-use Rattle.std.proofs.Common.{ℕ, Option, Some, None, refl, sym, ap, ◌∙◌, subst, inl}
-use Rattle.atomic_programs.specs.Prog.{Ran}
-use Rattle.fs_machine.specs.LogPart.{Passes, part_of}
-use Rattle.fs_machine.specs.Steps.{state_of}
-use Rattle.fs_machine.specs.Premises.{Honest}
-use Rattle.fs_machine.specs.Hands.{HandFits, reference_at}
-use Rattle.fs_machine.specs.Ops.{answer_in}
-use Rattle.fs_machine.proofs.Fits.{reference-none, tables-stay, refers, reference-there}
+use Rattle.fs_machine.proofs.Lemmas.{ℕ, Option, Some, None, refl, sym, ap, ◌∙◌, subst, inl, Ran, Passes, part_of, state_of, Honest, HandFits, reference_at, answer_in, reference-none, tables-stay, refers, reference-there}
 use Rattle.fs_machine.proofs.hand.Hand.up_directory.Goals as goal
 
 pub returns-in-None : goal.returns-in-None

@@ -1,7 +1,4 @@
-use Rattle.std.proofs.Common.{ap, sym}
-use Rattle.atomic_programs.specs.Prog.{Ran}
-use Rattle.fs_machine.specs.Steps.{exec, state_of}
-use Rattle.fs_machine.specs.Premises.{May}
+use Rattle.fs_machine.proofs.Lemmas.{ap, sym, Ran, exec, state_of, May}
 use Rattle.fs_machine.proofs.shared.Core.check_file.Goals as goal
 
 pub check-requires : goal.check-requires

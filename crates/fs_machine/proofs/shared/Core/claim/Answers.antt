@@ -1,9 +1,4 @@
-use Rattle.std.proofs.Common.{◌∙◌, ap, sym, arith}
-use Rattle.atomic_programs.specs.Prog.{Ran}
-use Rattle.fs_machine.specs.LogPart.{LogPart}
-use Rattle.fs_machine.specs.Steps.{State, exec, NoInode, claims, claim_first, in_tables, state_of}
-use Rattle.fs_machine.proofs.Ran.{put_back_ran}
-use Rattle.fs_machine.proofs.Held.{unreferenced}
+use Rattle.fs_machine.proofs.Lemmas.{◌∙◌, ap, sym, arith, Ran, LogPart, State, exec, NoInode, claims, claim_first, in_tables, state_of, put_back_ran, unreferenced}
 use Rattle.fs_machine.proofs.shared.Core.claim.Goals as goal
 
 pub up-requires : goal.up-requires

@@ -1,10 +1,4 @@
-use Rattle.std.proofs.Common.{ap, ◌∙◌, arith}
-use Rattle.atomic_programs.specs.Prog.{did_in}
-use Rattle.fs_machine.specs.LogPart.{LogPart, part_of}
-use Rattle.fs_machine.specs.Steps.{State, exec}
-use Rattle.fs_machine.specs.Premises.{May, Honest}
-use Rattle.fs_machine.proofs.Ran.{commit_ran, commit_honest}
-use Rattle.fs_machine.proofs.Parts.{committed-in}
+use Rattle.fs_machine.proofs.Lemmas.{ap, ◌∙◌, arith, did_in, LogPart, part_of, State, exec, May, Honest, commit_ran, commit_honest, committed-in}
 use Rattle.fs_machine.proofs.shared.Core.commit.Goals as goal
 
 pub commit_step-requires-clause-hart : goal.commit_step-requires-clause-hart

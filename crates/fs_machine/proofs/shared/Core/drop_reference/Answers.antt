@@ -1,11 +1,4 @@
-use Rattle.std.proofs.Common.{ap, ◌∙◌, arith}
-use Rattle.atomic_programs.specs.Prog.{did_in}
-use Rattle.fs_machine.specs.Tables.{TablesState}
-use Rattle.fs_machine.specs.LogPart.{part_of}
-use Rattle.fs_machine.specs.Steps.{State, exec}
-use Rattle.fs_machine.specs.Premises.{May}
-use Rattle.fs_machine.proofs.Parts.{dropped-in}
-use Rattle.fs_machine.proofs.Held.{dying-in, dying-apart}
+use Rattle.fs_machine.proofs.Lemmas.{ap, ◌∙◌, arith, did_in, TablesState, part_of, State, exec, May, dropped-in, dying-in, dying-apart}
 use Rattle.fs_machine.proofs.shared.Core.drop_reference.Goals as goal
 
 pub drop_reference-requires-clause-some : goal.drop_reference-requires-clause-some

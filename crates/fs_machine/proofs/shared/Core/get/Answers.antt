@@ -1,10 +1,4 @@
-use Rattle.std.proofs.Common.{ap, ◌∙◌}
-use Rattle.atomic_programs.specs.Prog.{did_in}
-use Rattle.fs_machine.specs.LogPart.{LogPart, part_of}
-use Rattle.fs_machine.specs.Steps.{State, exec}
-use Rattle.fs_machine.specs.Premises.{May}
-use Rattle.fs_machine.proofs.Ran.{get_ran, get_still, get_own}
-use Rattle.fs_machine.proofs.Parts.{got-in}
+use Rattle.fs_machine.proofs.Lemmas.{ap, ◌∙◌, did_in, LogPart, part_of, State, exec, May, get_ran, get_still, get_own, got-in}
 use Rattle.fs_machine.proofs.shared.Core.get.Goals as goal
 
 pub returns-clause-ran : goal.returns-clause-ran

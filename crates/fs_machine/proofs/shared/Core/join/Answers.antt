@@ -1,9 +1,4 @@
-use Rattle.std.proofs.Common.{ap, ◌∙◌}
-use Rattle.atomic_programs.specs.Prog.{did_in}
-use Rattle.fs_machine.specs.LogPart.{LogPart, part_of}
-use Rattle.fs_machine.specs.Steps.{State, exec}
-use Rattle.fs_machine.proofs.Ran.{join_ran}
-use Rattle.fs_machine.proofs.Parts.{joined-in}
+use Rattle.fs_machine.proofs.Lemmas.{ap, ◌∙◌, did_in, LogPart, part_of, State, exec, join_ran, joined-in}
 use Rattle.fs_machine.proofs.shared.Core.join.Goals as goal
 
 pub returns-clause-ran : goal.returns-clause-ran

@@ -1,10 +1,4 @@
-use Rattle.std.proofs.Common.{ap, sym, ◌∙◌, Some, None}
-use Rattle.atomic_programs.specs.Prog.{Did}
-use Rattle.fs_machine.specs.Tables.{file_named}
-use Rattle.fs_machine.specs.LogPart.{LogPart}
-use Rattle.fs_machine.specs.Steps.{State, exec, in_log, joins, state_of}
-use Rattle.fs_machine.proofs.Held.{join_tried, join_refused}
-use Rattle.fs_machine.proofs.Ran.{join_ran}
+use Rattle.fs_machine.proofs.Lemmas.{ap, sym, ◌∙◌, Some, None, Did, file_named, LogPart, State, exec, in_log, joins, state_of, join_tried, join_refused, join_ran}
 use Rattle.fs_machine.proofs.shared.Core.join_to_write.Goals as goal
 
 pub returns-in-Some-clause-ran : goal.returns-in-Some-clause-ran

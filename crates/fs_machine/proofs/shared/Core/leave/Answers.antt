@@ -1,10 +1,4 @@
-use Rattle.std.proofs.Common.{ap, subst, sym}
-use Rattle.group_log.specs.Group.{IsMember}
-use Rattle.atomic_programs.specs.Prog.{did_in}
-use Rattle.fs_machine.specs.LogPart.{LogPart}
-use Rattle.fs_machine.specs.Steps.{State, exec}
-use Rattle.fs_machine.specs.Premises.{May}
-use Rattle.fs_machine.proofs.Ran.{leave_ran}
+use Rattle.fs_machine.proofs.Lemmas.{ap, subst, sym, IsMember, did_in, LogPart, State, exec, May, leave_ran}
 use Rattle.fs_machine.proofs.shared.Core.leave.Goals as goal
 
 pub leave-requires-clause-member : goal.leave-requires-clause-member

@@ -1,15 +1,4 @@
-use Rattle.std.proofs.Common.{◌≡◌, ap, ◌∙◌, subst}
-use Rattle.std.specs.Prelude.{IfSome}
-use Rattle.atomic_programs.specs.Prog.{did_in}
-use Rattle.fs_machine.specs.Tables.{TablesState}
-use Rattle.fs_machine.specs.Inodes.{lock_inode}
-use Rattle.fs_machine.specs.Results.{locked_as}
-use Rattle.fs_machine.specs.Tied.{IsOwnInode}
-use Rattle.fs_machine.specs.LogPart.{part_of}
-use Rattle.fs_machine.specs.Steps.{State, exec}
-use Rattle.fs_machine.proofs.Parts.{locked-in}
-use Rattle.fs_machine.specs.Stays.{HasNone}
-use Rattle.fs_machine.proofs.Held.{still-in, own-in, lock-apart}
+use Rattle.fs_machine.proofs.Lemmas.{◌≡◌, ap, ◌∙◌, subst, IfSome, did_in, TablesState, lock_inode, locked_as, IsOwnInode, part_of, State, exec, locked-in, HasNone, still-in, own-in, lock-apart}
 use Rattle.fs_machine.proofs.shared.Core.lock.Goals as goal
 
 pub returns-clause-ran : goal.returns-clause-ran

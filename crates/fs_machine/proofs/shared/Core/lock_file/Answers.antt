@@ -1,10 +1,4 @@
-use Rattle.std.proofs.Common.{ap, sym, ◌∙◌}
-use Rattle.atomic_programs.specs.Prog.{did_in}
-use Rattle.fs_machine.specs.Tables.{TablesState}
-use Rattle.fs_machine.specs.Inodes.{with_file}
-use Rattle.fs_machine.specs.LogPart.{part_of}
-use Rattle.fs_machine.specs.Steps.{State, exec}
-use Rattle.fs_machine.proofs.Held.{file_refused, file_tried}
+use Rattle.fs_machine.proofs.Lemmas.{ap, sym, ◌∙◌, did_in, TablesState, with_file, part_of, State, exec, file_refused, file_tried}
 use Rattle.fs_machine.proofs.shared.Core.lock_file.Goals as goal
 
 pub returns-in-Some-clause-ran : goal.returns-in-Some-clause-ran

@@ -1,9 +1,4 @@
-use Rattle.std.proofs.Common.{ap, sym, ◌∙◌}
-use Rattle.atomic_programs.specs.Prog.{did_in}
-use Rattle.fs_machine.specs.Tables.{TablesState}
-use Rattle.fs_machine.specs.LogPart.{part_of}
-use Rattle.fs_machine.specs.Steps.{State, exec, with_open}
-use Rattle.fs_machine.proofs.Held.{open_tried}
+use Rattle.fs_machine.proofs.Lemmas.{ap, sym, ◌∙◌, did_in, TablesState, part_of, State, exec, with_open, open_tried}
 use Rattle.fs_machine.proofs.shared.Core.lock_open.Goals as goal
 
 pub returns-in-None-lock-clause-ran : goal.returns-in-None-lock-clause-ran

@@ -1,8 +1,4 @@
-use Rattle.std.proofs.Common.{ap}
-use Rattle.atomic_programs.specs.Prog.{Ran}
-use Rattle.fs_machine.specs.LogPart.{LogPart}
-use Rattle.fs_machine.specs.Steps.{exec}
-use Rattle.fs_machine.proofs.Ran.{put_back_ran}
+use Rattle.fs_machine.proofs.Lemmas.{ap, Ran, LogPart, exec, put_back_ran}
 use Rattle.fs_machine.proofs.shared.Core.put_back.Goals as goal
 
 pub returns-clause-ran : goal.returns-clause-ran

@@ -1,10 +1,4 @@
-use Rattle.std.proofs.Common.{◌≡◌, false, ap, subst, sym}
-use Rattle.group_log.specs.Group.{has, IsMember, HasRoom}
-use Rattle.atomic_programs.specs.Prog.{Ran}
-use Rattle.fs_machine.specs.LogPart.{LogPart}
-use Rattle.fs_machine.specs.Steps.{exec}
-use Rattle.fs_machine.specs.Premises.{May}
-use Rattle.fs_machine.proofs.Ran.{put_changed_ran}
+use Rattle.fs_machine.proofs.Lemmas.{◌≡◌, false, ap, subst, sym, has, IsMember, HasRoom, Ran, LogPart, exec, May, put_changed_ran}
 use Rattle.fs_machine.proofs.shared.Core.put_changed.Goals as goal
 
 pub record-requires-clause-member : goal.record-requires-clause-member

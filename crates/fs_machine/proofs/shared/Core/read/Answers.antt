@@ -1,10 +1,4 @@
-use Rattle.std.proofs.Common.{ap, ◌∙◌}
-use Rattle.atomic_programs.specs.Prog.{did_in}
-use Rattle.fs_machine.specs.LogPart.{LogPart, part_of}
-use Rattle.fs_machine.specs.Steps.{State, exec}
-use Rattle.fs_machine.specs.Premises.{May, Honest}
-use Rattle.fs_machine.proofs.Ran.{read_ran, read_honest}
-use Rattle.fs_machine.proofs.Parts.{read-in}
+use Rattle.fs_machine.proofs.Lemmas.{ap, ◌∙◌, did_in, LogPart, part_of, State, exec, May, Honest, read_ran, read_honest, read-in}
 use Rattle.fs_machine.proofs.shared.Core.read.Goals as goal
 
 pub fill-requires-clause-within : goal.fill-requires-clause-within

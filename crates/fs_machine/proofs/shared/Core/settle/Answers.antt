@@ -1,10 +1,4 @@
-use Rattle.std.proofs.Common.{◌≡◌, ap, subst}
-use Rattle.atomic_programs.specs.Prog.{did_in}
-use Rattle.fs_machine.specs.Tables.{TablesState}
-use Rattle.fs_machine.specs.LogPart.{part_of}
-use Rattle.fs_machine.specs.Steps.{State, exec}
-use Rattle.atomic_programs.specs.Prog.{Ran}
-use Rattle.fs_machine.specs.Inodes.{settle_inode, settled}
+use Rattle.fs_machine.proofs.Lemmas.{◌≡◌, ap, subst, did_in, TablesState, part_of, State, exec, Ran, settle_inode, settled}
 use Rattle.fs_machine.proofs.shared.Core.settle.Goals as goal
 
 pub unlock-requires-clause-own : goal.unlock-requires-clause-own

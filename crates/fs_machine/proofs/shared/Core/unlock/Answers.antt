@@ -1,8 +1,4 @@
-use Rattle.std.proofs.Common.{ap, sym}
-use Rattle.atomic_programs.specs.Prog.{Ran}
-use Rattle.fs_machine.specs.Tables.{TablesState}
-use Rattle.fs_machine.specs.LogPart.{part_of}
-use Rattle.fs_machine.specs.Steps.{exec}
+use Rattle.fs_machine.proofs.Lemmas.{ap, sym, Ran, TablesState, part_of, exec}
 use Rattle.fs_machine.proofs.shared.Core.unlock.Goals as goal
 
 pub unlock-requires-clause-own : goal.unlock-requires-clause-own

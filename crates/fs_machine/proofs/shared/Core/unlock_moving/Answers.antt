@@ -1,9 +1,4 @@
-use Rattle.std.proofs.Common.{◌≡◌, ◌∙◌, ap, sym, Some, None}
-use Rattle.fs_machine.specs.Tables.{TablesState}
-use Rattle.fs_machine.specs.LogPart.{part_of}
-use Rattle.fs_machine.specs.Steps.{State, exec}
-use Rattle.atomic_programs.specs.Prog.{Ran}
-use Rattle.fs_machine.specs.Inodes.{unlock_inode}
+use Rattle.fs_machine.proofs.Lemmas.{◌≡◌, ◌∙◌, ap, sym, Some, None, TablesState, part_of, State, exec, Ran, unlock_inode}
 use Rattle.fs_machine.proofs.shared.Core.unlock_moving.Goals as goal
 
 pub move_offset-requires : goal.move_offset-requires

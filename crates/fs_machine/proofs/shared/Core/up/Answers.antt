@@ -1,8 +1,4 @@
-use Rattle.std.proofs.Common.{ap}
-use Rattle.atomic_programs.specs.Prog.{did_in}
-use Rattle.fs_machine.specs.Tables.{TablesState}
-use Rattle.fs_machine.specs.LogPart.{part_of}
-use Rattle.fs_machine.specs.Steps.{State, exec}
+use Rattle.fs_machine.proofs.Lemmas.{ap, did_in, TablesState, part_of, State, exec}
 use Rattle.fs_machine.proofs.shared.Core.up.Goals as goal
 
 pub returns-clause-ran : goal.returns-clause-ran

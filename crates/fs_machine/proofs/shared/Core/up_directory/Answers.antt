@@ -1,12 +1,4 @@
-use Rattle.std.proofs.Common.{◌≡◌, ◌+◌, ◌<◌, ◌^◌, ap, sym, subst}
-use Rattle.atomic_programs.specs.Prog.{did_in}
-use Rattle.fs_machine.specs.Tables.{TablesState}
-use Rattle.fs_machine.specs.LogPart.{part_of}
-use Rattle.fs_machine.specs.Steps.{State, exec}
-use Rattle.fs_machine.specs.Premises.{May}
-use Rattle.atomic_programs.specs.Prog.{Ran}
-use Rattle.fs_machine.specs.Tables.{references_of}
-use Rattle.fs_machine.specs.Inodes.{up_directory, up_inode}
+use Rattle.fs_machine.proofs.Lemmas.{◌≡◌, ◌+◌, ◌<◌, ◌^◌, ap, sym, subst, did_in, TablesState, part_of, State, exec, May, Ran, references_of, up_directory, up_inode}
 use Rattle.fs_machine.proofs.shared.Core.up_directory.Goals as goal
 
 pub up-requires : goal.up-requires

@@ -1,9 +1,5 @@
-use Rattle.std.proofs.Common.{◌≡◌, ◌∙◌, sym, subst, Some}
-use Rattle.atomic_programs.specs.Prog.{Ran}
+use Rattle.fs_machine.proofs.Lemmas.{◌≡◌, ◌∙◌, sym, subst, Some, Ran, TablesState, double_descriptor, with_descriptor, desks_changed, double_bad, double_full, double_gave}
 use Rattle.fs_machine.specs.declared.slots.Doubled.TheVariants as doubled
-use Rattle.fs_machine.specs.Tables.{TablesState}
-use Rattle.fs_machine.specs.Files.{double_descriptor, with_descriptor}
-use Rattle.fs_machine.proofs.Opening.{desks_changed, double_bad, double_full, double_gave}
 use Rattle.fs_machine.proofs.tables.Tables.double.Goals as goal
 
 pub invariant_of-self : goal.invariant_of-self

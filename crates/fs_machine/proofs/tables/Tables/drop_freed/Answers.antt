@@ -1,14 +1,4 @@
-use Rattle.std.proofs.Common.{◌≡◌, ◌∙◌, ◌<◌, ap, sym, subst, List, Some, None}
-use Rattle.std.specs.Prelude.{IfSome}
-use Rattle.atomic_programs.specs.Prog.{Ran}
-use Rattle.fs_machine.specs.declared.entries.Entry.{Entry}
-use Rattle.fs_machine.specs.Tables.{TablesState, place_of, references_of, holder_of}
-use Rattle.fs_machine.specs.Inodes.{drop_freed, uncounted_at, Counts}
-use Rattle.fs_machine.specs.Locks.{LeavesLocked}
-use Rattle.fs_machine.specs.Soundness.{IsSoundInodes}
-use Rattle.fs_machine.proofs.Places.{found}
-use Rattle.fs_machine.proofs.Counting.{uncounted_good, uncounted_locked, last_free}
-use Rattle.fs_machine.proofs.Dying.{freed_nowhere, freed_counted}
+use Rattle.fs_machine.proofs.Lemmas.{◌≡◌, ◌∙◌, ◌<◌, ap, sym, subst, List, Some, None, IfSome, Ran, Entry, TablesState, place_of, references_of, holder_of, drop_freed, uncounted_at, Counts, LeavesLocked, IsSoundInodes, found, uncounted_good, uncounted_locked, last_free, freed_nowhere, freed_counted}
 use Rattle.fs_machine.proofs.tables.Tables.drop_freed.Goals as goal
 
 pub count_down-requires-clause-some : goal.count_down-requires-clause-some

@@ -1,16 +1,4 @@
-use Rattle.std.proofs.Common.{◌≡◌, ◌∙◌, ap, sym, subst, refl, List, Some, None}
-use Rattle.sleep_lock.specs.SleepLock.{SlotState}
-use Rattle.atomic_programs.specs.Prog.{Ran}
-use Rattle.fs_machine.specs.declared.entries.Entry.{Entry}
-use Rattle.fs_machine.specs.declared.entries.Inode.{Inode}
-use Rattle.fs_machine.specs.Tables.{TablesState, place_of, references_of, holder_of}
-use Rattle.fs_machine.specs.Inodes.{drop_inode, uncounted_at, Counts, Dies}
-use Rattle.fs_machine.specs.Locks.{IsLocked, LeavesLocked}
-use Rattle.fs_machine.specs.Soundness.{IsSoundInodes}
-use Rattle.fs_machine.proofs.Places.{found}
-use Rattle.fs_machine.proofs.Locking.{lock_good, lock_own, lock_leaves, lock_apart, lock_had}
-use Rattle.fs_machine.proofs.Counting.{uncounted_good, uncounted_locked, last_free}
-use Rattle.fs_machine.proofs.Dying.{drop_counted, drop_dies}
+use Rattle.fs_machine.proofs.Lemmas.{◌≡◌, ◌∙◌, ap, sym, subst, refl, List, Some, None, SlotState, Ran, Entry, Inode, TablesState, place_of, references_of, holder_of, drop_inode, uncounted_at, Counts, Dies, IsLocked, LeavesLocked, IsSoundInodes, found, lock_good, lock_own, lock_leaves, lock_apart, lock_had, uncounted_good, uncounted_locked, last_free, drop_counted, drop_dies}
 use Rattle.fs_machine.proofs.tables.Tables.drop_reference.Goals as goal
 
 pub invariant_of-self : goal.invariant_of-self

@@ -1,16 +1,4 @@
-use Rattle.std.proofs.Common.{◌≡◌, ◌∙◌, ◌<◌, ap, sym, subst, List, Some, None}
-use Rattle.std.specs.Prelude.{IfSome}
-use Rattle.sleep_lock.specs.SleepLock.{SlotState}
-use Rattle.atomic_programs.specs.Prog.{Ran}
-use Rattle.fs_machine.specs.declared.entries.Entry.{Entry}
-use Rattle.fs_machine.specs.declared.entries.Inode.{Inode}
-use Rattle.fs_machine.specs.Tables.{TablesState, place_of, references_of, holder_of}
-use Rattle.fs_machine.specs.Inodes.{drop_walked, uncounted_at, Counts, Keeps}
-use Rattle.fs_machine.specs.Locks.{LeavesLocked}
-use Rattle.fs_machine.specs.Soundness.{IsSoundInodes}
-use Rattle.fs_machine.proofs.Places.{found}
-use Rattle.fs_machine.proofs.Counting.{uncounted_good, uncounted_locked, last_free}
-use Rattle.fs_machine.proofs.Dying.{walked_nowhere, walked_counted, walked_kept}
+use Rattle.fs_machine.proofs.Lemmas.{◌≡◌, ◌∙◌, ◌<◌, ap, sym, subst, List, Some, None, IfSome, SlotState, Ran, Entry, Inode, TablesState, place_of, references_of, holder_of, drop_walked, uncounted_at, Counts, Keeps, LeavesLocked, IsSoundInodes, found, uncounted_good, uncounted_locked, last_free, walked_nowhere, walked_counted, walked_kept}
 use Rattle.fs_machine.proofs.tables.Tables.drop_walked.Goals as goal
 
 pub count_down-requires-clause-some : goal.count_down-requires-clause-some

@@ -1,17 +1,5 @@
-use Rattle.std.proofs.Common.{◌≡◌, ◌∙◌, ap, sym, subst, List}
-use Rattle.std.specs.Prelude.{slice_get}
-use Rattle.atomic_programs.specs.Prog.{Ran}
-use Rattle.fs_machine.specs.declared.entries.Entry.{Entry}
+use Rattle.fs_machine.proofs.Lemmas.{◌≡◌, ◌∙◌, ap, sym, subst, List, slice_get, Ran, Entry, directory_of, with_directory, given_directory, LeavesLocked, IsSoundInodes, TablesState, place_of, found, counted_good, counted_locked, desks_changed, given_nowhere, given_there}
 use Rattle.fs_machine.specs.declared.slots.Given.TheVariants as given
-use Rattle.fs_machine.specs.Inodes.{directory_of, with_directory}
-use Rattle.fs_machine.specs.Files.{given_directory}
-use Rattle.fs_machine.specs.Locks.{LeavesLocked}
-use Rattle.fs_machine.specs.Soundness.{IsSoundInodes}
-use Rattle.fs_machine.specs.Tables.{TablesState, place_of}
-use Rattle.fs_machine.proofs.Places.{found}
-use Rattle.fs_machine.proofs.Counting.{counted_good, counted_locked}
-use Rattle.fs_machine.proofs.Opening.{desks_changed}
-use Rattle.fs_machine.proofs.GivenDirectory.{given_nowhere, given_there}
 use Rattle.fs_machine.proofs.tables.Tables.give_directory.Goals as goal
 
 pub invariant_of-self : goal.invariant_of-self

@@ -1,13 +1,4 @@
-use Rattle.std.proofs.Common.{◌≡◌, ◌≢◌, ◌∙◌, ap, refl, sym, subst, List, Option, Some, None}
-use Rattle.std.specs.Prelude.{IfNone, IfSome}
-use Rattle.sleep_lock.specs.SleepLock.{SlotState, GuardState}
-use Rattle.fs_machine.specs.declared.entries.Inode.{Inode}
-use Rattle.fs_machine.specs.Tables.{TablesState, place_of}
-use Rattle.fs_machine.specs.Locks.{IsLocked}
-use Rattle.fs_machine.specs.Inodes.{lock_inode}
-use Rattle.fs_machine.specs.Results.{locked_as}
-use Rattle.fs_machine.proofs.Places.{found}
-use Rattle.fs_machine.proofs.Locking.{lock_ran, lock_waits, lock_good, lock_still, lock_own, lock_leaves, lock_apart}
+use Rattle.fs_machine.proofs.Lemmas.{◌≡◌, ◌≢◌, ◌∙◌, ap, refl, sym, subst, List, Option, Some, None, IfNone, IfSome, SlotState, GuardState, Inode, TablesState, place_of, IsLocked, lock_inode, locked_as, found, lock_ran, lock_waits, lock_good, lock_still, lock_own, lock_leaves, lock_apart}
 use Rattle.fs_machine.proofs.tables.Tables.lock.Goals as goal
 
 pub invariant_of-self : goal.invariant_of-self

@@ -1,10 +1,4 @@
-use Rattle.std.proofs.Common.{◌∙◌, sym, ap, subst, refl, List}
-use Rattle.sleep_lock.specs.SleepLock.{SlotState}
-use Rattle.sleep_lock.specs.Row.{row_of}
-use Rattle.fs_machine.specs.declared.entries.Inode.{Inode}
-use Rattle.fs_machine.specs.Fresh.{fresh}
-use Rattle.fs_machine.specs.Soundness.{IsSoundInodes}
-use Rattle.fs_machine.proofs.Making.{fresh_good}
+use Rattle.fs_machine.proofs.Lemmas.{◌∙◌, sym, ap, subst, refl, List, SlotState, row_of, Inode, fresh, IsSoundInodes, fresh_good}
 use Rattle.fs_machine.proofs.tables.Tables.new.Goals as goal
 
 pub invariant_of-result : goal.invariant_of-result

@@ -1,10 +1,4 @@
-use Rattle.std.proofs.Common.{◌≡◌, ◌∙◌, ap, sym, subst, Some, None}
-use Rattle.std.specs.Prelude.{slice_set}
-use Rattle.atomic_programs.specs.Prog.{Ran}
-use Rattle.fs_machine.specs.declared.files.FilePlace.TheVariants.{Free, Open}
-use Rattle.fs_machine.specs.Tables.{TablesState}
-use Rattle.fs_machine.specs.Files.{open_file, with_descriptor, with_hand}
-use Rattle.fs_machine.proofs.Opening.{files_set, desks_changed, open_nowhere, open_full, open_gave}
+use Rattle.fs_machine.proofs.Lemmas.{◌≡◌, ◌∙◌, ap, sym, subst, Some, None, slice_set, Ran, Free, Open, TablesState, open_file, with_descriptor, with_hand, files_set, desks_changed, open_nowhere, open_full, open_gave}
 use Rattle.fs_machine.proofs.tables.Tables.open.Goals as goal
 
 pub invariant_of-self : goal.invariant_of-self

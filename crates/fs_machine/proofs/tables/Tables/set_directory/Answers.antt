@@ -1,9 +1,4 @@
-use Rattle.std.proofs.Common.{◌≡◌, ◌∙◌, ap, sym, subst}
-use Rattle.atomic_programs.specs.Prog.{Ran}
-use Rattle.fs_machine.specs.Lists.{change_at}
-use Rattle.fs_machine.specs.Tables.{TablesState}
-use Rattle.fs_machine.specs.Inodes.{settled, with_directory}
-use Rattle.fs_machine.proofs.Opening.{desks_changed}
+use Rattle.fs_machine.proofs.Lemmas.{◌≡◌, ◌∙◌, ap, sym, subst, Ran, change_at, TablesState, settled, with_directory, desks_changed}
 use Rattle.fs_machine.proofs.tables.Tables.set_directory.Goals as goal
 
 pub invariant_of-self : goal.invariant_of-self

@@ -1,10 +1,5 @@
-use Rattle.std.proofs.Common.{◌≡◌, ◌∙◌, ap, sym, subst, None}
-use Rattle.atomic_programs.specs.Prog.{Ran}
-use Rattle.fs_machine.specs.declared.files.FilePlace.TheVariants.{Free}
+use Rattle.fs_machine.proofs.Lemmas.{◌≡◌, ◌∙◌, ap, sym, subst, None, Ran, Free, TablesState, shut_descriptor, with_descriptor, files_set, desks_changed, shut_bad, shut_named, shut_nothing, shut_last}
 use Rattle.fs_machine.specs.declared.slots.Shut.TheVariants as shut
-use Rattle.fs_machine.specs.Tables.{TablesState}
-use Rattle.fs_machine.specs.Files.{shut_descriptor, with_descriptor}
-use Rattle.fs_machine.proofs.Opening.{files_set, desks_changed, shut_bad, shut_named, shut_nothing, shut_last}
 use Rattle.fs_machine.proofs.tables.Tables.shut.Goals as goal
 
 pub invariant_of-self : goal.invariant_of-self

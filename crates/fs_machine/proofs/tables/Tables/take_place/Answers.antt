@@ -1,9 +1,4 @@
-use Rattle.std.proofs.Common.{◌≡◌, ◌∙◌, sym, subst, Some, true, false}
-use Rattle.atomic_programs.specs.Prog.{Ran}
-use Rattle.fs_machine.specs.declared.files.FilePlace.TheVariants.{Taken}
-use Rattle.fs_machine.specs.Tables.{TablesState}
-use Rattle.fs_machine.specs.Files.{take_place, with_hand}
-use Rattle.fs_machine.proofs.Opening.{files_set, desks_changed, none_taken, taken_ran}
+use Rattle.fs_machine.proofs.Lemmas.{◌≡◌, ◌∙◌, sym, subst, Some, true, false, Ran, Taken, TablesState, take_place, with_hand, files_set, desks_changed, none_taken, taken_ran}
 use Rattle.fs_machine.proofs.tables.Tables.take_place.Goals as goal
 
 pub invariant_of-self : goal.invariant_of-self

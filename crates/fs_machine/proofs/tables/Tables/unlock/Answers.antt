@@ -1,8 +1,4 @@
-use Rattle.std.proofs.Common.{◌≡◌, sym, subst, None}
-use Rattle.fs_machine.specs.Tables.{TablesState}
-use Rattle.fs_machine.specs.Locks.{IsLocked}
-use Rattle.fs_machine.specs.Inodes.{unlock_inode}
-use Rattle.fs_machine.proofs.Locking.{unlock_ran, unlock_good, unlock_frees, unlock_leaves}
+use Rattle.fs_machine.proofs.Lemmas.{◌≡◌, sym, subst, None, TablesState, IsLocked, unlock_inode, unlock_ran, unlock_good, unlock_frees, unlock_leaves}
 use Rattle.fs_machine.proofs.tables.Tables.unlock.Goals as goal
 
 pub invariant_of-self : goal.invariant_of-self

@@ -1,16 +1,4 @@
-use Rattle.std.proofs.Common.{◌≡◌, ◌∙◌, ap, sym, subst, List, Some, None}
-use Rattle.std.specs.Prelude.{slice_set}
-use Rattle.sleep_lock.specs.SleepLock.{SlotState}
-use Rattle.atomic_programs.specs.Prog.{Ran}
-use Rattle.fs_machine.specs.declared.entries.Entry.{Entry}
-use Rattle.fs_machine.specs.declared.entries.Inode.{Inode}
-use Rattle.fs_machine.specs.Tables.{TablesState}
-use Rattle.fs_machine.specs.Inodes.{up_inode, begun_at}
-use Rattle.fs_machine.specs.Locks.{LeavesLocked}
-use Rattle.fs_machine.specs.Soundness.{IsSoundInodes}
-use Rattle.fs_machine.proofs.Places.{found}
-use Rattle.fs_machine.proofs.Counting.{counted_good, counted_locked}
-use Rattle.fs_machine.proofs.Beginning.{free, free_if, begun_good, begun_locked, up_counted, up_begun, up_full}
+use Rattle.fs_machine.proofs.Lemmas.{◌≡◌, ◌∙◌, ap, sym, subst, List, Some, None, slice_set, SlotState, Ran, Entry, Inode, TablesState, up_inode, begun_at, LeavesLocked, IsSoundInodes, found, counted_good, counted_locked, free, free_if, begun_good, begun_locked, up_counted, up_begun, up_full}
 use Rattle.fs_machine.proofs.tables.Tables.up.Goals as goal
 
 pub invariant_of-self : goal.invariant_of-self

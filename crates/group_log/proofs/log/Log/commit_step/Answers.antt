@@ -1,15 +1,4 @@
-use Rattle.std.proofs.Common.{◌≡◌, ◌≢◌, ◌∙◌, ap, refl, sym, subst, ℕ, List, length, if◌then◌else◌}
-use Rattle.fs_layout.specs.Recovered.{recovered, IsOutsideLog}
-use Rattle.buffer_cache.specs.Seats.{seen}
-use Rattle.group_log.specs.declared.phase.Phase.TheVariants.{Open, Halted}
-use Rattle.group_log.specs.declared.commit.Progress.{Progress}
-use Rattle.group_log.specs.declared.commit.Progress.TheVariants.{Waits, Wrote, Ended, Failed}
-use Rattle.group_log.specs.Phases.{is_point, next_phase}
-use Rattle.group_log.specs.Turns.{seats_after}
-use Rattle.group_log.specs.Waiting.{IfMade, StaysOrBecomes}
-use Rattle.group_log.proofs.Committed.{done_good, failed_good, done_recovered, failed_recovered}
-use Rattle.group_log.proofs.Moving.{commit_move, done_move}
-use Rattle.group_log.proofs.Slots.{slots_halted, slots_written}
+use Rattle.group_log.proofs.Lemmas.{◌≡◌, ◌≢◌, ◌∙◌, ap, refl, sym, subst, ℕ, List, length, if◌then◌else◌, recovered, IsOutsideLog, seen, Open, Halted, Progress, Waits, Wrote, Ended, Failed, is_point, next_phase, seats_after, IfMade, StaysOrBecomes, done_good, failed_good, done_recovered, failed_recovered, commit_move, done_move, slots_halted, slots_written}
 use Rattle.group_log.proofs.log.Log.commit_step.Goals as goal
 
 pub invariant_of-self-in-Failed : goal.invariant_of-self-in-Failed

@@ -1,9 +1,4 @@
-use Rattle.std.proofs.Common.{◌≡◌, ◌∙◌, ap, sym, subst, refl, ℕ, List, Result, Ok, Err, OnOk, OnErr}
-use Rattle.fs_layout.specs.Recovered.{IsOutsideLog}
-use Rattle.block_device.specs.Blocks.{block_at}
-use Rattle.buffer_cache.specs.Seats.{SeatState, slot_of, with_seat, with_content}
-use Rattle.group_log.proofs.Kept.{Kept, kept_same, kept_change, sound_kept}
-use Rattle.group_log.proofs.Slots.{KeepSlots, slot_with, slots_kept}
+use Rattle.group_log.proofs.Lemmas.{◌≡◌, ◌∙◌, ap, sym, subst, refl, ℕ, List, Result, Ok, Err, OnOk, OnErr, IsOutsideLog, block_at, SeatState, slot_of, with_seat, with_content, Kept, kept_same, kept_change, sound_kept, KeepSlots, slot_with, slots_kept}
 use Rattle.group_log.proofs.log.Log.fill.Goals as goal
 
 filled : {T E : Type 0} (r : Result T E) (b : ℕ) (bytes : List ℕ) (old new : List SeatState) (A : Type 0) → OnOk r (new ≡ with_seat b (with_content bytes) old) → OnErr r (A × (new ≡ old)) → Kept b old new

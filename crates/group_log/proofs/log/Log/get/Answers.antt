@@ -1,8 +1,4 @@
-use Rattle.std.proofs.Common.{◌≡◌, ◌∙◌, ap, sym, subst}
-use Rattle.fs_layout.specs.Recovered.{IsOutsideLog}
-use Rattle.group_log.proofs.Getting.{same_cache, waits_same}
-use Rattle.group_log.proofs.Kept.{kept_get, sound_kept}
-use Rattle.group_log.proofs.Slots.{slots_get, slots_kept}
+use Rattle.group_log.proofs.Lemmas.{◌≡◌, ◌∙◌, ap, sym, subst, IsOutsideLog, same_cache, waits_same, kept_get, sound_kept, slots_get, slots_kept}
 use Rattle.group_log.proofs.log.Log.get.Goals as goal
 
 pub invariant_of-self : goal.invariant_of-self

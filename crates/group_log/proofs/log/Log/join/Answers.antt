@@ -1,6 +1,4 @@
-use Rattle.std.proofs.Common.{◌≡◌, ◌∙◌, sym, subst, Some, None, slice_get, slice_set, arith}
-use Rattle.group_log.specs.Soundness.{IsQuiet}
-use Rattle.group_log.proofs.Rooms.{rooms_le, rooms_join, length-set_member}
+use Rattle.group_log.proofs.Lemmas.{◌≡◌, ◌∙◌, sym, subst, Some, None, slice_get, slice_set, arith, IsQuiet, rooms_le, rooms_join, length-set_member}
 use Rattle.group_log.proofs.log.Log.join.Goals as goal
 
 pub invariant_of-self : goal.invariant_of-self

@@ -1,15 +1,4 @@
-use Rattle.std.proofs.Common.{◌≡◌, ◌≢◌, ◌∙◌, ◌+◌, ap, sym, subst, ℕ, List, None, slice_set, arith}
-use Rattle.group_log.specs.declared.phase.Phase.{Phase}
-use Rattle.group_log.specs.declared.phase.Phase.TheVariants.{Open, Halted}
-use Rattle.group_log.specs.declared.log.Left.TheVariants.{Free}
-use Rattle.group_log.specs.Group.{joined, IsMember}
-use Rattle.group_log.specs.Phases.{phase_at_leave}
-use Rattle.group_log.specs.Waiting.{left_at}
-use Rattle.group_log.specs.Soundness.{LogState, IsSoundLog}
-use Rattle.group_log.proofs.Rooms.{member_below, member_leaves}
-use Rattle.group_log.proofs.Steps.{open_of}
-use Rattle.group_log.proofs.Leaving.{commits_none, free_stays, left_good, begun_good}
-use Rattle.group_log.proofs.Slots.{slots_begun}
+use Rattle.group_log.proofs.Lemmas.{◌≡◌, ◌≢◌, ◌∙◌, ◌+◌, ap, sym, subst, ℕ, List, None, slice_set, arith, Phase, Open, Halted, Free, joined, IsMember, phase_at_leave, left_at, LogState, IsSoundLog, member_below, member_leaves, open_of, commits_none, free_stays, left_good, begun_good, slots_begun}
 use Rattle.group_log.proofs.log.Log.leave.Goals as goal
 
 pub bounds-self-inside-hart : goal.bounds-self-inside-hart

@@ -1,8 +1,4 @@
-use Rattle.std.proofs.Common.{sym, subst, ℕ, List, None, replicate}
-use Rattle.group_log.specs.declared.phase.Phase.TheVariants.{Open}
-use Rattle.group_log.specs.Soundness.{IsSoundLog}
-use Rattle.group_log.proofs.Fresh.{fresh_good, fresh_recovered, seen_on_disk}
-use Rattle.group_log.proofs.Slots.{no_slots}
+use Rattle.group_log.proofs.Lemmas.{sym, subst, ℕ, List, None, replicate, Open, IsSoundLog, fresh_good, fresh_recovered, seen_on_disk, no_slots}
 use Rattle.group_log.proofs.log.Log.new.Goals as goal
 
 pub invariant_of-result : goal.invariant_of-result

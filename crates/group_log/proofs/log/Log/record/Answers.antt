@@ -1,18 +1,4 @@
-use Rattle.std.proofs.Common.{◌≡◌, ◌≢◌, ◌⊎◌, ◌∙◌, ◌<◌, ap, sym, subst, ℕ, List, Option, Some, None, IfSome, true, false, arith}
-use Rattle.std.specs.Option.{option_map}
-use Rattle.buffer_cache.specs.Buffers.{BufferState}
-use Rattle.buffer_cache.specs.Lists.{count_of}
-use Rattle.buffer_cache.specs.Seats.{SeatState, CacheState, is_pinned, seat_of, with_seat, with_content, with_pin, given_back, IsHeld}
-use Rattle.group_log.specs.declared.phase.Phase.{Phase}
-use Rattle.group_log.specs.declared.phase.Phase.TheVariants.{Open, Halted}
-use Rattle.group_log.specs.Group.{has, with_block, members_with, HasRoom, IsMember}
-use Rattle.group_log.specs.Soundness.{LogState, IsHome, IsSoundLog}
-use Rattle.group_log.proofs.Rooms.{member_below}
-use Rattle.group_log.proofs.Getting.{same_cache}
-use Rattle.group_log.proofs.Steps.{open_of}
-use Rattle.group_log.proofs.Recorded.{room_to_add, room_to_pin, pinned_by_pin, recorded_all}
-use Rattle.group_log.proofs.Moving.{open_move}
-use Rattle.group_log.proofs.Slots.{slots_open, slots_recorded}
+use Rattle.group_log.proofs.Lemmas.{◌≡◌, ◌≢◌, ◌⊎◌, ◌∙◌, ◌<◌, ap, sym, subst, ℕ, List, Option, Some, None, IfSome, true, false, arith, option_map, BufferState, count_of, SeatState, CacheState, is_pinned, seat_of, with_seat, with_content, with_pin, given_back, IsHeld, Phase, Open, Halted, has, with_block, members_with, HasRoom, IsMember, LogState, IsHome, IsSoundLog, member_below, same_cache, open_of, room_to_add, room_to_pin, pinned_by_pin, recorded_all, open_move, slots_open, slots_recorded}
 use Rattle.group_log.proofs.log.Log.record.Goals as goal
 
 pub add-requires-clause-within : goal.add-requires-clause-within

@@ -1,8 +1,4 @@
-use Rattle.std.proofs.Common.{ap, sym, subst, ◌∙◌, List}
-use Rattle.fs_layout.specs.Recovered.{IsOutsideLog}
-use Rattle.buffer_cache.specs.Seats.{SeatState, slot_of}
-use Rattle.group_log.proofs.Kept.{Kept, kept_back, sound_kept}
-use Rattle.group_log.proofs.Slots.{slot_back, slots_kept}
+use Rattle.group_log.proofs.Lemmas.{ap, sym, subst, ◌∙◌, List, IsOutsideLog, SeatState, slot_of, Kept, kept_back, sound_kept, slot_back, slots_kept}
 use Rattle.group_log.proofs.log.Log.release.Goals as goal
 
 pub invariant_of-self : goal.invariant_of-self

@@ -1,15 +1,4 @@
-use Rattle.std.proofs.Common.{◌≡◌, Some, None, sym, subst}
-use Rattle.std.specs.Prelude.{get_or, slice_get}
-use Rattle.std.proofs.lemmas.Option.{slice_get_within}
-use Rattle.atomic_programs.specs.Calls.{Start, Started}
-use Rattle.atomic_programs.specs.Plain.{plain_makes}
-use Rattle.atomic_programs.specs.Prog.{plain}
-use Rattle.fs_machine.specs.Steps.{state_of}
-use Rattle.calls_on_blocks.specs.Theory.{block_calls}
-use Rattle.hart_core.specs.Blocks.{blocks, code}
-use Rattle.hart_core.specs.Harts.{HartsOf, programs_of}
-use Rattle.hart_core.proofs.RightCalls.{right_call}
-use Rattle.hart_core.proofs.Stepping.{all_set, begun_fits, begun_in, leaves_same}
+use Rattle.hart_core.proofs.Lemmas.{◌≡◌, Some, None, sym, subst, get_or, slice_get, slice_get_within, Start, Started, plain_makes, plain, state_of, block_calls, blocks, code, HartsOf, programs_of, right_call, all_set, begun_fits, begun_in, leaves_same}
 use Rattle.hart_core.proofs.harts.Harts.begin.Goals as goal
 
 pub begin-requires-clause-call : goal.begin-requires-clause-call

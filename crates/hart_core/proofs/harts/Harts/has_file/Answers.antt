@@ -1,9 +1,4 @@
-use Rattle.std.proofs.Common.{◌≡◌, true, false, refl, sym, ◌∙◌, ap, subst}
-use Rattle.std.specs.Prelude.{is_some}
-use Rattle.fs_machine.specs.Tables.{file_named}
-use Rattle.plain_tree.specs.Tree.{any_below}
-use Rattle.plain_tree.proofs.ReadLemmas.{below_true, below_more}
-use Rattle.hart_core.specs.Harts.{HartsOf}
+use Rattle.hart_core.proofs.Lemmas.{◌≡◌, true, false, refl, sym, ◌∙◌, ap, subst, is_some, file_named, any_below, below_true, below_more, HartsOf}
 use Rattle.hart_core.proofs.harts.Harts.has_file.Goals as goal
 
 pub loop-fd-init : goal.loop-fd-init

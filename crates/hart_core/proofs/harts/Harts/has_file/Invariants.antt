@@ -1,7 +1,4 @@
-use Rattle.std.proofs.Common.{◌≡◌, false}
-use Rattle.std.specs.Prelude.{is_some}
-use Rattle.plain_tree.specs.Tree.{any_below}
-use Rattle.fs_machine.specs.Tables.{file_named}
+use Rattle.hart_core.proofs.Lemmas.{◌≡◌, false, is_some, any_below, file_named}
 use Rattle.hart_core.proofs.harts.Harts.has_file.Given as goal
 
 abbrev pub invariant-loop-fd : goal.invariant-loop-fd

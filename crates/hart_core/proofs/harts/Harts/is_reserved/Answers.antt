@@ -1,6 +1,4 @@
-use Rattle.std.proofs.Common.{refl, sym, ◌∙◌}
-use Rattle.plain_tree.specs.Tree.{any_below}
-use Rattle.plain_tree.proofs.ReadLemmas.{below_true, below_more, below_all}
+use Rattle.hart_core.proofs.Lemmas.{refl, sym, ◌∙◌, any_below, below_true, below_more, below_all}
 use Rattle.hart_core.proofs.harts.Harts.is_reserved.Goals as goal
 
 pub returns-then-reserves : goal.returns-then-reserves

@@ -1,7 +1,5 @@
-use Rattle.std.proofs.Common.{◌≡◌, ◌&&◌, false}
-use Rattle.plain_tree.specs.Tree.{any_below}
+use Rattle.hart_core.proofs.Lemmas.{◌≡◌, ◌&&◌, false, any_below, busy_in, children_in}
 use Rattle.inode_machine.specs.Exec.{is_at}
-use Rattle.hart_core.specs.Harts.{busy_in, children_in}
 use Rattle.hart_core.proofs.harts.Harts.is_reserved.Given as goal
 
 abbrev pub invariant-loop-other : goal.invariant-loop-other

@@ -1,8 +1,4 @@
-use Rattle.std.proofs.Common.{List, Option, sym, subst}
-use Rattle.fs_machine.specs.Steps.{state_of}
-use Rattle.syscalls.specs.Machines.{Running}
-use Rattle.hart_core.specs.Harts.{AreHarts}
-use Rattle.hart_core.proofs.Stepping.{all_idle}
+use Rattle.hart_core.proofs.Lemmas.{List, Option, sym, subst, state_of, Running, AreHarts, all_idle}
 use Rattle.hart_core.proofs.harts.Harts.new.Goals as goal
 
 pub invariant_of-result : goal.invariant_of-result

@@ -1,15 +1,4 @@
-use Rattle.std.proofs.Common.{◌≡◌, ◌∙◌, None, arith, refl, set, sym, subst}
-use Rattle.std.specs.Prelude.{get_or}
-use Rattle.std.proofs.lemmas.List.{set-set}
-use Rattle.atomic_programs.specs.Calls.{Step, WasIdle}
-use Rattle.atomic_programs.specs.Plain.{plain_makes, PlainHonest}
-use Rattle.atomic_programs.proofs.Tables.{step_gives, honest_here}
-use Rattle.fs_machine.specs.LogPart.{Passes}
-use Rattle.fs_machine.specs.Steps.{state_of}
-use Rattle.syscalls.specs.Machines.{running_of}
-use Rattle.hart_core.specs.Blocks.{blocks, code, MayStep}
-use Rattle.hart_core.specs.Harts.{HartsOf, said, outcome_of, outcome_with, programs_of}
-use Rattle.hart_core.proofs.Stepping.{all_set, idle_past, honest_past, is_at}
+use Rattle.hart_core.proofs.Lemmas.{◌≡◌, ◌∙◌, None, arith, refl, set, sym, subst, get_or, set-set, Step, WasIdle, plain_makes, PlainHonest, step_gives, honest_here, Passes, state_of, running_of, blocks, code, MayStep, HartsOf, said, outcome_of, outcome_with, programs_of, all_set, idle_past, honest_past, is_at}
 use Rattle.hart_core.proofs.harts.Harts.step.Goals as goal
 
 pub step-requires-clause-may : goal.step-requires-clause-may

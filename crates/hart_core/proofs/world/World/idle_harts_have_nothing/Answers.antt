@@ -1,7 +1,4 @@
-use Rattle.std.proofs.Common.{subst}
-use Rattle.hart_core.specs.Promised.{IdleHartsHaveNothing}
-use Rattle.hart_core.specs.Worlds.{WorldOf}
-use Rattle.hart_core.proofs.Keeping.{idle_harts_have_nothing}
+use Rattle.hart_core.proofs.Lemmas.{subst, IdleHartsHaveNothing, WorldOf, idle_harts_have_nothing}
 use Rattle.hart_core.proofs.world.World.idle_harts_have_nothing.Goals as goal
 
 pub returns : goal.returns

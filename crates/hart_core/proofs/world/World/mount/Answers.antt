@@ -1,5 +1,4 @@
-use Rattle.std.proofs.Common.{refl}
-use Rattle.hart_core.proofs.Resting.{world_mounted}
+use Rattle.hart_core.proofs.Lemmas.{refl, world_mounted}
 use Rattle.hart_core.proofs.world.World.mount.Goals as goal
 
 pub invariant_of-result : goal.invariant_of-result

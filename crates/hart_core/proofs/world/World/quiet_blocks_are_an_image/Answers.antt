@@ -1,7 +1,4 @@
-use Rattle.std.proofs.Common.{subst}
-use Rattle.hart_core.specs.Promised.{QuietBlocksAreAnImage}
-use Rattle.hart_core.specs.Worlds.{WorldOf}
-use Rattle.hart_core.proofs.Keeping.{quiet_blocks_are_an_image}
+use Rattle.hart_core.proofs.Lemmas.{subst, QuietBlocksAreAnImage, WorldOf, quiet_blocks_are_an_image}
 use Rattle.hart_core.proofs.world.World.quiet_blocks_are_an_image.Goals as goal
 
 pub returns : goal.returns

@@ -1,10 +1,4 @@
-use Rattle.std.proofs.Common.{◌≡◌, None, sym, ◌∙◌, ap, subst, length}
-use Rattle.std.specs.Prelude.{slice_set}
-use Rattle.atomic_programs.specs.Calls.{Start, Started}
-use Rattle.hart_core.specs.Starts.{refusal_of}
-use Rattle.hart_core.specs.Worlds.{WorldOf, Makes}
-use Rattle.hart_core.proofs.Refusals.{may_start}
-use Rattle.hart_core.proofs.Worlds.{idle_at, made_start, made_refused, world_started}
+use Rattle.hart_core.proofs.Lemmas.{◌≡◌, None, sym, ◌∙◌, ap, subst, length, slice_set, Start, Started, refusal_of, WorldOf, Makes, may_start, idle_at, made_start, made_refused, world_started}
 use Rattle.hart_core.proofs.world.World.start.Goals as goal
 
 pub begin-requires-clause-idle : goal.begin-requires-clause-idle

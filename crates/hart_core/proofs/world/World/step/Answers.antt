@@ -1,9 +1,4 @@
-use Rattle.std.proofs.Common.{subst, sym}
-use Rattle.atomic_programs.specs.Calls.{Step}
-use Rattle.hart_core.specs.Harts.{said, outcome_of, outcome_with, shared_of}
-use Rattle.hart_core.specs.Worlds.{WorldOf, Makes}
-use Rattle.hart_core.specs.declared.outcome.Outcome.{Outcome}
-use Rattle.hart_core.proofs.Worlds.{may_here, made_step, world_stepped}
+use Rattle.hart_core.proofs.Lemmas.{subst, sym, Step, said, outcome_of, outcome_with, shared_of, WorldOf, Makes, Outcome, may_here, made_step, world_stepped}
 use Rattle.hart_core.proofs.world.World.step.Goals as goal
 
 pub step-told-requires : goal.step-told-requires

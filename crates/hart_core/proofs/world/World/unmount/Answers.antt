@@ -1,6 +1,4 @@
-use Rattle.std.proofs.Common.{sym, subst}
-use Rattle.image_tree.specs.Damage.{IsWellFormed}
-use Rattle.hart_core.proofs.Lasting.{world_left}
+use Rattle.hart_core.proofs.Lemmas.{sym, subst, IsWellFormed, world_left}
 use Rattle.hart_core.proofs.world.World.unmount.Goals as goal
 
 pub returns-clause-well : goal.returns-clause-well

@@ -1,7 +1,4 @@
-use Rattle.std.proofs.Common.{subst}
-use Rattle.hart_core.specs.Promised.{WaitsByTheRule}
-use Rattle.hart_core.specs.Worlds.{WorldOf}
-use Rattle.hart_core.proofs.Waiting.{waits_by_the_rule}
+use Rattle.hart_core.proofs.Lemmas.{subst, WaitsByTheRule, WorldOf, waits_by_the_rule}
 use Rattle.hart_core.proofs.world.World.waits_by_the_rule.Goals as goal
 
 pub returns : goal.returns

@@ -1,12 +1,4 @@
-use Rattle.std.proofs.Common.{◌∙◌, sym, ap}
-use Rattle.atomic_programs.specs.Prog.{Ret, bind}
-use Rattle.fs_machine.specs.Ops.{answer_in}
-use Rattle.inode_data.specs.Emptying.{truncate_left, truncate_asked, emptying_of}
-use Rattle.inode_data.specs.FreeingInodes.{store_free}
-use Rattle.inode_table.specs.HeldInodes.{number_in, record_in}
-use Rattle.inode_data.specs.declared.truncate.Emptying.{Emptying}
-use Rattle.fs_machine.proofs.Goings.{goes_with, goes_to}
-use Rattle.inode_data.proofs.Goings.{number-kept}
+use Rattle.inode_data.proofs.Lemmas.{◌∙◌, sym, ap, Ret, bind, answer_in, truncate_left, truncate_asked, emptying_of, store_free, number_in, record_in, Emptying, goes_with, goes_to, number-kept}
 use Rattle.inode_data.proofs.free_inode.FreeInodeRoutine.next.Goals as goal
 
 pub returns-in-None-clause-goes : goal.returns-in-None-clause-goes

@@ -1,20 +1,4 @@
-use Rattle.std.proofs.Common.{◌≡◌, ℕ, Option, sym, subst, ap, ◌∙◌}
-use Rattle.inode_data.specs.Writing.{look_up, name_direct, with_table, name_in_table}
-use Rattle.fs_machine.specs.declared.hand.Place.TheVariants.{Second}
-use Rattle.fs_machine.specs.Hands.{block_at, bytes_at}
-use Rattle.fs_machine.specs.Ops.{answer_in}
-use Rattle.fs_machine.proofs.Going.{goes_bind}
-use Rattle.fs_machine.specs.Controls.{Goes}
-use Rattle.sleep_lock.specs.SleepLock.{GuardState}
-use Rattle.buffer_cache.specs.Buffers.{BufferState}
-use Rattle.atomic_programs.specs.Prog.{bind}
-use Rattle.fs_machine.proofs.Goings.{fetched_goes, second-kept}
-use Rattle.inode_data.proofs.Goings.{missing, table_in}
-use Rattle.fs_machine.specs.Machines.{P}
-use Rattle.inode_data.specs.declared.locate.Located.{Located}
-use Rattle.fs_machine.specs.declared.hand.Place.{Place}
-use Rattle.fs_machine.specs.Fetching.{fetch_left, fetch_asked, fetch_block}
-use Rattle.bitmap_alloc.specs.Taking.{take_left, take_asked, take_place}
+use Rattle.inode_data.proofs.Lemmas.{◌≡◌, ℕ, Option, sym, subst, ap, ◌∙◌, look_up, name_direct, with_table, name_in_table, Second, block_at, bytes_at, answer_in, goes_bind, Goes, GuardState, BufferState, bind, fetched_goes, second-kept, missing, table_in, P, Located, Place, fetch_left, fetch_asked, fetch_block, take_left, take_asked, take_place}
 use Rattle.inode_data.proofs.locate.LocateControl.next.Goals as goal
 
 pub returns-in-None-clause-goes : goal.returns-in-None-clause-goes

@@ -1,5 +1,4 @@
-use Rattle.std.proofs.Common.{◌∙◌, arith}
-use Rattle.inode_data.proofs.PartReadings.{whole_read}
+use Rattle.inode_data.proofs.Lemmas.{◌∙◌, arith, whole_read}
 use Rattle.inode_data.proofs.read_part.ReadPart.begin.Goals as goal
 
 pub returns-clause-program : goal.returns-clause-program

@@ -1,4 +1,4 @@
-use Rattle.std.proofs.Common.{sym}
+use Rattle.inode_data.proofs.Lemmas.{sym}
 use Rattle.inode_data.proofs.read_part.ReadPart.next.Goals as goal
 
 pub returns-in-Is-clause-goes : goal.returns-in-Is-clause-goes

@@ -1,22 +1,4 @@
-use Rattle.std.proofs.Common.{◌≡◌, ◌+◌, ◌∙◌, sym, ap, ℕ, List, Option, None}
-use Rattle.sleep_lock.specs.SleepLock.{GuardState}
-use Rattle.buffer_cache.specs.Buffers.{BufferState}
-use Rattle.fs_layout.specs.declared.inode.Dinode.{Dinode}
-use Rattle.atomic_programs.specs.Prog.{Ret, bind}
-use Rattle.fs_machine.specs.declared.entries.Inode.{Inode}
-use Rattle.fs_machine.specs.Machines.{P}
-use Rattle.inode_table.specs.Programs.{record_of}
-use Rattle.inode_data.specs.Freeing.{free_in_table}
-use Rattle.fs_machine.specs.declared.hand.Place.{Place}
-use Rattle.fs_machine.specs.declared.hand.Place.TheVariants.{Second}
-use Rattle.fs_machine.specs.Hands.{block_at, bytes_at, inode_in}
-use Rattle.fs_machine.specs.Ops.{answer_in}
-use Rattle.fs_machine.specs.Controls.{Goes}
-use Rattle.fs_machine.specs.Fetching.{fetch_left, fetch_asked, fetch_block, fetch_place}
-use Rattle.bitmap_alloc.specs.FreeingBlocks.{free_left, free_asked, free_place}
-use Rattle.inode_table.specs.StoringRecords.{record_left, record_asked, record_place}
-use Rattle.inode_data.specs.Emptying.{own_rest, listed_rest, record_rest}
-use Rattle.fs_machine.proofs.Goings.{fetched_goes, goes_with, goes_to, inode-beside, inode-kept, second-kept}
+use Rattle.inode_data.proofs.Lemmas.{◌≡◌, ◌+◌, ◌∙◌, sym, ap, ℕ, List, Option, None, GuardState, BufferState, Dinode, Ret, bind, Inode, P, record_of, free_in_table, Place, Second, block_at, bytes_at, inode_in, answer_in, Goes, fetch_left, fetch_asked, fetch_block, fetch_place, free_left, free_asked, free_place, record_left, record_asked, record_place, own_rest, listed_rest, record_rest, fetched_goes, goes_with, goes_to, inode-beside, inode-kept, second-kept}
 use Rattle.inode_data.proofs.truncate.TruncateRoutine.next.Goals as goal
 
 pub returns-in-None-clause-goes : goal.returns-in-None-clause-goes

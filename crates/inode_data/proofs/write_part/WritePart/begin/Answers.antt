@@ -1,5 +1,4 @@
-use Rattle.std.proofs.Common.{◌∙◌, refl}
-use Rattle.inode_data.proofs.PartWritings.{whole_so}
+use Rattle.inode_data.proofs.Lemmas.{◌∙◌, refl, whole_so}
 use Rattle.inode_data.proofs.write_part.WritePart.begin.Goals as goal
 
 pub returns-clause-program : goal.returns-clause-program

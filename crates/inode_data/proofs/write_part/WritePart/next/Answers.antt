@@ -1,13 +1,4 @@
-use Rattle.std.proofs.Common.{refl, sym, subst, ◌∙◌}
-use Rattle.atomic_programs.specs.Prog.{Ret, bind}
-use Rattle.fs_machine.specs.Machines.{P}
-use Rattle.inode_data.specs.Writing.{WriteResult}
-use Rattle.fs_machine.specs.Ops.{answer_in}
-use Rattle.fs_machine.specs.Controls.{Goes}
-use Rattle.fs_machine.proofs.Going.{goes_bind}
-use Rattle.inode_data.specs.Locating.{locate_left, locate_asked}
-use Rattle.inode_data.specs.PartWriting.{after_location}
-use Rattle.inode_data.proofs.PartWritings.{past_so}
+use Rattle.inode_data.proofs.Lemmas.{refl, sym, subst, ◌∙◌, Ret, bind, P, WriteResult, answer_in, Goes, goes_bind, locate_left, locate_asked, after_location, past_so}
 use Rattle.inode_data.proofs.write_part.WritePart.next.Goals as goal
 
 pub returns-in-Some-clause-goes : goal.returns-in-Some-clause-goes

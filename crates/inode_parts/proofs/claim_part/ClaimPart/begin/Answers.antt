@@ -1,8 +1,4 @@
-use Rattle.std.proofs.Common.{◌≡◌, ◌∙◌, None, refl, subst, sym}
-use Rattle.fs_machine.specs.Hands.{reference_at}
-use Rattle.fs_machine.specs.declared.hand.Seat.{Seat}
-use Rattle.path_walk.specs.Asks.{sort_of}
-use Rattle.inode_parts.proofs.Claims.{claim_is_part, kind_passes}
+use Rattle.inode_parts.proofs.Lemmas.{◌≡◌, ◌∙◌, None, refl, subst, sym, reference_at, Seat, sort_of, claim_is_part, kind_passes}
 use Rattle.inode_parts.proofs.claim_part.ClaimPart.begin.Goals as goal
 
 pub returns-clause-part : goal.returns-clause-part

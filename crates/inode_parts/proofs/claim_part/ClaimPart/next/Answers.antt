@@ -1,9 +1,5 @@
-use Rattle.std.proofs.Common.{◌≡◌, ◌∙◌, ap, refl, subst, sym}
+use Rattle.inode_parts.proofs.Lemmas.{◌≡◌, ◌∙◌, ap, refl, subst, sym, answer_in, Seat, beside_new, new_asked, new_left, new_seat, new_value, claim_leaves, claim_on, claim_over}
 use Rattle.path_walk.specs.declared.asks.Heard.TheVariants as heard
-use Rattle.fs_machine.specs.Ops.{answer_in}
-use Rattle.fs_machine.specs.declared.hand.Seat.{Seat}
-use Rattle.inode_table.specs.Making.{beside_new, new_asked, new_left, new_seat, new_value}
-use Rattle.inode_parts.proofs.Claims.{claim_leaves, claim_on, claim_over}
 use Rattle.inode_parts.proofs.claim_part.ClaimPart.next.Goals as goal
 
 pub returns-in-None-clause-goes : goal.returns-in-None-clause-goes

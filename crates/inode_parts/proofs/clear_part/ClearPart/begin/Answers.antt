@@ -1,14 +1,4 @@
-use Rattle.std.proofs.Common.{ℕ, ap, ◌∙◌}
-use Rattle.fs_layout.specs.declared.entry.Dirent.TheVariants.{Free}
-use Rattle.fs_layout.specs.declared.inode.Dinode.{Dinode}
-use Rattle.fs_machine.specs.Machines.{P}
-use Rattle.directory.specs.Programs.{put_entry}
-use Rattle.fs_machine.specs.declared.hand.Seat.{Seat}
-use Rattle.inode_table.specs.HeldInodes.{record_in}
-use Rattle.inode_parts.specs.Carries.{note_at}
-use Rattle.inode_parts.specs.Clears.{slot_in}
-use Rattle.inode_parts.specs.OneSteps.{seat_of_lock}
-use Rattle.inode_parts.proofs.Clears.{clear_is_part}
+use Rattle.inode_parts.proofs.Lemmas.{ℕ, ap, ◌∙◌, Free, Dinode, P, put_entry, Seat, record_in, note_at, slot_in, seat_of_lock, clear_is_part}
 use Rattle.inode_parts.proofs.clear_part.ClearPart.begin.Goals as goal
 
 pub returns-clause-part : goal.returns-clause-part

@@ -1,9 +1,5 @@
-use Rattle.std.proofs.Common.{refl}
-use Rattle.fs_machine.specs.Ops.{answer_in}
-use Rattle.inode_parts.specs.Clears.{clear_part_asked}
-use Rattle.inode_parts.proofs.Clears.{clear_on}
+use Rattle.inode_parts.proofs.Lemmas.{refl, answer_in, clear_part_asked, clear_on, buffers_beside, leaves_set, still_amid, still_there}
 use Rattle.inode_parts.specs.declared.note.Note.TheVariants as note
-use Rattle.inode_parts.proofs.Amid.{buffers_beside, leaves_set, still_amid, still_there}
 use Rattle.inode_parts.proofs.clear_part.ClearPart.next.Goals as goal
 
 pub returns-in-None-clause-goes : goal.returns-in-None-clause-goes

@@ -1,11 +1,4 @@
-use Rattle.std.proofs.Common.{◌≡◌, sym, ap, subst, ◌∙◌}
-use Rattle.inode_data.specs.Freeing.{truncate}
-use Rattle.fs_machine.specs.declared.hand.Seat.{Seat}
-use Rattle.inode_data.specs.Emptying.{beside_emptying, truncate_left}
-use Rattle.inode_table.specs.HeldInodes.{number_in, record_in}
-use Rattle.inode_data.specs.declared.truncate.Emptying.{Emptying}
-use Rattle.inode_parts.proofs.Empties.{empty_is_part}
-use Rattle.inode_parts.specs.Changes.{IsAmid}
+use Rattle.inode_parts.proofs.Lemmas.{◌≡◌, sym, ap, subst, ◌∙◌, truncate, Seat, beside_emptying, truncate_left, number_in, record_in, Emptying, empty_is_part, IsAmid}
 use Rattle.inode_parts.proofs.empty_part.EmptyPart.begin.Goals as goal
 
 pub returns-clause-part : goal.returns-clause-part

@@ -1,11 +1,5 @@
-use Rattle.std.proofs.Common.{refl, sym, subst}
-use Rattle.fs_machine.specs.Ops.{answer_in}
-use Rattle.inode_parts.specs.Empties.{empty_part_asked, empty_seat}
-use Rattle.inode_parts.proofs.Empties.{empty_on}
-use Rattle.inode_parts.specs.Changes.{IsAmid}
-use Rattle.inode_data.specs.declared.truncate.Emptying.{Emptying}
+use Rattle.inode_parts.proofs.Lemmas.{refl, sym, subst, answer_in, empty_part_asked, empty_seat, empty_on, IsAmid, Emptying, leaves_changed, still_amid}
 use Rattle.inode_parts.specs.declared.note.Note.TheVariants as note
-use Rattle.inode_parts.proofs.Amid.{leaves_changed, still_amid}
 use Rattle.inode_parts.proofs.empty_part.EmptyPart.next.Goals as goal
 
 pub returns-in-None-clause-goes : goal.returns-in-None-clause-goes

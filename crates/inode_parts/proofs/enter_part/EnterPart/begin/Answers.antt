@@ -1,11 +1,4 @@
-use Rattle.std.proofs.Common.{ap, ◌∙◌}
-use Rattle.fs_layout.specs.declared.inode.Dinode.{Dinode}
-use Rattle.fs_machine.specs.Machines.{P}
-use Rattle.directory.specs.Entering.{EnteredState, enter}
-use Rattle.fs_machine.specs.declared.hand.Seat.{Seat}
-use Rattle.inode_table.specs.HeldInodes.{record_in}
-use Rattle.directory.specs.EnterParts.{entered_as}
-use Rattle.inode_parts.proofs.Enters.{enter_is_part, never_over}
+use Rattle.inode_parts.proofs.Lemmas.{ap, ◌∙◌, Dinode, P, EnteredState, enter, Seat, record_in, entered_as, enter_is_part, never_over}
 use Rattle.inode_parts.proofs.enter_part.EnterPart.begin.Goals as goal
 
 pub unreachable-requires : goal.unreachable-requires

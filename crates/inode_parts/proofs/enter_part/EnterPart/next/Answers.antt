@@ -1,12 +1,4 @@
-use Rattle.std.proofs.Common.{refl}
-use Rattle.atomic_programs.specs.Prog.{Ret}
-use Rattle.fs_machine.specs.Ops.{answer_in}
-use Rattle.directory.specs.EnterParts.{entered_as}
-use Rattle.inode_parts.specs.Carries.{handed}
-use Rattle.inode_parts.specs.Enters.{enter_part_asked}
-use Rattle.inode_parts.specs.Parts.{Part}
-use Rattle.inode_parts.proofs.Enters.{enter_ends, enter_on}
-use Rattle.inode_parts.proofs.Amid.{buffers_beside, still_amid}
+use Rattle.inode_parts.proofs.Lemmas.{refl, Ret, answer_in, entered_as, handed, enter_part_asked, Part, enter_ends, enter_on, buffers_beside, still_amid}
 use Rattle.inode_parts.proofs.enter_part.EnterPart.next.Goals as goal
 
 pub returns-in-None-clause-goes : goal.returns-in-None-clause-goes

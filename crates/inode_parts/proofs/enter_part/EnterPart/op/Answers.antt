@@ -1,7 +1,4 @@
-use Rattle.fs_machine.specs.Ops.{op_in}
-use Rattle.inode_data.proofs.Asking.{asks_bind}
-use Rattle.directory.specs.EnterParts.{enter_left}
-use Rattle.inode_parts.specs.Enters.{entered}
+use Rattle.inode_parts.proofs.Lemmas.{op_in, asks_bind, enter_left, entered}
 use Rattle.inode_parts.proofs.enter_part.EnterPart.op.Goals as goal
 
 pub returns-clause-asks : goal.returns-clause-asks

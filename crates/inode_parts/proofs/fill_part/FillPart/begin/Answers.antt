@@ -1,9 +1,4 @@
-use Rattle.std.proofs.Common.{ap, ◌∙◌}
-use Rattle.fs_layout.specs.declared.inode.Dinode.{Dinode}
-use Rattle.fs_machine.specs.declared.hand.Seat.{Seat}
-use Rattle.inode_table.specs.HeldInodes.{record_in}
-use Rattle.directory.specs.Filling.{fill}
-use Rattle.inode_parts.proofs.Fills.{fill_is_part}
+use Rattle.inode_parts.proofs.Lemmas.{ap, ◌∙◌, Dinode, Seat, record_in, fill, fill_is_part}
 use Rattle.inode_parts.proofs.fill_part.FillPart.begin.Goals as goal
 
 pub returns-clause-part : goal.returns-clause-part

@@ -1,9 +1,5 @@
-use Rattle.std.proofs.Common.{refl}
-use Rattle.fs_machine.specs.Ops.{answer_in}
-use Rattle.inode_parts.specs.Fills.{fill_part_asked}
-use Rattle.inode_parts.proofs.Fills.{fill_on}
+use Rattle.inode_parts.proofs.Lemmas.{refl, answer_in, fill_part_asked, fill_on, buffers_beside, leaves_set, still_amid, still_there}
 use Rattle.inode_parts.specs.declared.note.Note.TheVariants as note
-use Rattle.inode_parts.proofs.Amid.{buffers_beside, leaves_set, still_amid, still_there}
 use Rattle.inode_parts.proofs.fill_part.FillPart.next.Goals as goal
 
 pub returns-in-None-clause-goes : goal.returns-in-None-clause-goes

@@ -1,7 +1,4 @@
-use Rattle.fs_machine.specs.Ops.{op_in}
-use Rattle.inode_data.proofs.Asking.{asks_bind}
-use Rattle.directory.specs.Filling.{fill_left}
-use Rattle.inode_parts.specs.Fills.{filled}
+use Rattle.inode_parts.proofs.Lemmas.{op_in, asks_bind, fill_left, filled}
 use Rattle.inode_parts.proofs.fill_part.FillPart.op.Goals as goal
 
 pub returns-clause-asks : goal.returns-clause-asks

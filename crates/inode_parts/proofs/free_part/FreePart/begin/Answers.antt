@@ -1,6 +1,4 @@
-use Rattle.std.proofs.Common.{ap}
-use Rattle.inode_data.specs.declared.truncate.Emptying.{Emptying}
-use Rattle.inode_parts.proofs.Freeing.{free_begins, free_is_part, free_there}
+use Rattle.inode_parts.proofs.Lemmas.{ap, Emptying, free_begins, free_is_part, free_there}
 use Rattle.inode_parts.proofs.free_part.FreePart.begin.Goals as goal
 
 pub begin-free-requires-clause-emptying : goal.begin-free-requires-clause-emptying

@@ -1,11 +1,5 @@
-use Rattle.std.proofs.Common.{◌≡◌, [], refl, subst}
-use Rattle.fs_machine.specs.Ops.{answer_in}
-use Rattle.inode_data.specs.FreeingInodes.{freeing_asked}
-use Rattle.inode_parts.proofs.Frees.{free_on, free_over, free_stays}
-use Rattle.fs_machine.specs.declared.hand.Seat.{Seat}
-use Rattle.inode_parts.specs.Changes.{beside_inode}
+use Rattle.inode_parts.proofs.Lemmas.{◌≡◌, [], refl, subst, answer_in, freeing_asked, free_on, free_over, free_stays, Seat, beside_inode, reloads, stands, still_amid}
 use Rattle.inode_parts.specs.declared.note.Note.TheVariants as note
-use Rattle.inode_parts.proofs.Amid.{reloads, stands, still_amid}
 use Rattle.inode_parts.proofs.free_part.FreePart.next.Goals as goal
 
 pub returns-in-None-clause-goes : goal.returns-in-None-clause-goes

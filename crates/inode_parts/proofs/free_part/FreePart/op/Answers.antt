@@ -1,8 +1,4 @@
-use Rattle.fs_machine.specs.Ops.{op_in}
-use Rattle.inode_data.specs.FreeingInodes.{freeing_left}
-use Rattle.inode_table.specs.HeldInodes.{number_in}
-use Rattle.inode_parts.specs.Frees.{free_ends}
-use Rattle.inode_parts.specs.Sides.{beside_in}
+use Rattle.inode_parts.proofs.Lemmas.{op_in, freeing_left, number_in, free_ends, beside_in}
 use Rattle.inode_parts.proofs.Afterwards.{asks_bind}
 use Rattle.inode_parts.proofs.free_part.FreePart.op.Goals as goal
 

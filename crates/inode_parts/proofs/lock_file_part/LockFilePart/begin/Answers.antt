@@ -1,8 +1,4 @@
-use Rattle.std.proofs.Common.{refl}
-use Rattle.file_table.specs.LockingFiles.{file_seat}
-use Rattle.inode_parts.proofs.FileLocks.{lock_file_is_part}
-use Rattle.inode_parts.proofs.Coming.{comes_first}
-use Rattle.inode_parts.proofs.Locking.{first_seat}
+use Rattle.inode_parts.proofs.Lemmas.{refl, file_seat, lock_file_is_part, comes_first, first_seat}
 use Rattle.inode_parts.proofs.lock_file_part.LockFilePart.begin.Goals as goal
 
 pub returns-clause-part : goal.returns-clause-part

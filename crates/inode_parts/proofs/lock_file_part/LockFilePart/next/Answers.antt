@@ -1,15 +1,4 @@
-use Rattle.std.proofs.Common.{subst, Some, refl}
-use Rattle.atomic_programs.specs.Prog.{Ret}
-use Rattle.fs_machine.specs.Controls.{Goes}
-use Rattle.file_table.specs.declared.lock_file.FileLocked.{FileLocked}
-use Rattle.fs_machine.specs.Inodes.{Refuses, Locks}
-use Rattle.inode_table.specs.HeldInodes.{record_in}
-use Rattle.fs_machine.specs.Ops.{answer_in}
-use Rattle.file_table.specs.LockingFiles.{file_left, file_asked, file_seat, file_value, FileEnds}
-use Rattle.inode_parts.specs.FileLocks.{file_ends}
-use Rattle.inode_parts.proofs.Locking.{lock_on, lock_over, other_free}
-use Rattle.inode_parts.proofs.Coming.{comes_on, file_learned, file_opens, never_came}
-use Rattle.inode_parts.proofs.FileEnds.{locked_at, refused_so}
+use Rattle.inode_parts.proofs.Lemmas.{subst, Some, refl, Ret, Goes, FileLocked, Refuses, Locks, record_in, answer_in, file_left, file_asked, file_seat, file_value, FileEnds, file_ends, lock_on, lock_over, other_free, comes_on, file_learned, file_opens, never_came, locked_at, refused_so}
 use Rattle.inode_parts.proofs.lock_file_part.LockFilePart.next.Goals as goal
 
 pub returns-in-None-clause-goes : goal.returns-in-None-clause-goes

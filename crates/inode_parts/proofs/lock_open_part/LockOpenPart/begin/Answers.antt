@@ -1,8 +1,4 @@
-use Rattle.std.proofs.Common.{refl}
-use Rattle.file_table.specs.LockingFiles.{open_seat}
-use Rattle.inode_parts.proofs.FileLocks.{lock_open_is_part}
-use Rattle.inode_parts.proofs.Coming.{comes_first}
-use Rattle.inode_parts.proofs.Locking.{first_seat}
+use Rattle.inode_parts.proofs.Lemmas.{refl, open_seat, lock_open_is_part, comes_first, first_seat}
 use Rattle.inode_parts.proofs.lock_open_part.LockOpenPart.begin.Goals as goal
 
 pub returns-clause-part : goal.returns-clause-part

@@ -1,11 +1,4 @@
-use Rattle.std.proofs.Common.{refl}
-use Rattle.inode_table.specs.HeldInodes.{record_in}
-use Rattle.fs_machine.specs.Ops.{answer_in}
-use Rattle.file_table.specs.LockingFiles.{open_left, open_asked, open_seat}
-use Rattle.inode_parts.specs.FileLocks.{open_ends}
-use Rattle.inode_parts.proofs.Locking.{lock_on, lock_over, other_free}
-use Rattle.inode_parts.proofs.Coming.{comes_on, file_learned, file_opens}
-use Rattle.inode_parts.proofs.FileEnds.{opened_at}
+use Rattle.inode_parts.proofs.Lemmas.{refl, record_in, answer_in, open_left, open_asked, open_seat, open_ends, lock_on, lock_over, other_free, comes_on, file_learned, file_opens, opened_at}
 use Rattle.inode_parts.proofs.lock_open_part.LockOpenPart.next.Goals as goal
 
 pub returns-in-None-clause-goes : goal.returns-in-None-clause-goes

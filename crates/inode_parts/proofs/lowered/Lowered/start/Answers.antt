@@ -1,15 +1,5 @@
-use Rattle.std.proofs.Common.{ℕ, List, [], ◌++◌, sym, subst, ap, ◌∙◌}
-use Rattle.inode_machine.specs.Programs.{program}
+use Rattle.inode_parts.proofs.Lemmas.{ℕ, List, [], ◌++◌, sym, subst, ap, ◌∙◌, program, WholeFits, text_in, whole_of, whole_with, with_text, IsOnWay, carry_in, part_left, FillsAs, having, IsPart, new_is, begins_now, first_runs, part_told, read_text, stands_now, told_now, way_now, fills_now, on_text, reads_now}
 use Rattle.path_walk.specs.Asks.{op_in}
-use Rattle.whole_calls.specs.Wholes.{WholeFits, text_in, whole_of}
-use Rattle.inode_parts.specs.Calls.{whole_with, with_text, IsOnWay}
-use Rattle.inode_parts.specs.Carries.{carry_in}
-use Rattle.inode_parts.specs.InodeParts.{part_left, FillsAs}
-use Rattle.inode_parts.specs.Leaving.{having}
-use Rattle.inode_parts.specs.Parts.{IsPart}
-use Rattle.inode_parts.proofs.Lowering.{new_is}
-use Rattle.inode_parts.proofs.OnWay.{begins_now, first_runs, part_told, read_text, stands_now, told_now, way_now}
-use Rattle.inode_parts.proofs.Texts.{fills_now, on_text, reads_now}
 use Rattle.inode_parts.proofs.lowered.Lowered.start.Goals as goal
 
 pub begin-requires : goal.begin-requires

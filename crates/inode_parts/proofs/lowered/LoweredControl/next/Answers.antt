@@ -1,25 +1,7 @@
-use Rattle.std.proofs.Common.{◌≡◌, ℕ, Bool, List, [], ◌++◌, Option, Some, sym, ap, subst, ◌∙◌}
-use Rattle.std.specs.Prelude.{IfNone, IfSome}
-use Rattle.atomic_programs.specs.Prog.{Ret}
-use Rattle.plain_tree.specs.declared.answer.Reply.{Reply}
-use Rattle.fs_machine.specs.Controls.{Goes}
-use Rattle.fs_machine.specs.Ops.{answer_in}
+use Rattle.inode_parts.proofs.Lemmas.{◌≡◌, ℕ, Bool, List, [], ◌++◌, Option, Some, sym, ap, subst, ◌∙◌, IfNone, IfSome, Ret, Reply, Goes, answer_in, answer_to, hears, reply_to, stepped, Heard, call_in, first_in, second_in, text_in, whole_of, HasRoomFor, whole_with, with_text, IsOnWay, carry_in, FillsFrom, Having, Leaves, part_asked, part_left, part_left_after, FillsAs, PartReady, PartTold, ReadsInto, having, heard_if, IsPart, GoesOrLeaves, UnderWay, asks_on, ends_on, goes_within, begins_now, next_ends, next_runs, part_told, read_text, stands_now, text_stays, told_now, way_now, fills_now, fits_with, its_own, on_text, part_reads, read_before, reads_now, reads_with, room_now, same_with, way_with}
 use Rattle.inode_machine.specs.Parts as programs
 use Rattle.inode_machine.specs.World as above
-use Rattle.path_walk.specs.Asks.{answer_to, asks, hears, op_in, reply_to, stepped}
-use Rattle.path_walk.specs.declared.asks.Heard.{Heard}
-use Rattle.whole_calls.specs.Wholes.{call_in, first_in, second_in, text_in, whole_of, HasRoomFor}
-use Rattle.inode_parts.specs.Calls.{whole_with, with_text, IsOnWay}
-use Rattle.inode_parts.specs.Carries.{carry_in}
-use Rattle.inode_parts.specs.FileReads.{FillsFrom}
-use Rattle.inode_parts.specs.Holding.{Having, Leaves}
-use Rattle.inode_parts.specs.InodeParts.{part_asked, part_left, part_left_after, FillsAs, PartReady, PartTold, ReadsInto}
-use Rattle.inode_parts.specs.Leaving.{having, heard_if}
-use Rattle.inode_parts.specs.Parts.{IsPart}
-use Rattle.inode_parts.specs.UnderWay.{GoesOrLeaves, UnderWay}
-use Rattle.inode_parts.proofs.Lowering.{asks_on, ends_on, goes_within}
-use Rattle.inode_parts.proofs.OnWay.{begins_now, next_ends, next_runs, part_told, read_text, stands_now, text_stays, told_now, way_now}
-use Rattle.inode_parts.proofs.Texts.{fills_now, fits_with, its_own, on_text, part_reads, read_before, reads_now, reads_with, room_now, same_with, way_with}
+use Rattle.path_walk.specs.Asks.{asks, op_in}
 use Rattle.inode_parts.proofs.lowered.LoweredControl.next.Goals as goal
 
 -- ---- its part is not over yet

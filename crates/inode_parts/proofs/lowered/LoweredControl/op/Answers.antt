@@ -1,11 +1,4 @@
-use Rattle.std.proofs.Common.{◌≡◌, ℕ, List, Some, refl, subst}
-use Rattle.atomic_programs.specs.Prog.{asks}
-use Rattle.fs_machine.specs.Ops.{op_in}
-use Rattle.whole_calls.specs.Wholes.{first_in, second_in, text_in}
-use Rattle.inode_parts.specs.Calls.{whole_with}
-use Rattle.inode_parts.specs.InodeParts.{part_left}
-use Rattle.inode_parts.proofs.Lowering.{asks_with}
-use Rattle.inode_parts.proofs.OnWay.{read_text}
+use Rattle.inode_parts.proofs.Lemmas.{◌≡◌, ℕ, List, Some, refl, subst, asks, op_in, first_in, second_in, text_in, whole_with, part_left, asks_with, read_text}
 use Rattle.inode_parts.proofs.lowered.LoweredControl.op.Goals as goal
 
 pub op-requires-clause-told : goal.op-requires-clause-told

@@ -1,4 +1,4 @@
-use Rattle.std.proofs.Common.{Some}
+use Rattle.inode_parts.proofs.Lemmas.{Some}
 use Rattle.inode_parts.specs.declared.one_step.OneStep.TheVariants as step
 use Rattle.inode_parts.proofs.one_step.OneStep.begin.Goals as goal
 

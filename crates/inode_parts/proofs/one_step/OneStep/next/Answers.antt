@@ -1,6 +1,4 @@
-use Rattle.std.proofs.Common.{ℕ, Option, ap, ◌∙◌}
-use Rattle.std.specs.Prelude.{is_some}
-use Rattle.inode_parts.proofs.Goings.{give_goes, settle_goes, root_goes, directory_goes, up_goes, aside_goes, walked_goes, down_goes, slot_goes, installed_goes, checked_goes, joined_goes, doubled_goes, shut_goes, lent_goes, moved_goes}
+use Rattle.inode_parts.proofs.Lemmas.{ℕ, Option, ap, ◌∙◌, is_some, give_goes, settle_goes, root_goes, directory_goes, up_goes, aside_goes, walked_goes, down_goes, slot_goes, installed_goes, checked_goes, joined_goes, doubled_goes, shut_goes, lent_goes, moved_goes}
 use Rattle.inode_parts.proofs.one_step.OneStep.next.Goals as goal
 
 pub returns-in-Give-clause-goes : goal.returns-in-Give-clause-goes

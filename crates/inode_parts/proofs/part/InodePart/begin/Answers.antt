@@ -1,16 +1,5 @@
-use Rattle.std.proofs.Common.{◌++◌, ◌∙◌, refl, sym, subst}
+use Rattle.inode_parts.proofs.Lemmas.{◌++◌, ◌∙◌, refl, sym, subst, Ask, carry_in, BeginsWith, part_left, AskTold, PartReady, PartTold, having, step_for, IsPart, UnderWay, InodePart, is_part, is_ready, short_so, short_fills, told_for, under_way}
 use Rattle.path_walk.specs.Asks.{op_in}
-use Rattle.path_walk.specs.declared.asks.Ask.{Ask}
-use Rattle.inode_parts.specs.Carries.{carry_in}
-use Rattle.inode_parts.specs.Expecting.{BeginsWith}
-use Rattle.inode_parts.specs.InodeParts.{part_left, AskTold, PartReady, PartTold}
-use Rattle.inode_parts.specs.Leaving.{having}
-use Rattle.inode_parts.specs.OneSteps.{step_for}
-use Rattle.inode_parts.specs.Parts.{IsPart}
-use Rattle.inode_parts.specs.UnderWay.{UnderWay}
-use Rattle.inode_parts.specs.declared.part.InodePart.{InodePart}
-use Rattle.inode_parts.proofs.Begins.{is_part, is_ready, short_so, short_fills, told_for}
-use Rattle.inode_parts.proofs.StepLeaves.{under_way}
 use Rattle.inode_parts.proofs.part.InodePart.begin.Goals as goal
 
 pub returns-then-is_short : goal.returns-then-is_short

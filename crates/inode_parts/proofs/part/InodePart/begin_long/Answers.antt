@@ -1,24 +1,5 @@
-use Rattle.std.proofs.Common.{◌++◌, ℕ, List, rules, refl, sym, subst}
-use Rattle.std.specs.Prelude.{◌<◌, ◌^◌}
+use Rattle.inode_parts.proofs.Lemmas.{◌++◌, ℕ, List, rules, refl, sym, subst, ◌<◌, ◌^◌, name_in, Ask, BeginsWith, carry_in, part_left, AskTold, PartReady, PartTold, having, step_for, IsPart, InodePart, UnderWay, piece, Name, Enter, WriteFile, enter_part_left, write_file_left, alone, is_part, is_ready, other_fills, short_begins, told_for, may_change, may_claim, may_free, may_lock, may_write, under_way}
 use Rattle.path_walk.specs.Asks.{op_in}
-use Rattle.path_walk.specs.Elements.{name_in}
-use Rattle.path_walk.specs.declared.asks.Ask.{Ask}
-use Rattle.inode_parts.specs.Expecting.{BeginsWith}
-use Rattle.inode_parts.specs.Carries.{carry_in}
-use Rattle.inode_parts.specs.InodeParts.{part_left, AskTold, PartReady, PartTold}
-use Rattle.inode_parts.specs.Leaving.{having}
-use Rattle.inode_parts.specs.OneSteps.{step_for}
-use Rattle.inode_parts.specs.Parts.{IsPart}
-use Rattle.inode_parts.specs.declared.part.InodePart.{InodePart}
-use Rattle.inode_parts.specs.UnderWay.{UnderWay}
-use Rattle.plain_tree.specs.Calls.{piece}
-use Rattle.plain_tree.specs.Tree.{Name}
-use Rattle.inode_machine.specs.World.Op.{Enter, WriteFile}
-use Rattle.inode_parts.specs.Enters.{enter_part_left}
-use Rattle.inode_parts.specs.FileWrites.{write_file_left}
-use Rattle.inode_parts.proofs.Begins.{alone, is_part, is_ready, other_fills, short_begins, told_for}
-use Rattle.inode_parts.proofs.Beginning.{may_change, may_claim, may_free, may_lock, may_write}
-use Rattle.inode_parts.proofs.StepLeaves.{under_way}
 use Rattle.inode_parts.proofs.part.InodePart.begin_long.Goals as goal
 
 pub returns-in-Store-clause-part : goal.returns-in-Store-clause-part

@@ -1,16 +1,5 @@
-use Rattle.std.proofs.Common.{rules, refl, sym, subst, ◌∙◌}
-use Rattle.std.specs.Prelude.{◌<◌, ◌^◌}
-use Rattle.inode_machine.specs.Inodes.{Query}
-use Rattle.inode_machine.specs.World.Op.{Take}
-use Rattle.inode_parts.specs.Carries.{carry_in}
-use Rattle.inode_parts.specs.Leaving.{having}
-use Rattle.inode_parts.specs.Parts.{IsPart}
-use Rattle.inode_parts.specs.Relocks.{relock_left}
-use Rattle.inode_parts.specs.UnderWay.{UnderWay}
+use Rattle.inode_parts.proofs.Lemmas.{rules, refl, sym, subst, ◌∙◌, ◌<◌, ◌^◌, Query, Take, carry_in, having, IsPart, relock_left, UnderWay, query_in, may_take_by, relocked_by, taken_by}
 use Rattle.inode_parts.specs.declared.part.InodePart.TheVariants as part
-use Rattle.path_walk.specs.Asks.{query_in}
-use Rattle.inode_parts.proofs.Beginning.{may_take_by}
-use Rattle.inode_parts.proofs.Relocks.{relocked_by, taken_by}
 use Rattle.inode_parts.proofs.part.InodePart.begin_take.Goals as goal
 
 pub begin-requires : goal.begin-requires

@@ -1,24 +1,5 @@
-use Rattle.std.proofs.Common.{◌≡◌, ◌++◌, ℕ, List, [], Option, Some, None, refl, sym, subst, ◌∙◌}
-use Rattle.std.specs.Prelude.{IfNone}
-use Rattle.fs_machine.specs.Controls.{Goes}
-use Rattle.fs_machine.specs.Ops.{answer_in}
-use Rattle.inode_parts.specs.FileLocks.{lock_file_left, lock_file_asked}
-use Rattle.inode_parts.specs.FileStats.{stat_left, stat_asked}
-use Rattle.inode_parts.specs.FileWrites.{write_file_left, write_file_asked, WriteFileTold}
-use Rattle.inode_parts.specs.Leaving.{having, heard_if}
-use Rattle.inode_parts.specs.UnderWay.{GoesOrLeaves, UnderWay}
-use Rattle.inode_parts.specs.Parts.{Part}
-use Rattle.inode_parts.specs.Takes.{take_left, take_asked, TakeTold}
-use Rattle.path_walk.specs.declared.asks.Heard.{Heard}
-use Rattle.whole_calls.specs.Wholes.{first_in, second_in, text_in}
-use Rattle.inode_parts.proofs.Lefts.{lock_file_after, stat_after, take_after, write_after}
-use Rattle.inode_parts.proofs.OnWay.{read_text}
-use Rattle.inode_parts.specs.InodeParts.{part_left_after, PartTold}
-use Rattle.inode_parts.specs.declared.part.InodePart.{InodePart}
+use Rattle.inode_parts.proofs.Lemmas.{◌≡◌, ◌++◌, ℕ, List, [], Option, Some, None, refl, sym, subst, ◌∙◌, IfNone, Goes, answer_in, lock_file_left, lock_file_asked, stat_left, stat_asked, write_file_left, write_file_asked, WriteFileTold, having, heard_if, GoesOrLeaves, UnderWay, Part, take_left, take_asked, TakeTold, Heard, first_in, second_in, text_in, lock_file_after, stat_after, take_after, write_after, read_text, part_left_after, PartTold, InodePart, alone, step_leaves, claims, clears, empties, enters, fills, frees, lock_files, lock_opens, relocks, stats, stores, takes, writes}
 use Rattle.inode_parts.specs.declared.part.InodePart.TheVariants as part
-use Rattle.inode_parts.proofs.Begins.{alone}
-use Rattle.inode_parts.proofs.StepLeaves.{step_leaves}
-use Rattle.inode_parts.proofs.UnderWay.{claims, clears, empties, enters, fills, frees, lock_files, lock_opens, relocks, stats, stores, takes, writes}
 use Rattle.inode_parts.proofs.part.InodePart.next.Goals as goal
 
 pub returns-in-LockFile-clause-goes : goal.returns-in-LockFile-clause-goes

@@ -1,14 +1,4 @@
-use Rattle.std.proofs.Common.{◌≡◌, ℕ, sym, subst, arith, rules}
-use Rattle.std.specs.Prelude.{◌<◌, ◌^◌, None, replicate}
-use Rattle.std.proofs.Math.ListN.{length-replicate}
-use Rattle.atomic_programs.specs.Prog.{Ret}
-use Rattle.fs_layout.specs.declared.inode.Dinode.{Dinode}
-use Rattle.fs_machine.specs.Hands.{inode_at}
-use Rattle.fs_machine.specs.declared.hand.Seat.{Seat}
-use Rattle.inode_table.specs.HeldInodes.{IsLoadedAt}
-use Rattle.inode_data.specs.PartReading.{filled_to, read_left}
-use Rattle.inode_parts.specs.OneSteps.{other}
-use Rattle.inode_parts.proofs.FileReads.{begun_fills, begun_is_part, may_move}
+use Rattle.inode_parts.proofs.Lemmas.{◌≡◌, ℕ, sym, subst, arith, rules, ◌<◌, ◌^◌, None, replicate, length-replicate, Ret, Dinode, inode_at, Seat, IsLoadedAt, filled_to, read_left, other, begun_fills, begun_is_part, may_move}
 use Rattle.inode_parts.proofs.read_file_part.ReadFilePart.begin.Goals as goal
 
 pub returns-in-Runs-clause-part : goal.returns-in-Runs-clause-part

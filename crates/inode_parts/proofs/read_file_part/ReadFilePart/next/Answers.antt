@@ -1,11 +1,4 @@
-use Rattle.std.proofs.Common.{subst}
-use Rattle.fs_layout.specs.declared.inode.Dinode.{Dinode}
-use Rattle.fs_machine.specs.Controls.{Goes}
-use Rattle.fs_machine.specs.Ops.{answer_in}
-use Rattle.inode_data.specs.PartReading.{read_asked, read_left}
-use Rattle.inode_parts.specs.FileReads.{ReadFileTold}
-use Rattle.inode_parts.specs.declared.read_file_part.ReadFilePart.{ReadFilePart}
-use Rattle.inode_parts.proofs.FileReads.{read_on, room_so}
+use Rattle.inode_parts.proofs.Lemmas.{subst, Dinode, Goes, answer_in, read_asked, read_left, ReadFileTold, ReadFilePart, read_on, room_so}
 use Rattle.inode_parts.proofs.read_file_part.ReadFilePart.next.Goals as goal
 
 pub returns-in-None-clause-goes : goal.returns-in-None-clause-goes

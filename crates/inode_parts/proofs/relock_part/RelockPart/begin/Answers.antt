@@ -1,5 +1,4 @@
-use Rattle.std.proofs.Common.{refl}
-use Rattle.inode_parts.proofs.Relocks.{relock_is_part, relock_ready}
+use Rattle.inode_parts.proofs.Lemmas.{refl, relock_is_part, relock_ready}
 use Rattle.inode_parts.proofs.relock_part.RelockPart.begin.Goals as goal
 
 pub returns-clause-part : goal.returns-clause-part

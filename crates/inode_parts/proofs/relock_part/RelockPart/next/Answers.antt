@@ -1,20 +1,5 @@
-use Rattle.std.proofs.Common.{refl, sym, subst, ◌∙◌}
-use Rattle.atomic_programs.specs.Prog.{Ret, bind}
-use Rattle.fs_machine.specs.Hands.{number_at, with_first}
-use Rattle.fs_machine.specs.Ops.{IsAfter, answer_in}
-use Rattle.fs_machine.specs.declared.hand.Seat.{Seat}
-use Rattle.inode_table.specs.HeldInodes.{record_in}
-use Rattle.inode_table.specs.LockingInodes.{lock_left, lock_asked, lock_seat}
+use Rattle.inode_parts.proofs.Lemmas.{refl, sym, subst, ◌∙◌, Ret, bind, number_at, with_first, IsAfter, answer_in, Seat, record_in, lock_left, lock_asked, lock_seat, Comes, IsAlone, free_seat, relock_asked, RelockReady, beside_in, looked, RelockPart, comes_on, came_alone, came_block, came_buffers, came_goes, came_number, came_some, relock_comes, relock_leaves, is_taken, take_on, take_over}
 use Rattle.path_walk.specs.declared.asks.Query.TheVariants as query
-use Rattle.inode_parts.specs.Coming.{Comes}
-use Rattle.inode_parts.specs.OneSteps.{IsAlone, free_seat}
-use Rattle.inode_parts.specs.Relocks.{relock_asked, RelockReady}
-use Rattle.inode_parts.specs.Sides.{beside_in}
-use Rattle.inode_parts.specs.Takes.{looked}
-use Rattle.inode_parts.specs.declared.relock_part.RelockPart.{RelockPart}
-use Rattle.inode_parts.proofs.Coming.{comes_on}
-use Rattle.inode_parts.proofs.Relocks.{came_alone, came_block, came_buffers, came_goes, came_number, came_some, relock_comes, relock_leaves}
-use Rattle.inode_parts.proofs.Taking.{is_taken, take_on, take_over}
 use Rattle.inode_parts.proofs.relock_part.RelockPart.next.Goals as goal
 
 pub held-requires : goal.held-requires

@@ -1,7 +1,4 @@
-use Rattle.file_table.specs.LockingFiles.{file_seat}
-use Rattle.inode_parts.proofs.Coming.{comes_first}
-use Rattle.inode_parts.proofs.FileStats.{stat_file_is_part}
-use Rattle.inode_parts.proofs.Locking.{first_seat}
+use Rattle.inode_parts.proofs.Lemmas.{file_seat, comes_first, stat_file_is_part, first_seat}
 use Rattle.inode_parts.proofs.stat_file_part.StatFilePart.begin.Goals as goal
 
 pub returns-clause-part : goal.returns-clause-part

@@ -1,16 +1,4 @@
-use Rattle.std.proofs.Common.{Some, ap, refl, subst, ◌∙◌}
-use Rattle.atomic_programs.specs.Prog.{Ret}
-use Rattle.fs_machine.specs.Inodes.{Refuses, Locks}
-use Rattle.fs_machine.specs.Controls.{Goes}
-use Rattle.fs_machine.specs.Ops.{answer_in}
-use Rattle.inode_table.specs.HeldInodes.{record_in}
-use Rattle.file_table.specs.LockingFiles.{file_left, file_asked, file_seat, file_value, FileEnds}
-use Rattle.file_table.specs.declared.lock_file.FileLocked.{FileLocked}
-use Rattle.inode_parts.specs.Faces.{face_by}
-use Rattle.inode_parts.specs.FileStats.{stat_ends}
-use Rattle.inode_parts.proofs.Coming.{comes_on, file_opens, never_came}
-use Rattle.inode_parts.proofs.FileStats.{told_at, untold}
-use Rattle.inode_parts.proofs.Locking.{lock_on, lock_over, other_free}
+use Rattle.inode_parts.proofs.Lemmas.{Some, ap, refl, subst, ◌∙◌, Ret, Refuses, Locks, Goes, answer_in, record_in, file_left, file_asked, file_seat, file_value, FileEnds, FileLocked, face_by, stat_ends, comes_on, file_opens, never_came, told_at, untold, lock_on, lock_over, other_free}
 use Rattle.inode_parts.proofs.stat_file_part.StatFilePart.next.Goals as goal
 
 pub returns-in-None-clause-goes : goal.returns-in-None-clause-goes

@@ -1,12 +1,4 @@
-use Rattle.std.proofs.Common.{◌≡◌, ap, subst, ◌∙◌}
-use Rattle.inode_table.specs.Programs.{store}
-use Rattle.fs_machine.specs.declared.hand.Seat.{Seat}
-use Rattle.fs_machine.specs.Hands.{with_record}
-use Rattle.inode_table.specs.HeldInodes.{counted, number_in, record_in}
-use Rattle.inode_table.specs.StoringRecords.{record_left}
-use Rattle.inode_parts.proofs.Stores.{store_is_part}
-use Rattle.inode_parts.proofs.Amid.{record_beside}
-use Rattle.inode_parts.specs.Changes.{beside_inode}
+use Rattle.inode_parts.proofs.Lemmas.{◌≡◌, ap, subst, ◌∙◌, store, Seat, with_record, counted, number_in, record_in, record_left, store_is_part, record_beside, beside_inode}
 use Rattle.inode_parts.proofs.store_part.StorePart.begin.Goals as goal
 
 pub returns-clause-part : goal.returns-clause-part

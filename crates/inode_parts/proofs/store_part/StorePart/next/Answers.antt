@@ -1,12 +1,5 @@
-use Rattle.std.proofs.Common.{◌≡◌, None, refl, subst, ◌∙◌}
-use Rattle.fs_machine.specs.Hands.{buffer_at}
-use Rattle.fs_machine.specs.declared.hand.Place.{Place}
-use Rattle.fs_machine.specs.declared.hand.Seat.{Seat}
-use Rattle.inode_table.specs.HeldInodes.{IsLoadedAt}
-use Rattle.inode_table.specs.StoringRecords.{record_place}
-use Rattle.fs_machine.proofs.Goings.{second-kept}
+use Rattle.inode_parts.proofs.Lemmas.{◌≡◌, None, refl, subst, ◌∙◌, buffer_at, Place, Seat, IsLoadedAt, record_place, second-kept, buffer_beside, leaves_changed, still_amid}
 use Rattle.inode_parts.specs.declared.note.Note.TheVariants as note
-use Rattle.inode_parts.proofs.Amid.{buffer_beside, leaves_changed, still_amid}
 use Rattle.inode_parts.proofs.store_part.StorePart.next.Goals as goal
 
 pub returns-in-None-clause-ready : goal.returns-in-None-clause-ready

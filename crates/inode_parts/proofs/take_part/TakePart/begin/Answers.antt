@@ -1,9 +1,4 @@
-use Rattle.std.proofs.Common.{ℕ, ap, refl, ◌∙◌}
-use Rattle.fs_machine.specs.Machines.{P}
-use Rattle.fs_layout.specs.declared.inode.Dinode.{Dinode}
-use Rattle.inode_table.specs.LockingInodes.{lock_loaded, lock_seat}
-use Rattle.inode_parts.proofs.Coming.{comes_first}
-use Rattle.inode_parts.proofs.Takes.{take_asks, take_is_part}
+use Rattle.inode_parts.proofs.Lemmas.{ℕ, ap, refl, ◌∙◌, P, Dinode, lock_loaded, lock_seat, comes_first, take_asks, take_is_part}
 use Rattle.inode_parts.proofs.take_part.TakePart.begin.Goals as goal
 
 pub returns-clause-part : goal.returns-clause-part

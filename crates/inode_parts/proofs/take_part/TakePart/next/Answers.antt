@@ -1,22 +1,5 @@
-use Rattle.std.proofs.Common.{◌++◌, ℕ, List, true, None, ap, refl, sym, subst, ◌∙◌}
-use Rattle.std.specs.Prelude.{is_some, not}
-use Rattle.atomic_programs.specs.Prog.{Ret}
-use Rattle.directory.specs.Programs.{Entry, Named}
-use Rattle.fs_machine.specs.Controls.{Goes}
-use Rattle.fs_machine.specs.Ops.{answer_in}
-use Rattle.inode_table.specs.LockingInodes.{lock_left, lock_asked, lock_seat}
-use Rattle.directory.specs.Searching.{search_left, search_asked}
-use Rattle.inodes_on_blocks.specs.Reading.{number_found}
-use Rattle.path_walk.specs.Elements.{name_in}
-use Rattle.inode_parts.specs.Takes.{listed_ends, named_ends, note_of, TakeTold, take_seat, Sees}
+use Rattle.inode_parts.proofs.Lemmas.{◌++◌, ℕ, List, true, None, ap, refl, sym, subst, ◌∙◌, is_some, not, Ret, Entry, Named, Goes, answer_in, lock_left, lock_asked, lock_seat, search_left, search_asked, number_found, name_in, listed_ends, named_ends, note_of, TakeTold, take_seat, Sees, TakePart, Query, face_unless_free, query_in, comes_on, comes_between, comes_on_search, sees_entries, sees_name, take_leaves, is_taken, search_on, search_over, seen_ends, take_on, take_over, taken_stays}
 use Rattle.inode_parts.specs.declared.note.Note.TheVariants as note
-use Rattle.inode_parts.specs.declared.take_part.TakePart.{TakePart}
-use Rattle.inode_machine.specs.Inodes.{Query}
-use Rattle.inode_parts.specs.Faces.{face_unless_free}
-use Rattle.path_walk.specs.Asks.{query_in}
-use Rattle.inode_parts.proofs.Coming.{comes_on}
-use Rattle.inode_parts.proofs.Seeing.{comes_between, comes_on_search, sees_entries, sees_name, take_leaves}
-use Rattle.inode_parts.proofs.Taking.{is_taken, search_on, search_over, seen_ends, take_on, take_over, taken_stays}
 use Rattle.inode_parts.proofs.take_part.TakePart.next.Goals as goal
 
 pub returns-in-None-clause-goes : goal.returns-in-None-clause-goes

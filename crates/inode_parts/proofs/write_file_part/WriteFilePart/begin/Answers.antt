@@ -1,7 +1,4 @@
-use Rattle.std.proofs.Common.{length, sym, ap, ◌∙◌}
-use Rattle.plain_tree.specs.Calls.{piece}
-use Rattle.inode_data.specs.PartWriting.{write_left}
-use Rattle.inode_parts.proofs.FileWrites.{begun_deny, begun_write, done_so}
+use Rattle.inode_parts.proofs.Lemmas.{length, sym, ap, ◌∙◌, piece, write_left, begun_deny, begun_write, done_so}
 use Rattle.inode_parts.proofs.write_file_part.WriteFilePart.begin.Goals as goal
 
 pub returns-in-Some-clause-part : goal.returns-in-Some-clause-part

@@ -1,12 +1,4 @@
-use Rattle.std.proofs.Common.{ℕ, List, ap, subst, ◌∙◌}
-use Rattle.fs_machine.specs.Controls.{Goes}
-use Rattle.fs_machine.specs.Ops.{answer_in, IsAfter}
-use Rattle.inode_data.specs.InHand.{beside_buffers}
-use Rattle.inode_data.specs.PartWriting.{write_asked, write_left}
-use Rattle.inode_parts.specs.FileWrites.{write_file_asked, WriteFileReady, WriteFileTold}
-use Rattle.inode_parts.specs.declared.write_file_part.WriteFilePart.{WriteFilePart}
-use Rattle.inode_parts.proofs.FileWrites.{ready_for, write_on}
-use Rattle.inode_parts.proofs.LockedFiles.{loaded_still, other_still}
+use Rattle.inode_parts.proofs.Lemmas.{ℕ, List, ap, subst, ◌∙◌, Goes, answer_in, IsAfter, beside_buffers, write_asked, write_left, write_file_asked, WriteFileReady, WriteFileTold, WriteFilePart, ready_for, write_on, loaded_still, other_still}
 use Rattle.inode_parts.proofs.write_file_part.WriteFilePart.next.Goals as goal
 
 pub returns-in-None-clause-goes : goal.returns-in-None-clause-goes

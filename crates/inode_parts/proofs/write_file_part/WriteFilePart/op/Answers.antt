@@ -1,11 +1,4 @@
-use Rattle.std.proofs.Common.{◌≡◌, ℕ, List, Some, subst}
-use Rattle.plain_tree.specs.Calls.{piece}
-use Rattle.atomic_programs.specs.Prog.{asks}
-use Rattle.fs_machine.specs.Ops.{op_in}
-use Rattle.inode_table.specs.HeldInodes.{number_in}
-use Rattle.inode_data.proofs.Asking.{asks_bind}
-use Rattle.inode_data.specs.PartWriting.{write_left}
-use Rattle.inode_parts.specs.FileWrites.{write_over}
+use Rattle.inode_parts.proofs.Lemmas.{◌≡◌, ℕ, List, Some, subst, piece, asks, op_in, number_in, asks_bind, write_left, write_over}
 use Rattle.inode_parts.proofs.write_file_part.WriteFilePart.op.Goals as goal
 
 pub returns-in-Writing-clause-asks : goal.returns-in-Writing-clause-asks

@@ -1,13 +1,5 @@
-use Rattle.std.proofs.Common.{ℕ, None, sym, subst}
-use Rattle.fs_layout.specs.declared.inode.Dinode.{Dinode}
-use Rattle.atomic_programs.specs.Prog.{Ret, Do, bind, unmarked}
+use Rattle.inode_table.proofs.Lemmas.{ℕ, None, sym, subst, Dinode, Ret, Do, bind, unmarked, give_back, block_at, answer_in, Goes, fetch_left, fetch_asked, fetch_block, fetched_goes}
 use Rattle.fs_machine.specs.Steps as steps
-use Rattle.inode_table.specs.Programs.{give_back}
-use Rattle.fs_machine.specs.Hands.{block_at}
-use Rattle.fs_machine.specs.Ops.{answer_in}
-use Rattle.fs_machine.specs.Controls.{Goes}
-use Rattle.fs_machine.specs.Fetching.{fetch_left, fetch_asked, fetch_block}
-use Rattle.fs_machine.proofs.Goings.{fetched_goes}
 use Rattle.inode_table.proofs.load_inode.LoadInodePart.next.Goals as goal
 
 pub returns-in-Some-clause-goes : goal.returns-in-Some-clause-goes

@@ -1,12 +1,4 @@
-use Rattle.std.proofs.Common.{◌≡◌, ◌∙◌, sym, ap, ℕ}
-use Rattle.fs_layout.specs.declared.inode.Dinode.{Dinode}
-use Rattle.fs_machine.specs.declared.entries.Inode.{Inode}
-use Rattle.fs_machine.specs.Machines.{P}
-use Rattle.inode_table.specs.Programs.{load_unless}
-use Rattle.fs_machine.specs.Hands.{inode_in, number_at}
-use Rattle.fs_machine.specs.Ops.{answer_in}
-use Rattle.inode_table.specs.HeldInodes.{number_in}
-use Rattle.fs_machine.proofs.Goings.{inode-there}
+use Rattle.inode_table.proofs.Lemmas.{◌≡◌, ◌∙◌, sym, ap, ℕ, Dinode, Inode, P, load_unless, inode_in, number_at, answer_in, number_in, inode-there}
 use Rattle.inode_table.proofs.lock_inode.LockInodeRoutine.next.Goals as goal
 
 pub returns-in-None-clause-goes : goal.returns-in-None-clause-goes

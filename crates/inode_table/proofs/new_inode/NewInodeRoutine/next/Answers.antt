@@ -1,18 +1,4 @@
-use Rattle.std.proofs.Common.{◌≡◌, ◌+◌, ◌-◌, ◌∙◌, sym, ap, subst, ℕ, Option, Bool, Some, IsSome, arith}
-use Rattle.sleep_lock.specs.SleepLock.{GuardState}
-use Rattle.buffer_cache.specs.Buffers.{BufferState}
-use Rattle.fs_machine.specs.Machines.{P}
-use Rattle.fs_machine.specs.Steps.{Claims, NoPlace, ClaimResult}
-use Rattle.inode_table.specs.NewInodes.{make_in, new_from}
-use Rattle.inode_table.specs.Making.{rest_of}
-use Rattle.inode_table.specs.declared.new_inode.Looking.{Looking}
-use Rattle.inode_table.specs.declared.new_inode.Made.{Made}
-use Rattle.fs_machine.specs.declared.hand.Hand.{Hand}
-use Rattle.fs_machine.specs.Hands.{reference_at}
-use Rattle.fs_machine.specs.Ops.{answer_in, claimed_by}
-use Rattle.fs_machine.specs.declared.op.Answer.TheVariants.{Is}
-use Rattle.fs_machine.specs.Fetching.{block_in, bytes_in}
-use Rattle.fs_machine.proofs.Goings.{first-beside, reference-beside, no-place}
+use Rattle.inode_table.proofs.Lemmas.{◌≡◌, ◌+◌, ◌-◌, ◌∙◌, sym, ap, subst, ℕ, Option, Bool, Some, IsSome, arith, GuardState, BufferState, P, Claims, NoPlace, ClaimResult, make_in, new_from, rest_of, Looking, Made, Hand, reference_at, answer_in, claimed_by, Is, block_in, bytes_in, first-beside, reference-beside, no-place}
 use Rattle.inode_table.proofs.new_inode.NewInodeRoutine.next.Goals as goal
 
 -- what follows a claim, by the buffer

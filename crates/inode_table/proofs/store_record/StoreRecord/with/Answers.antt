@@ -1,8 +1,4 @@
-use Rattle.std.proofs.Common.{ap, ◌∙◌}
-use Rattle.fs_machine.specs.declared.entries.Inode.{Inode}
-use Rattle.inode_table.specs.Programs.{record_of, store}
-use Rattle.fs_machine.specs.Hands.{inode_in}
-use Rattle.inode_table.proofs.Goings.{recorded-in}
+use Rattle.inode_table.proofs.Lemmas.{ap, ◌∙◌, Inode, record_of, store, inode_in, recorded-in}
 use Rattle.inode_table.proofs.store_record.StoreRecord.with.Goals as goal
 
 pub returns-clause-program : goal.returns-clause-program

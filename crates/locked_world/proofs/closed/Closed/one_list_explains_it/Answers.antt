@@ -1,6 +1,4 @@
-use Rattle.std.proofs.Common.{subst}
-use Rattle.locked_world.specs.Kept.{HasOneHistory}
-use Rattle.locked_world.proofs.Explained.{explained_run}
+use Rattle.locked_world.proofs.Lemmas.{subst, HasOneHistory, explained_run}
 use Rattle.locked_world.proofs.closed.Closed.one_list_explains_it.Goals as goal
 
 pub returns : goal.returns

@@ -1,5 +1,4 @@
-use Rattle.std.proofs.Common.{rules, ◌∙◌, sym, ap, length}
-use Rattle.locked_world.proofs.Noted.{first_pair, no_pair}
+use Rattle.locked_world.proofs.Lemmas.{rules, ◌∙◌, sym, ap, length, first_pair, no_pair}
 use Rattle.locked_world.proofs.lent.IterIterator.next.Goals as goal
 
 pub returns-in_err-note-clause-steps : goal.returns-in_err-note-clause-steps

@@ -1,5 +1,4 @@
-use Rattle.std.proofs.Common.{subst}
-use Rattle.locked_world.specs.Kept.{LockedRun, IsRun, ComesFromImage, device_of}
+use Rattle.locked_world.proofs.Lemmas.{subst, LockedRun, IsRun, ComesFromImage, device_of}
 use Rattle.locked_world.proofs.locked.Locked.is_run.Goals as goal
 
 pub returns-clause-run : goal.returns-clause-run

@@ -1,9 +1,4 @@
-use Rattle.std.proofs.Common.{◌≡◌, ◌∙◌, subst}
-use Rattle.block_device.specs.Blocks.{blocks_of}
-use Rattle.block_device.specs.Fuse.{Fuse}
-use Rattle.image_tree.specs.Damage.{IsWellFormed}
-use Rattle.locked_world.specs.Kept.{disk_of, opened}
-use Rattle.locked_world.proofs.Opening.{kept_opened, mounted_on, called_from}
+use Rattle.locked_world.proofs.Lemmas.{◌≡◌, ◌∙◌, subst, blocks_of, Fuse, IsWellFormed, disk_of, opened, kept_opened, mounted_on, called_from}
 use Rattle.locked_world.proofs.locked.Locked.new.Goals as goal
 
 pub invariant_of-locked : goal.invariant_of-locked

@@ -1,11 +1,4 @@
-use Rattle.std.proofs.Common.{◌∙◌, ◌++◌, ◌∷◌, [], List, refl, ap, subst}
-use Rattle.fs_machine.specs.LogPart.{Passes}
-use Rattle.hart_core.specs.declared.events.Event.TheVariants.{Start}
-use Rattle.hart_core.specs.declared.events.Came.{Came}
-use Rattle.hart_core.specs.declared.events.Came.TheVariants.{Started, Refused}
-use Rattle.locked_world.specs.Kept.{LockedRun, with_event}
-use Rattle.locked_world.specs.Told.{MakesStart}
-use Rattle.locked_world.proofs.Keeping.{kept_started, kept_refused, begun_below}
+use Rattle.locked_world.proofs.Lemmas.{◌∙◌, ◌++◌, ◌∷◌, [], List, refl, ap, subst, Passes, Start, Came, Started, Refused, LockedRun, with_event, MakesStart, kept_started, kept_refused, begun_below}
 use Rattle.locked_world.proofs.locked.Locked.start.Goals as goal
 
 pub lay_by-requires : goal.lay_by-requires

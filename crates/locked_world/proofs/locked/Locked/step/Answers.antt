@@ -1,17 +1,4 @@
-use Rattle.std.proofs.Common.{rules, ◌≡◌, ◌∙◌, ◌++◌, ◌∷◌, ◌<◌, [], List, refl, ap, sym, subst, arith, length}
-use Rattle.plain_tree.specs.declared.call.Call.{Call}
-use Rattle.fs_machine.specs.LogPart.{Passes}
-use Rattle.hart_core.specs.declared.events.Event.{Event}
-use Rattle.hart_core.specs.declared.events.Event.TheVariants.{Step}
-use Rattle.hart_core.specs.declared.events.Came.{Came}
-use Rattle.hart_core.specs.declared.events.Came.TheVariants.{Stepped}
-use Rattle.hart_core.specs.declared.outcome.Outcome.TheVariants.{Idle, Waits, Ran, Done, Stopped}
-use Rattle.hart_core.specs.Harts.{said, shared_of}
-use Rattle.locked_world.specs.HandedBack.{HandsBack}
-use Rattle.locked_world.specs.Kept.{LockedRun, StoredRun, IsKept, IsRun, with_event, contents, failures, replies_of}
-use Rattle.locked_world.specs.Told.{MakesStep, IsUnmoved}
-use Rattle.locked_world.proofs.Halting.{halt_told}
-use Rattle.locked_world.proofs.Keeping.{kept_step, kept_done, kept_waits, waits_unmoved, had_spare, replies_below}
+use Rattle.locked_world.proofs.Lemmas.{rules, ◌≡◌, ◌∙◌, ◌++◌, ◌∷◌, ◌<◌, [], List, refl, ap, sym, subst, arith, length, Call, Passes, Event, Step, Came, Stepped, Idle, Waits, Ran, Done, Stopped, said, shared_of, HandsBack, LockedRun, StoredRun, IsKept, IsRun, with_event, contents, failures, replies_of, MakesStep, IsUnmoved, halt_told, kept_step, kept_done, kept_waits, waits_unmoved, had_spare, replies_below}
 use Rattle.locked_world.proofs.locked.Locked.step.Goals as goal
 
 pub invariant_of-self-in-Idle : goal.invariant_of-self-in-Idle

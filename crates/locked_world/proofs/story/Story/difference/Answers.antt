@@ -1,9 +1,4 @@
-use Rattle.std.proofs.Common.{◌≡◌, ◌≢◌, ◌∙◌, List, IfNone, IfSome, slice_get, sym, ap, subst}
-use Rattle.plain_tree.specs.declared.answer.Reply.{Reply}
-use Rattle.hart_core.specs.Runs.{all_shown}
-use Rattle.locked_world.specs.Kept.{replies_in}
-use Rattle.locked_world.specs.Stories.{given_to}
-use Rattle.locked_world.proofs.Noted.{told_replies}
+use Rattle.locked_world.proofs.Lemmas.{◌≡◌, ◌≢◌, ◌∙◌, List, IfNone, IfSome, slice_get, sym, ap, subst, Reply, all_shown, replies_in, given_to, told_replies}
 use Rattle.locked_world.proofs.story.Story.difference.Goals as goal
 
 pub returns-clause-none : goal.returns-clause-none

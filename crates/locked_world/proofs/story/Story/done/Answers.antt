@@ -1,5 +1,4 @@
-use Rattle.std.proofs.Common.{ap, refl}
-use Rattle.locked_world.proofs.Noted.{noted_reply, plain_event, reply_outcome, noted_here}
+use Rattle.locked_world.proofs.Lemmas.{ap, refl, noted_reply, plain_event, reply_outcome, noted_here}
 use Rattle.locked_world.proofs.story.Story.done.Goals as goal
 
 pub invariant_of-self : goal.invariant_of-self

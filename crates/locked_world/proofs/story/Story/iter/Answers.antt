@@ -1,8 +1,4 @@
-use Rattle.std.proofs.Common.{◌≡◌, ◌∙◌, ap, map}
-use Rattle.hart_core.specs.declared.events.Came.{Came}
-use Rattle.hart_core.specs.declared.events.Event.{Event}
-use Rattle.locked_world.specs.Stories.{noted_pairs}
-use Rattle.locked_world.proofs.Noted.{pair_events, pair_outcomes}
+use Rattle.locked_world.proofs.Lemmas.{◌≡◌, ◌∙◌, ap, map, Came, Event, noted_pairs, pair_events, pair_outcomes}
 use Rattle.locked_world.proofs.story.Story.iter.Goals as goal
 
 pub returns-clause-events : goal.returns-clause-events

@@ -1,5 +1,4 @@
-use Rattle.std.proofs.Common.{arith}
-use Rattle.locked_world.proofs.Noted.{events_count}
+use Rattle.locked_world.proofs.Lemmas.{arith, events_count}
 use Rattle.locked_world.proofs.story.Story.make_room.Goals as goal
 
 pub returns-in_err-make_room-clause-few : goal.returns-in_err-make_room-clause-few

@@ -1,6 +1,4 @@
-use Rattle.std.proofs.Common.{ap, subst, sym}
-use Rattle.locked_world.specs.Stories.{IsNoted}
-use Rattle.locked_world.proofs.Noted.{noted_plain, plain_event, plain_outcome}
+use Rattle.locked_world.proofs.Lemmas.{ap, subst, sym, IsNoted, noted_plain, plain_event, plain_outcome}
 use Rattle.locked_world.proofs.story.Story.note.Goals as goal
 
 pub invariant_of-self : goal.invariant_of-self

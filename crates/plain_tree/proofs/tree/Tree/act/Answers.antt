@@ -1,8 +1,4 @@
-use Rattle.std.proofs.Common.{ap, ◌∙◌, ◌≡◌, length}
-use Rattle.plain_tree.specs.Tree.{tree_of}
-use Rattle.plain_tree.specs.Steps.{answer_with, effect_with, part, file_at, refusal_with}
-use Rattle.plain_tree.specs.Code.{read_count, with_name}
-use Rattle.plain_tree.proofs.ActLemmas.{dup_room, close_below, child_below, read_advances}
+use Rattle.plain_tree.proofs.Lemmas.{ap, ◌∙◌, ◌≡◌, length, tree_of, answer_with, effect_with, part, file_at, refusal_with, read_count, with_name, dup_room, close_below, child_below, read_advances}
 use Rattle.plain_tree.proofs.tree.Tree.act.Goals as goal
 
 pub returns-in-Read : goal.returns-in-Read

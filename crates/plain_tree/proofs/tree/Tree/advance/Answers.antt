@@ -1,5 +1,4 @@
-use Rattle.std.proofs.Common.{arith, refl}
-use Rattle.plain_tree.proofs.TreeLemmas.{file_moved, file_stays, advances}
+use Rattle.plain_tree.proofs.Lemmas.{arith, refl, file_moved, file_stays, advances}
 use Rattle.plain_tree.proofs.tree.Tree.advance.Goals as goal
 
 pub returns-in_default-entry_of : goal.returns-in_default-entry_of

@@ -1,6 +1,4 @@
-use Rattle.std.proofs.Common.{sym, ◌∙◌}
-use Rattle.plain_tree.specs.Tree.{tree_of}
-use Rattle.plain_tree.proofs.ApplyLemmas.{no_place}
+use Rattle.plain_tree.proofs.Lemmas.{sym, ◌∙◌, tree_of, no_place}
 use Rattle.plain_tree.proofs.tree.Tree.apply_at.Goals as goal
 
 pub returns-then-not-has_place : goal.returns-then-not-has_place

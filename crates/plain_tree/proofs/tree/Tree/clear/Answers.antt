@@ -1,10 +1,4 @@
-use Rattle.std.proofs.Common.{ap, ℕ, List, Option, ◌-◌, if◌then◌else◌, ◌∙◌}
-use Rattle.plain_tree.specs.declared.node.Slot.{Slot}
-use Rattle.plain_tree.specs.declared.node.Node.{Node}
-use Rattle.plain_tree.specs.declared.node.Kind.TheVariants.{Directory}
-use Rattle.plain_tree.specs.Tree.{tree_of, slots_of}
-use Rattle.plain_tree.specs.Steps.{cleared}
-use Rattle.plain_tree.proofs.TreeLemmas.{changed}
+use Rattle.plain_tree.proofs.Lemmas.{ap, ℕ, List, Option, ◌-◌, if◌then◌else◌, ◌∙◌, Slot, Node, Directory, tree_of, slots_of, cleared, changed}
 use Rattle.plain_tree.proofs.tree.Tree.clear.Goals as goal
 
 pub returns-clause-tree : goal.returns-clause-tree

@@ -1,5 +1,4 @@
-use Rattle.std.proofs.Common.{◌∙◌}
-use Rattle.plain_tree.proofs.FileLemmas.{closed_without, no_orphan}
+use Rattle.plain_tree.proofs.Lemmas.{◌∙◌, closed_without, no_orphan}
 use Rattle.plain_tree.proofs.tree.Tree.close_orphans.Goals as goal
 
 pub loop-i-preserved : goal.loop-i-preserved

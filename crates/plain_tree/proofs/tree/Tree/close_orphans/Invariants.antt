@@ -1,6 +1,4 @@
-use Rattle.std.proofs.Common.{◌≡◌, length}
-use Rattle.plain_tree.specs.Tree.{tree_of}
-use Rattle.plain_tree.specs.Steps.{closed}
+use Rattle.plain_tree.proofs.Lemmas.{◌≡◌, length, tree_of, closed}
 use Rattle.plain_tree.proofs.tree.Tree.close_orphans.Given as goal
 
 abbrev pub invariant-loop-i : goal.invariant-loop-i

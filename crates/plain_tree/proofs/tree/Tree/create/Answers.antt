@@ -1,7 +1,4 @@
-use Rattle.std.proofs.Common.{ap, sym, ◌∙◌}
-use Rattle.plain_tree.specs.Tree.{tree_of, Tree}
-use Rattle.plain_tree.specs.Steps.{has_room}
-use Rattle.plain_tree.proofs.ActLemmas.{given_file}
+use Rattle.plain_tree.proofs.Lemmas.{ap, sym, ◌∙◌, tree_of, Tree, has_room, given_file}
 use Rattle.plain_tree.proofs.tree.Tree.create.Goals as goal
 
 pub give_file-requires-clause-room : goal.give_file-requires-clause-room

@@ -1,8 +1,4 @@
-use Rattle.std.proofs.Common.{ap}
-use Rattle.plain_tree.specs.declared.node.Kind.{Kind}
-use Rattle.plain_tree.specs.Tree.{tree_of}
-use Rattle.plain_tree.specs.Steps.{emptied}
-use Rattle.plain_tree.proofs.TreeLemmas.{changed}
+use Rattle.plain_tree.proofs.Lemmas.{ap, Kind, tree_of, emptied, changed}
 use Rattle.plain_tree.proofs.tree.Tree.empty.Goals as goal
 
 pub returns : goal.returns

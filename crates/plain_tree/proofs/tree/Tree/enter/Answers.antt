@@ -1,10 +1,4 @@
-use Rattle.std.proofs.Common.{ap, sym, List, Option, Some, None, get_or, ◌∙◌}
-use Rattle.plain_tree.specs.declared.node.Slot.{Slot}
-use Rattle.plain_tree.specs.declared.node.Node.{Node}
-use Rattle.plain_tree.specs.declared.node.Kind.TheVariants.{Directory}
-use Rattle.plain_tree.specs.Tree.{tree_of, slots_of}
-use Rattle.plain_tree.specs.Steps.{first_free}
-use Rattle.plain_tree.proofs.TreeLemmas.{changed, put_node_back, live_is, live_below, on_result}
+use Rattle.plain_tree.proofs.Lemmas.{ap, sym, List, Option, Some, None, get_or, ◌∙◌, Slot, Node, Directory, tree_of, slots_of, first_free, changed, put_node_back, live_is, live_below, on_result}
 use Rattle.plain_tree.proofs.tree.Tree.enter.Goals as goal
 
 pub take_node-count-requires : goal.take_node-count-requires

@@ -1,5 +1,4 @@
-use Rattle.std.proofs.Common.{◌≡◌, drop}
-use Rattle.plain_tree.specs.Tree.{file_in}
+use Rattle.plain_tree.proofs.Lemmas.{◌≡◌, drop, file_in}
 use Rattle.plain_tree.proofs.tree.Tree.file.Given as goal
 
 abbrev pub invariant-loop-entry : goal.invariant-loop-entry

@@ -1,4 +1,4 @@
-use Rattle.plain_tree.proofs.TreeLemmas.{file_added}
+use Rattle.plain_tree.proofs.Lemmas.{file_added}
 use Rattle.plain_tree.proofs.tree.Tree.files_with.Goals as goal
 
 pub returns : goal.returns

@@ -1,5 +1,4 @@
-use Rattle.std.proofs.Common.{◌<◌, arith, length}
-use Rattle.std.proofs.lemmas.List.{get_or_default}
+use Rattle.plain_tree.proofs.Lemmas.{◌<◌, arith, length, get_or_default}
 use Rattle.plain_tree.proofs.tree.Tree.hart.Goals as goal
 
 pub returns : goal.returns

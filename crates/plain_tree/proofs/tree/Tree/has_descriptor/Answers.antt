@@ -1,7 +1,4 @@
-use Rattle.std.proofs.Common.{refl, sym, ◌∙◌}
-use Rattle.plain_tree.specs.Steps.{has_fd}
-use Rattle.plain_tree.specs.Tree.{any_below}
-use Rattle.plain_tree.proofs.ReadLemmas.{below_true, below_more, below_all}
+use Rattle.plain_tree.proofs.Lemmas.{refl, sym, ◌∙◌, has_fd, any_below, below_true, below_more, below_all}
 use Rattle.plain_tree.proofs.tree.Tree.has_descriptor.Goals as goal
 
 pub returns-then-has_descriptor_by : goal.returns-then-has_descriptor_by

@@ -1,7 +1,4 @@
-use Rattle.std.proofs.Common.{◌≡◌, false}
-use Rattle.plain_tree.specs.Tree.{tree_of, any_below}
-use Rattle.plain_tree.specs.Code.{is_id}
-use Rattle.plain_tree.specs.Widths.{descriptor_count}
+use Rattle.plain_tree.proofs.Lemmas.{◌≡◌, false, tree_of, any_below, is_id, descriptor_count}
 use Rattle.plain_tree.proofs.tree.Tree.has_descriptor.Given as goal
 
 abbrev pub invariant-loop-hart : goal.invariant-loop-hart

@@ -1,6 +1,4 @@
-use Rattle.std.proofs.Common.{refl, sym, ◌∙◌}
-use Rattle.plain_tree.specs.Tree.{any_below}
-use Rattle.plain_tree.proofs.ReadLemmas.{below_true, below_more, below_all}
+use Rattle.plain_tree.proofs.Lemmas.{refl, sym, ◌∙◌, any_below, below_true, below_more, below_all}
 use Rattle.plain_tree.proofs.tree.Tree.has_descriptor_by.Goals as goal
 
 pub returns-then-is_of : goal.returns-then-is_of

@@ -1,6 +1,4 @@
-use Rattle.std.proofs.Common.{◌≡◌, false, not}
-use Rattle.plain_tree.specs.Tree.{tree_of, any_below}
-use Rattle.plain_tree.specs.Steps.{is_nothing}
+use Rattle.plain_tree.proofs.Lemmas.{◌≡◌, false, not, tree_of, any_below, is_nothing}
 use Rattle.plain_tree.proofs.tree.Tree.has_descriptors.Given as goal
 
 abbrev pub invariant-loop-fd : goal.invariant-loop-fd

@@ -1,5 +1,4 @@
-use Rattle.plain_tree.specs.Tree.{tree_of}
-use Rattle.plain_tree.proofs.TreeLemmas.{inherited}
+use Rattle.plain_tree.proofs.Lemmas.{tree_of, inherited}
 use Rattle.plain_tree.proofs.tree.Tree.inherit.Goals as goal
 
 pub returns : goal.returns

@@ -1,7 +1,4 @@
-use Rattle.std.proofs.Common.{refl, sym, ◌∙◌}
-use Rattle.plain_tree.specs.Tree.{is_named}
-use Rattle.plain_tree.specs.Tree.{any_below}
-use Rattle.plain_tree.proofs.ReadLemmas.{below_true, below_more, below_all}
+use Rattle.plain_tree.proofs.Lemmas.{refl, sym, ◌∙◌, is_named, any_below, below_true, below_more, below_all}
 use Rattle.plain_tree.proofs.tree.Tree.is_named.Goals as goal
 
 pub returns-then-is_named_by : goal.returns-then-is_named_by

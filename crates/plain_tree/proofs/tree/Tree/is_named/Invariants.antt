@@ -1,6 +1,4 @@
-use Rattle.std.proofs.Common.{◌≡◌, false, ◌||◌, ◌==◌}
-use Rattle.plain_tree.specs.Tree.{tree_of, any_below, fd_names, hold_names}
-use Rattle.plain_tree.specs.Widths.{descriptor_count}
+use Rattle.plain_tree.proofs.Lemmas.{◌≡◌, false, ◌||◌, ◌==◌, tree_of, any_below, fd_names, hold_names, descriptor_count}
 use Rattle.plain_tree.proofs.tree.Tree.is_named.Given as goal
 
 abbrev pub invariant-loop-hart : goal.invariant-loop-hart

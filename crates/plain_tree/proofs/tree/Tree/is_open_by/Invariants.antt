@@ -1,5 +1,4 @@
-use Rattle.std.proofs.Common.{◌≡◌, false}
-use Rattle.plain_tree.specs.Tree.{tree_of, any_below, fd_names}
+use Rattle.plain_tree.proofs.Lemmas.{◌≡◌, false, tree_of, any_below, fd_names}
 use Rattle.plain_tree.proofs.tree.Tree.is_open_by.Given as goal
 
 abbrev pub invariant-loop-fd : goal.invariant-loop-fd

@@ -1,6 +1,4 @@
-use Rattle.std.proofs.lemmas.Bool.Decides.{not_from_Decides}
-use Rattle.plain_tree.specs.Tree.{tree_of}
-use Rattle.plain_tree.proofs.LeadLemmas.{step_placed, made_leads}
+use Rattle.plain_tree.proofs.Lemmas.{not_from_Decides, tree_of, step_placed, made_leads}
 use Rattle.plain_tree.proofs.tree.Tree.lead_on.Goals as goal
 
 pub returns-then-not-is_in_place : goal.returns-then-not-is_in_place

@@ -1,5 +1,4 @@
-use Rattle.std.proofs.Common.{◌≢◌, ◌<◌, ℕ, None}
-use Rattle.plain_tree.specs.Tree.{tree_of}
+use Rattle.plain_tree.proofs.Lemmas.{◌≢◌, ◌<◌, ℕ, None, tree_of}
 use Rattle.plain_tree.proofs.tree.Tree.least_unused.Given as goal
 
 abbrev pub invariant-loop-id : goal.invariant-loop-id

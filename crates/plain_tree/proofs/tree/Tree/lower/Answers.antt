@@ -1,7 +1,4 @@
-use Rattle.std.proofs.Common.{ap, ℕ}
-use Rattle.plain_tree.specs.Tree.{tree_of}
-use Rattle.plain_tree.specs.Steps.{lowered}
-use Rattle.plain_tree.proofs.TreeLemmas.{changed}
+use Rattle.plain_tree.proofs.Lemmas.{ap, ℕ, tree_of, lowered, changed}
 use Rattle.plain_tree.proofs.tree.Tree.lower.Goals as goal
 
 pub returns : goal.returns

@@ -1,5 +1,4 @@
-use Rattle.plain_tree.specs.Tree.{tree_of}
-use Rattle.plain_tree.proofs.ActLemmas.{few_still, mkdir_few}
+use Rattle.plain_tree.proofs.Lemmas.{tree_of, few_still, mkdir_few}
 use Rattle.plain_tree.proofs.tree.Tree.mkdir.Goals as goal
 
 pub raise-requires-clause-few : goal.raise-requires-clause-few

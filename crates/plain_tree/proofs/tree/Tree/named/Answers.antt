@@ -1,5 +1,4 @@
-use Rattle.std.proofs.Common.{◌≡◌, ◌∙◌, ap, arith, length}
-use Rattle.plain_tree.proofs.MarkLemmas.{named_copy}
+use Rattle.plain_tree.proofs.Lemmas.{◌≡◌, ◌∙◌, ap, arith, length, named_copy}
 use Rattle.plain_tree.proofs.tree.Tree.named.Goals as goal
 
 pub returns : goal.returns

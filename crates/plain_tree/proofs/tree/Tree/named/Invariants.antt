@@ -1,6 +1,4 @@
-use Rattle.std.proofs.Common.{◌≡◌, ℕ, ◌<◌, length, get_or, None}
-use Rattle.plain_tree.specs.Tree.{tree_of}
-use Rattle.plain_tree.proofs.MarkLemmas.{part_at}
+use Rattle.plain_tree.proofs.Lemmas.{◌≡◌, ℕ, ◌<◌, length, get_or, None, tree_of, part_at}
 use Rattle.plain_tree.proofs.tree.Tree.named.Given as goal
 
 abbrev pub invariant-loop-number : goal.invariant-loop-number

@@ -1,6 +1,4 @@
-use Rattle.std.proofs.Common.{◌≡◌, ℕ, ◌<◌, true}
-use Rattle.plain_tree.specs.Tree.{tree_of}
-use Rattle.plain_tree.specs.Marks.{is_marked, LooksMarked}
+use Rattle.plain_tree.proofs.Lemmas.{◌≡◌, ℕ, ◌<◌, true, tree_of, is_marked, LooksMarked}
 use Rattle.plain_tree.proofs.tree.Tree.next_new.Given as goal
 
 abbrev pub invariant-loop-directory : goal.invariant-loop-directory

@@ -1,7 +1,4 @@
-use Rattle.std.proofs.Common.{◌≡◌, ◌<◌, ℕ, true, get_or}
-use Rattle.plain_tree.specs.declared.tree.OpenFileEntry.{OpenFileEntry}
-use Rattle.plain_tree.specs.Tree.{tree_of}
-use Rattle.plain_tree.specs.Steps.{has_fd}
+use Rattle.plain_tree.proofs.Lemmas.{◌≡◌, ◌<◌, ℕ, true, get_or, OpenFileEntry, tree_of, has_fd}
 use Rattle.plain_tree.proofs.tree.Tree.orphan.Given as goal
 
 abbrev pub invariant-loop-i : goal.invariant-loop-i

@@ -1,10 +1,4 @@
-use Rattle.std.proofs.Common.{ap, sym, ◌∙◌, ◌≡◌, List, ℕ}
-use Rattle.plain_tree.specs.declared.node.Node.{Node}
-use Rattle.plain_tree.specs.declared.node.Kind.{Kind}
-use Rattle.plain_tree.specs.declared.node.Kind.TheVariants.{File}
-use Rattle.plain_tree.specs.Tree.{Tree, tree_of}
-use Rattle.plain_tree.specs.Steps.{at_node, node_at, written_kind}
-use Rattle.plain_tree.proofs.TreeLemmas.{changed, stays}
+use Rattle.plain_tree.proofs.Lemmas.{ap, sym, ◌∙◌, ◌≡◌, List, ℕ, Node, Kind, File, Tree, tree_of, at_node, node_at, written_kind, changed, stays}
 use Rattle.plain_tree.proofs.tree.Tree.overwrite.Goals as goal
 
 pub returns-in_default : goal.returns-in_default

@@ -1,5 +1,4 @@
-use Rattle.std.proofs.Common.{◌≡◌, length}
-use Rattle.plain_tree.specs.Tree.{elements, parent, parent_from, tree_of}
+use Rattle.plain_tree.proofs.Lemmas.{◌≡◌, length, elements, parent, parent_from, tree_of}
 use Rattle.plain_tree.proofs.tree.Tree.parent.Given as goal
 
 abbrev pub invariant-loop-next : goal.invariant-loop-next

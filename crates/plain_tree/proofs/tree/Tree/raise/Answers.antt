@@ -1,7 +1,4 @@
-use Rattle.std.proofs.Common.{refl}
-use Rattle.plain_tree.specs.Tree.{tree_of}
-use Rattle.plain_tree.specs.Steps.{raised}
-use Rattle.plain_tree.proofs.TreeLemmas.{changed}
+use Rattle.plain_tree.proofs.Lemmas.{refl, tree_of, raised, changed}
 use Rattle.plain_tree.proofs.tree.Tree.raise.Goals as goal
 
 pub returns : goal.returns

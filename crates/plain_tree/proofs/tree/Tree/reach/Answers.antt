@@ -1,4 +1,4 @@
-use Rattle.plain_tree.proofs.TreeLemmas.{nodes_grown}
+use Rattle.plain_tree.proofs.Lemmas.{nodes_grown}
 use Rattle.plain_tree.proofs.tree.Tree.reach.Goals as goal
 
 pub returns-in_ok-push_absent-clause-tree : goal.returns-in_ok-push_absent-clause-tree

@@ -1,6 +1,4 @@
-use Rattle.std.proofs.Common.{arith, ap}
-use Rattle.plain_tree.specs.Tree.{tree_of}
-use Rattle.plain_tree.proofs.MarkLemmas.{first_marked, none_marked, next_fewer, next_marks, closed_all}
+use Rattle.plain_tree.proofs.Lemmas.{arith, ap, tree_of, first_marked, none_marked, next_fewer, next_marks, closed_all}
 use Rattle.plain_tree.proofs.tree.Tree.reached.Goals as goal
 use Rattle.plain_tree.proofs.tree.Tree.reached.Goals.{then-from-len, else-from-len}
 

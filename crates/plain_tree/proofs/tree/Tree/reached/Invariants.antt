@@ -1,5 +1,4 @@
-use Rattle.plain_tree.specs.Marks.{MarksReached}
-use Rattle.plain_tree.proofs.MarkLemmas.{unmarked}
+use Rattle.plain_tree.proofs.Lemmas.{MarksReached, unmarked}
 use Rattle.plain_tree.proofs.tree.Tree.reached.Given as goal
 
 abbrev pub invariant-loop-number : goal.invariant-loop-number

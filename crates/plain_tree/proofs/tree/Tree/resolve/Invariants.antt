@@ -1,5 +1,4 @@
-use Rattle.std.proofs.Common.{◌≡◌, length}
-use Rattle.plain_tree.specs.Tree.{elements, follow, resolve, tree_of}
+use Rattle.plain_tree.proofs.Lemmas.{◌≡◌, length, elements, follow, resolve, tree_of}
 use Rattle.plain_tree.proofs.tree.Tree.resolve.Given as goal
 
 abbrev pub invariant-loop-name : goal.invariant-loop-name

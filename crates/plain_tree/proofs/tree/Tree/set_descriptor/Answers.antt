@@ -1,6 +1,4 @@
-use Rattle.std.proofs.Common.{◌<◌, length, arith}
-use Rattle.plain_tree.specs.Tree.{tree_of}
-use Rattle.plain_tree.proofs.TreeLemmas.{descriptor_set}
+use Rattle.plain_tree.proofs.Lemmas.{◌<◌, length, arith, tree_of, descriptor_set}
 use Rattle.plain_tree.proofs.tree.Tree.set_descriptor.Goals as goal
 
 pub returns : goal.returns

@@ -1,5 +1,4 @@
-use Rattle.plain_tree.specs.Tree.{tree_of}
-use Rattle.plain_tree.proofs.TreeLemmas.{directory_set}
+use Rattle.plain_tree.proofs.Lemmas.{tree_of, directory_set}
 use Rattle.plain_tree.proofs.tree.Tree.set_directory.Goals as goal
 
 pub returns : goal.returns

@@ -1,5 +1,4 @@
-use Rattle.std.proofs.Common.{arith}
-use Rattle.plain_tree.proofs.TreeLemmas.{harts_set}
+use Rattle.plain_tree.proofs.Lemmas.{arith, harts_set}
 use Rattle.plain_tree.proofs.tree.Tree.set_hart.Goals as goal
 
 pub returns : goal.returns

@@ -1,5 +1,4 @@
-use Rattle.plain_tree.specs.Tree.{tree_of}
-use Rattle.plain_tree.proofs.TreeLemmas.{hold_set}
+use Rattle.plain_tree.proofs.Lemmas.{tree_of, hold_set}
 use Rattle.plain_tree.proofs.tree.Tree.set_hold.Goals as goal
 
 pub returns : goal.returns

@@ -1,5 +1,4 @@
-use Rattle.std.proofs.Common.{Some}
-use Rattle.plain_tree.proofs.TreeLemmas.{nodes_set}
+use Rattle.plain_tree.proofs.Lemmas.{Some, nodes_set}
 use Rattle.plain_tree.proofs.tree.Tree.set_node.Goals as goal
 
 pub returns-clause-tree : goal.returns-clause-tree

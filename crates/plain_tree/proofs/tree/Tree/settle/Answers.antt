@@ -1,7 +1,4 @@
-use Rattle.std.proofs.Common.{refl, sym, ◌∙◌, ap, length}
-use Rattle.plain_tree.specs.TreeData.{TreeData}
-use Rattle.plain_tree.specs.Tree.{tree_of}
-use Rattle.plain_tree.proofs.SettleLemmas.{step_kept, step_gone, settle_none, settle_end}
+use Rattle.plain_tree.proofs.Lemmas.{refl, sym, ◌∙◌, ap, length, TreeData, tree_of, step_kept, step_gone, settle_none, settle_end}
 use Rattle.plain_tree.proofs.tree.Tree.settle.Goals as goal
 use Rattle.plain_tree.proofs.tree.Tree.settle.Goals.{then-is_lost, else-is_lost}
 

@@ -1,6 +1,4 @@
-use Rattle.std.proofs.Common.{◌≡◌, length}
-use Rattle.plain_tree.specs.Tree.{tree_of}
-use Rattle.plain_tree.specs.Code.{settled_below}
+use Rattle.plain_tree.proofs.Lemmas.{◌≡◌, length, tree_of, settled_below}
 use Rattle.plain_tree.proofs.tree.Tree.settle.Given as goal
 
 abbrev pub invariant-loop-number : goal.invariant-loop-number

@@ -1,5 +1,4 @@
-use Rattle.plain_tree.specs.Tree.{tree_of}
-use Rattle.plain_tree.proofs.ActLemmas.{emptied_far}
+use Rattle.plain_tree.proofs.Lemmas.{tree_of, emptied_far}
 use Rattle.plain_tree.proofs.tree.Tree.truncate.Goals as goal
 
 pub returns : goal.returns

@@ -1,8 +1,4 @@
-use Rattle.std.proofs.Common.{◌≡◌, ◌∙◌, ap, subst, Option}
-use Rattle.plain_tree.specs.declared.tree.Hold.{Hold}
-use Rattle.plain_tree.specs.Tree.{Tree, tree_of}
-use Rattle.plain_tree.specs.Steps.{at_hold, drop_hold, lowered}
-use Rattle.plain_tree.proofs.ActLemmas.{held_far}
+use Rattle.plain_tree.proofs.Lemmas.{◌≡◌, ◌∙◌, ap, subst, Option, Hold, Tree, tree_of, at_hold, drop_hold, lowered, held_far}
 use Rattle.plain_tree.proofs.tree.Tree.unbump.Goals as goal
 use Rattle.plain_tree.proofs.tree.Tree.unbump.Goals.{in-Some+in_ok-reach, in_default}
 

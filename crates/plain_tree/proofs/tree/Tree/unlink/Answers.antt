@@ -1,7 +1,4 @@
-use Rattle.std.proofs.Common.{◌≡◌, ◌<◌, length, arith, sym, subst, true}
-use Rattle.plain_tree.specs.Tree.{Tree, live_directory, tree_of}
-use Rattle.plain_tree.proofs.ActLemmas.{removed_far}
-use Rattle.plain_tree.proofs.TreeLemmas.{live_below}
+use Rattle.plain_tree.proofs.Lemmas.{◌≡◌, ◌<◌, length, arith, sym, subst, true, Tree, live_directory, tree_of, removed_far, live_below}
 use Rattle.plain_tree.proofs.tree.Tree.unlink.Goals as goal
 
 pub clear-requires : goal.clear-requires

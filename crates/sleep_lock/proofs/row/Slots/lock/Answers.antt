@@ -1,8 +1,4 @@
-use Rattle.std.proofs.Common.{◌≡◌, List, sym, subst}
-use Rattle.std.specs.Prelude.{Option, slice_set}
-use Rattle.sleep_lock.specs.SleepLock.{SlotState, GuardState}
-use Rattle.sleep_lock.specs.Row.{lock_of}
-use Rattle.sleep_lock.proofs.Locks.{LockLaws, lock_gives, lock_laws, IfSome_each}
+use Rattle.sleep_lock.proofs.Lemmas.{◌≡◌, List, sym, subst, Option, slice_set, SlotState, GuardState, lock_of, LockLaws, lock_gives, lock_laws, IfSome_each}
 use Rattle.sleep_lock.proofs.row.Slots.lock.Goals as goal
 
 pub returns : goal.returns

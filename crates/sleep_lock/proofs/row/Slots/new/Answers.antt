@@ -1,8 +1,4 @@
-use Rattle.std.proofs.Common.{rules, refl, length-append, append_assoc, ◌+◌, ◌≡◌, ap, ◌∙◌, sym, arith, ◌∷◌, [], length, ℕ}
-use Rattle.std.proofs.lemmas.Grind.{common_steps}
-use Rattle.sleep_lock.specs.Row.{row_of}
-use Rattle.sleep_lock.specs.SleepLock.{filled}
-use Rattle.sleep_lock.proofs.Locks.{numbered_row, row_of-push, length-row_of}
+use Rattle.sleep_lock.proofs.Lemmas.{rules, refl, length-append, append_assoc, ◌+◌, ◌≡◌, ap, ◌∙◌, sym, arith, ◌∷◌, [], length, ℕ, common_steps, row_of, filled, numbered_row, row_of-push, length-row_of}
 use Rattle.sleep_lock.proofs.row.Slots.new.Goals as goal
 
 pub loop-value-preserved : goal.loop-value-preserved

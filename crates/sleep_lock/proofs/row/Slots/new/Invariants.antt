@@ -1,6 +1,4 @@
-use Rattle.std.proofs.Common.{◌≡◌, ◌++◌, length}
-use Rattle.std.specs.Vec.Iter.{into_iter_items}
-use Rattle.sleep_lock.specs.Row.{row_of}
+use Rattle.sleep_lock.proofs.Lemmas.{◌≡◌, ◌++◌, length, into_iter_items, row_of}
 use Rattle.sleep_lock.proofs.row.Slots.new.Given as goal
 
 abbrev pub invariant-loop-value : goal.invariant-loop-value

@@ -1,5 +1,4 @@
-use Rattle.sleep_lock.proofs.Locks.{numbered_unlocked}
-use Rattle.sleep_lock.specs.Row.{unlocked}
+use Rattle.sleep_lock.proofs.Lemmas.{numbered_unlocked, unlocked}
 use Rattle.sleep_lock.proofs.row.Slots.unlock.Goals as goal
 
 pub returns-clause-numbered : goal.returns-clause-numbered

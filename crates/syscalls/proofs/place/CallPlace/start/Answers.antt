@@ -1,8 +1,4 @@
-use Rattle.std.proofs.Common.{sym, subst}
-use Rattle.fs_machine.specs.Empty.{IsEmpty}
-use Rattle.fs_machine.proofs.Stepping.{bare-fits}
-use Rattle.syscalls.specs.Machines.{Running, running_of}
-use Rattle.syscalls.proofs.Places.{idle_is, nothing_fits}
+use Rattle.syscalls.proofs.Lemmas.{sym, subst, IsEmpty, bare-fits, Running, running_of, idle_is, nothing_fits}
 use Rattle.syscalls.proofs.place.CallPlace.start.Goals as goal
 
 pub start-requires-clause-runs : goal.start-requires-clause-runs

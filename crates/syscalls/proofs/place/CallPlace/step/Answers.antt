@@ -1,14 +1,4 @@
-use Rattle.std.proofs.Common.{◌≡◌, Bool, Option, Some, None, refl, sym, ap, ◌∙◌, subst}
-use Rattle.std.specs.Option.{MatchOption}
-use Rattle.plain_tree.specs.declared.answer.Reply.{Reply}
-use Rattle.atomic_programs.specs.declared.machines.Came.TheVariants.{Waits, Ran, Done, Stopped}
-use Rattle.fs_machine.specs.Machines.{MayNext}
-use Rattle.fs_machine.specs.Steps.{state_of}
-use Rattle.path_walk.specs.Asks.{reply_to}
-use Rattle.whole_calls.specs.Wholes.{call_in}
-use Rattle.syscalls.specs.Machines.{Running, running_of}
-use Rattle.syscalls.specs.Places.{call_at, with_reply, StepsAt}
-use Rattle.syscalls.proofs.Places.{busy_is, busy_on}
+use Rattle.syscalls.proofs.Lemmas.{◌≡◌, Bool, Option, Some, None, refl, sym, ap, ◌∙◌, subst, MatchOption, Reply, Waits, Ran, Done, Stopped, MayNext, state_of, reply_to, call_in, Running, running_of, call_at, with_reply, StepsAt, busy_is, busy_on}
 use Rattle.syscalls.proofs.place.CallPlace.step.Goals as goal
 
 pub step-requires-clause-may : goal.step-requires-clause-may

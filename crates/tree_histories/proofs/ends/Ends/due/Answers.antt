@@ -1,6 +1,4 @@
-use Rattle.std.proofs.Common.{◌∙◌, ap, sym, get_or, subst, arith, None}
-use Rattle.tree_histories.proofs.OrderLemmas.{is_due}
-use Rattle.tree_histories.specs.Ordered.{IsDue}
+use Rattle.tree_histories.proofs.Lemmas.{◌∙◌, ap, sym, get_or, subst, arith, None, is_due, IsDue}
 use Rattle.tree_histories.proofs.ends.Ends.due.Goals as goal
 
 pub returns-then-has_end : goal.returns-then-has_end

@@ -1,4 +1,4 @@
-use Rattle.tree_histories.proofs.OrderLemmas.{NoneStands}
+use Rattle.tree_histories.proofs.Lemmas.{NoneStands}
 use Rattle.tree_histories.proofs.ends.Ends.due.Given as goal
 
 abbrev pub invariant-loop-place : goal.invariant-loop-place

@@ -1,5 +1,4 @@
-use Rattle.std.proofs.Common.{◌≡◌, ◌-◌, length, set, None}
-use Rattle.tree_histories.specs.Ordered.{IsOrdered}
+use Rattle.tree_histories.proofs.Lemmas.{◌≡◌, ◌-◌, length, set, None, IsOrdered}
 use Rattle.tree_histories.proofs.ends.Ends.pass.Given as goal
 
 abbrev pub invariant-loop-self : goal.invariant-loop-self

@@ -1,4 +1,4 @@
-use Rattle.tree_histories.proofs.Telling.{told_begun, told_start}
+use Rattle.tree_histories.proofs.Lemmas.{told_begun, told_start}
 use Rattle.tree_histories.proofs.kept.Kept.begins.Goals as goal
 
 pub returns-in-Some-start-clause-tells : goal.returns-in-Some-start-clause-tells

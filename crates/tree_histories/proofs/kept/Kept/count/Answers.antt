@@ -1,6 +1,4 @@
-use Rattle.std.proofs.Common.{Some, ap, sym, ◌∙◌}
-use Rattle.tree_histories.specs.Keeping.{Under, more_made, with_hart}
-use Rattle.tree_histories.proofs.Harts.{put_back_changed}
+use Rattle.tree_histories.proofs.Lemmas.{Some, ap, sym, ◌∙◌, Under, more_made, with_hart, put_back_changed}
 use Rattle.tree_histories.proofs.kept.Kept.count.Goals as goal
 
 pub returns : goal.returns

@@ -1,9 +1,4 @@
-use Rattle.std.proofs.Common.{◌≡◌, ℕ, ◌+◌, sym, subst, arith}
-use Rattle.plain_tree.specs.Widths.{hart_count}
-use Rattle.tree_laws.specs.Runs.{all_fall}
-use Rattle.tree_histories.specs.Books.{IsBook}
-use Rattle.tree_histories.specs.Keeping.{KeptTree, stage_of}
-use Rattle.tree_histories.proofs.Falling.{Fallen, fallen_first, fallen_not, fallen_now}
+use Rattle.tree_histories.proofs.Lemmas.{◌≡◌, ℕ, ◌+◌, sym, subst, arith, hart_count, all_fall, IsBook, KeptTree, stage_of, Fallen, fallen_first, fallen_not, fallen_now}
 use Rattle.tree_histories.proofs.kept.Kept.fall.Goals as goal
 use Rattle.tree_histories.proofs.kept.Kept.fall.Goals.{then-falls+in_ok-write, else-falls}
 

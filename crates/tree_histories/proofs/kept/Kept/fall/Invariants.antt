@@ -1,4 +1,4 @@
-use Rattle.tree_histories.proofs.Falling.{Fallen}
+use Rattle.tree_histories.proofs.Lemmas.{Fallen}
 use Rattle.tree_histories.proofs.kept.Kept.fall.Given as goal
 
 abbrev pub invariant-loop-hart : goal.invariant-loop-hart

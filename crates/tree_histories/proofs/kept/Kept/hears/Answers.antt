@@ -1,7 +1,4 @@
-use Rattle.std.proofs.Common.{Option, Some, sym, subst, ap, ◌∙◌}
-use Rattle.path_walk.specs.declared.asks.Heard.{Heard}
-use Rattle.tree_histories.specs.Keeping.{HasHeard, Under, with_hart}
-use Rattle.tree_histories.proofs.Hearing.{heard_begun, heard_on}
+use Rattle.tree_histories.proofs.Lemmas.{Option, Some, sym, subst, ap, ◌∙◌, Heard, HasHeard, Under, with_hart, heard_begun, heard_on}
 use Rattle.tree_histories.proofs.kept.Kept.hears.Goals as goal
 
 pub returns-in-Some-heard : goal.returns-in-Some-heard

@@ -1,5 +1,4 @@
-use Rattle.std.proofs.Common.{refl, sym, ◌∙◌}
-use Rattle.tree_histories.proofs.Telling.{told_looked, told_next, told_nowhere}
+use Rattle.tree_histories.proofs.Lemmas.{refl, sym, ◌∙◌, told_looked, told_next, told_nowhere}
 use Rattle.tree_histories.proofs.kept.Kept.looks.Goals as goal
 
 pub returns-in_default-walk-clause-tells : goal.returns-in_default-walk-clause-tells

@@ -1,5 +1,4 @@
-use Rattle.tree_histories.specs.Keeping.{stage_of}
-use Rattle.tree_histories.proofs.Falling.{lost_more}
+use Rattle.tree_histories.proofs.Lemmas.{stage_of, lost_more}
 use Rattle.tree_histories.proofs.kept.Kept.lost.Goals as goal
 
 pub loop-hart-preserved : goal.loop-hart-preserved

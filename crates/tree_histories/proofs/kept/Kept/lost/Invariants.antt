@@ -1,5 +1,4 @@
-use Rattle.std.proofs.Common.{◌≡◌, ℕ, ◌<◌, false, length, get_or}
-use Rattle.tree_histories.specs.Keeping.{is_lost, stage_of}
+use Rattle.tree_histories.proofs.Lemmas.{◌≡◌, ℕ, ◌<◌, false, length, get_or, is_lost, stage_of}
 use Rattle.tree_histories.proofs.kept.Kept.lost.Given as goal
 
 abbrev pub invariant-loop-hart : goal.invariant-loop-hart

@@ -1,4 +1,4 @@
-use Rattle.tree_histories.proofs.Falling.{moves_on_so}
+use Rattle.tree_histories.proofs.Lemmas.{moves_on_so}
 use Rattle.tree_histories.proofs.kept.Kept.moves.Goals as goal
 
 pub returns : goal.returns

@@ -1,10 +1,4 @@
-use Rattle.std.proofs.Common.{◌≡◌, List, [], replicate, None, sym, subst}
-use Rattle.tree_histories.specs.declared.explore.Hint.{Hint}
-use Rattle.inode_machine.specs.Kept.{nothing_yet}
-use Rattle.plain_tree.specs.Widths.{hart_count}
-use Rattle.tree_histories.specs.Books.{IsBook}
-use Rattle.tree_histories.specs.Keeping.{KeptTree}
-use Rattle.tree_histories.proofs.Booked.{book_none}
+use Rattle.tree_histories.proofs.Lemmas.{◌≡◌, List, [], replicate, None, sym, subst, Hint, nothing_yet, hart_count, IsBook, KeptTree, book_none}
 use Rattle.tree_histories.proofs.kept.Kept.new.Goals as goal
 
 pub returns-clause-book : goal.returns-clause-book

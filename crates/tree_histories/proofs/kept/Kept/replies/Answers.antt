@@ -1,8 +1,4 @@
-use Rattle.std.proofs.Common.{ap, sym, subst, ◌∙◌}
-use Rattle.tree_laws.specs.History.{replies}
-use Rattle.tree_histories.specs.Books.{IsBook}
-use Rattle.tree_histories.specs.Keeping.{KeptTree, passed}
-use Rattle.tree_histories.proofs.Booked.{book_replies}
+use Rattle.tree_histories.proofs.Lemmas.{ap, sym, subst, ◌∙◌, replies, IsBook, KeptTree, passed, book_replies}
 use Rattle.tree_histories.proofs.kept.Kept.replies.Goals as goal
 
 pub returns-clause-book : goal.returns-clause-book

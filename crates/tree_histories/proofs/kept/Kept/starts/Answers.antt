@@ -1,7 +1,4 @@
-use Rattle.std.proofs.Common.{ℕ, ap, subst, ◌∙◌}
-use Rattle.tree_histories.specs.Keeping.{IsNewCall, KeptTree, passed}
-use Rattle.tree_histories.proofs.Booked.{book_started}
-use Rattle.tree_histories.proofs.Hearing.{started_so}
+use Rattle.tree_histories.proofs.Lemmas.{ℕ, ap, subst, ◌∙◌, IsNewCall, KeptTree, passed, book_started, started_so}
 use Rattle.tree_histories.proofs.kept.Kept.starts.Goals as goal
 
 pub returns-clause-book : goal.returns-clause-book

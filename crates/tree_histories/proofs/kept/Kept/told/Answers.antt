@@ -1,8 +1,5 @@
-use Rattle.std.proofs.Common.{Some, refl, sym, subst, IfOk}
-use Rattle.path_walk.specs.declared.asks.Mark.{Mark}
+use Rattle.tree_histories.proofs.Lemmas.{Some, refl, sym, subst, IfOk, Mark, TellsOf, told_alone, told_quit}
 use Rattle.path_walk.specs.declared.asks.Mark.TheVariants as mark
-use Rattle.tree_histories.specs.Moving.{TellsOf}
-use Rattle.tree_histories.proofs.Telling.{told_alone, told_quit}
 use Rattle.tree_histories.proofs.kept.Kept.told.Goals as goal
 
 pub returns-in-Look-clause-tells : goal.returns-in-Look-clause-tells

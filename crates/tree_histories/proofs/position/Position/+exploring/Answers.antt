@@ -1,8 +1,4 @@
-use Rattle.std.proofs.Common.{◌≡◌, ◌≢◌, ◌≤◌, ℕ, length, sym, ◌∙◌, ap, subst, arith, inl, inr}
-use Rattle.std.proofs.lemmas.Bool.{cases_eq}
-use Rattle.tree_histories.specs.declared.position.Position.{Position}
-use Rattle.tree_histories.specs.Searching.{IsDead, IsDeadWith, IsKept}
-use Rattle.tree_histories.proofs.ExploreLemmas.{all_dead, call_not, dead_back, dead_numbers, dead_with_back, due_on, explored_not, kept_then, left_on, numbers_on, earliest, placed_made, placed_not, taken_back, tried_bad, tried_not}
+use Rattle.tree_histories.proofs.Lemmas.{◌≡◌, ◌≢◌, ◌≤◌, ℕ, length, sym, ◌∙◌, ap, subst, arith, inl, inr, cases_eq, Position, IsDead, IsDeadWith, IsKept, all_dead, call_not, dead_back, dead_numbers, dead_with_back, due_on, explored_not, kept_then, left_on, numbers_on, earliest, placed_made, placed_not, taken_back, tried_bad, tried_not}
 use Rattle.tree_histories.proofs.position.Position.+exploring.Goals as goal
 use Rattle.tree_histories.proofs.position.Position.+exploring.Goals.{explore-else-due-first-via-then-due-first+in_ok-explore_call-2+else-branch-2, explore-else-due-first-via-else-due-first, explore-then-id-first+then-id-due+in_ok-explore_call-3+else-branch-3, explore-else-id-first, explore-else-id-first-via-then-id-first+else-id-due, explore-else-id-first-via-else-id-first, explore_numbers-then-new-preferred+in_ok-explore_step-2+in_default-2, explore_numbers-else-new-preferred}
 

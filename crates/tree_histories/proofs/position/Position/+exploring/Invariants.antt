@@ -1,5 +1,4 @@
-use Rattle.std.proofs.Common.{◌<◌, ◌≤◌, ℕ, ◌+◌, ◌*◌}
-use Rattle.tree_histories.specs.Searching.{IsDead, IsDeadWith, IsKept, steps_left}
+use Rattle.tree_histories.proofs.Lemmas.{◌<◌, ◌≤◌, ℕ, ◌+◌, ◌*◌, IsDead, IsDeadWith, IsKept, steps_left}
 use Rattle.tree_histories.proofs.position.Position.+exploring.Given as goal
 
 abbrev pub decreases-explore : goal.decreases-explore

@@ -1,7 +1,4 @@
-use Rattle.std.proofs.Common.{sym, subst}
-use Rattle.tree_histories.specs.declared.position.Position.{Position}
-use Rattle.tree_histories.specs.Searching.{IsAt}
-use Rattle.tree_histories.proofs.ExploreLemmas.{placed_at_all}
+use Rattle.tree_histories.proofs.Lemmas.{sym, subst, Position, IsAt, placed_at_all}
 use Rattle.tree_histories.proofs.position.Position.append.Goals as goal
 use Rattle.tree_histories.proofs.position.Position.append.Goals.{then-awaits+in_ok-place, else-awaits}
 

@@ -1,4 +1,4 @@
-use Rattle.tree_histories.specs.Searching.{IsAt}
+use Rattle.tree_histories.proofs.Lemmas.{IsAt}
 use Rattle.tree_histories.proofs.position.Position.append.Given as goal
 
 abbrev pub invariant-loop-hint : goal.invariant-loop-hint

@@ -1,8 +1,4 @@
-use Rattle.std.proofs.Common.{◌≡◌, ◌+◌, ◌≤◌, length, refl, sym, ◌∙◌, ap, subst, arith, get_or, Some}
-use Rattle.std.specs.List.{slice_get}
-use Rattle.std.proofs.lemmas.List.{length_push}
-use Rattle.tree_histories.specs.Stands.{start}
-use Rattle.tree_histories.proofs.PlaceLemmas.{EndsAt, begin_at, ends_push, got, start_push}
+use Rattle.tree_histories.proofs.Lemmas.{◌≡◌, ◌+◌, ◌≤◌, length, refl, sym, ◌∙◌, ap, subst, arith, get_or, Some, slice_get, length_push, start, EndsAt, begin_at, ends_push, got, start_push}
 use Rattle.tree_histories.proofs.position.Position.begin.Goals as goal
 
 pub loop-traced-preserved : goal.loop-traced-preserved

@@ -1,9 +1,4 @@
-use Rattle.std.proofs.Common.{◌≡◌, ◌<◌, ℕ, length, get_or, Some, None}
-use Rattle.std.specs.List.{slice_get}
-use Rattle.plain_tree.specs.declared.trace.TracedCall.{TracedCall}
-use Rattle.plain_tree.specs.Steps.{is_nothing}
-use Rattle.tree_histories.specs.Stands.{next_from, start}
-use Rattle.tree_histories.specs.Searching.{end_of}
+use Rattle.tree_histories.proofs.Lemmas.{◌≡◌, ◌<◌, ℕ, length, get_or, Some, None, slice_get, TracedCall, is_nothing, next_from, start, end_of}
 use Rattle.tree_histories.proofs.position.Position.begin.Given as goal
 
 abbrev pub invariant-loop-traced : goal.invariant-loop-traced

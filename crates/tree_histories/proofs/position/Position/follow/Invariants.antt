@@ -1,4 +1,4 @@
-use Rattle.tree_histories.specs.Searching.{IsAt, steps_left}
+use Rattle.tree_histories.proofs.Lemmas.{IsAt, steps_left}
 use Rattle.tree_histories.proofs.position.Position.follow.Given as goal
 
 abbrev pub invariant-loop-due : goal.invariant-loop-due

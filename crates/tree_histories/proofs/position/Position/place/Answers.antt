@@ -1,16 +1,4 @@
-use Rattle.std.proofs.Common.{◌≡◌, ◌<◌, ℕ, length, refl, sym, ◌∙◌, ap, subst, arith, get_or, max}
-use Rattle.std.proofs.lemmas.Option.{slice_get_within}
-use Rattle.plain_tree.specs.TreeData.{TreeData}
-use Rattle.plain_tree.specs.Tree.{tree_of}
-use Rattle.plain_tree.specs.Applied.{IsRefused}
-use Rattle.plain_tree.specs.declared.refused.ApplyRefused.{ApplyRefused}
-use Rattle.plain_tree.specs.Explains.{Chain}
-use Rattle.plain_tree.specs.Steps.{is_nothing}
-use Rattle.tree_histories.specs.declared.stand.Stand.{Stand}
-use Rattle.tree_histories.specs.Stands.{after, next_from, start}
-use Rattle.tree_histories.specs.Searching.{Fits, IsTimely, end_of, last_event}
-use Rattle.tree_histories.proofs.PositionLemmas.{bad_dead, bad_numbers, no_call, no_fit, no_next, no_place, not_timely}
-use Rattle.tree_histories.proofs.PlaceLemmas.{between, end_still, gone, got, placed, read_at, retree, same_kept}
+use Rattle.tree_histories.proofs.Lemmas.{◌≡◌, ◌<◌, ℕ, length, refl, sym, ◌∙◌, ap, subst, arith, get_or, max, slice_get_within, TreeData, tree_of, IsRefused, ApplyRefused, Chain, is_nothing, Stand, after, next_from, start, Fits, IsTimely, end_of, last_event, bad_dead, bad_numbers, no_call, no_fit, no_next, no_place, not_timely, between, end_still, gone, got, placed, read_at, retree, same_kept}
 use Rattle.tree_histories.proofs.position.Position.place.Goals as goal
 
 pub returns-in_default : goal.returns-in_default

@@ -1,4 +1,4 @@
-use Rattle.tree_histories.proofs.ExploreLemmas.{due_on, stepped_not}
+use Rattle.tree_histories.proofs.Lemmas.{due_on, stepped_not}
 use Rattle.tree_histories.proofs.position.Position.step_on.Goals as goal
 
 pub step_on_call-requires-2-clause-due : goal.step_on_call-requires-2-clause-due

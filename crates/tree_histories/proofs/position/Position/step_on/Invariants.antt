@@ -1,4 +1,4 @@
-use Rattle.tree_histories.specs.Searching.{IsKept}
+use Rattle.tree_histories.proofs.Lemmas.{IsKept}
 use Rattle.tree_histories.proofs.position.Position.step_on.Given as goal
 
 abbrev pub invariant-loop-id : goal.invariant-loop-id

@@ -1,4 +1,4 @@
-use Rattle.tree_histories.proofs.ExploreLemmas.{due_on, placed_bad}
+use Rattle.tree_histories.proofs.Lemmas.{due_on, placed_bad}
 use Rattle.tree_histories.proofs.position.Position.step_on_call.Goals as goal
 
 pub step_on_numbers-requires-clause-due : goal.step_on_numbers-requires-clause-due

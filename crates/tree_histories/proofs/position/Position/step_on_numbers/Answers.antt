@@ -1,4 +1,4 @@
-use Rattle.tree_histories.proofs.ExploreLemmas.{due_on}
+use Rattle.tree_histories.proofs.Lemmas.{due_on}
 use Rattle.tree_histories.proofs.position.Position.step_on_numbers.Goals as goal
 
 pub place-requires-clause-limit : goal.place-requires-clause-limit

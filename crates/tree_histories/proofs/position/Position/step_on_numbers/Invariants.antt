@@ -1,4 +1,4 @@
-use Rattle.tree_histories.specs.Searching.{IsKept}
+use Rattle.tree_histories.proofs.Lemmas.{IsKept}
 use Rattle.tree_histories.proofs.position.Position.step_on_numbers.Given as goal
 
 abbrev pub invariant-loop-number : goal.invariant-loop-number

@@ -1,9 +1,4 @@
-use Rattle.std.proofs.Common.{refl, sym, ◌∙◌, ap, subst}
-use Rattle.plain_tree.specs.Tree.{tree_of}
-use Rattle.plain_tree.specs.Checked.{Leads}
-use Rattle.plain_tree.specs.Explains.{Chain, acts_of}
-use Rattle.tree_histories.specs.Stands.{stand_of}
-use Rattle.tree_histories.proofs.PlaceLemmas.{got, leads_front, snoc_front, undone}
+use Rattle.tree_histories.proofs.Lemmas.{refl, sym, ◌∙◌, ap, subst, tree_of, Leads, Chain, acts_of, stand_of, got, leads_front, snoc_front, undone}
 use Rattle.tree_histories.proofs.position.Position.undo.Goals as goal
 
 pub tree_after-requires : goal.tree_after-requires

@@ -1,7 +1,4 @@
-use Rattle.std.proofs.Common.{ℕ, List, ap, subst}
-use Rattle.whole_calls.specs.Wholes.{WholeAsks, WholeFits}
-use Rattle.whole_calls.specs.declared.whole.Whole.{Whole}
-use Rattle.tree_histories.specs.Keeping.{Under}
+use Rattle.tree_histories.proofs.Lemmas.{ℕ, List, ap, subst, WholeAsks, WholeFits, Whole, Under}
 use Rattle.tree_histories.proofs.standing.Standing.ask.Goals as goal
 
 pub returns-clause-named : goal.returns-clause-named

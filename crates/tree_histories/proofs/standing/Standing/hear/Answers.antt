@@ -1,10 +1,4 @@
-use Rattle.std.proofs.Common.{None, ap, inr, subst, ◌∙◌}
-use Rattle.plain_tree.specs.declared.answer.Reply.{Reply}
-use Rattle.plain_tree.specs.declared.call.Call.{Call}
-use Rattle.atomic_programs.specs.Prog.{Ret}
-use Rattle.inode_machine.specs.Parts.{P}
-use Rattle.path_walk.specs.Asks.{reply_to}
-use Rattle.tree_histories.specs.Keeping.{HearsSo, Under}
+use Rattle.tree_histories.proofs.Lemmas.{None, ap, inr, subst, ◌∙◌, Reply, Call, Ret, P, reply_to, HearsSo, Under}
 use Rattle.tree_histories.proofs.standing.Standing.hear.Goals as goal
 
 pub returns-then-next : goal.returns-then-next

@@ -1,5 +1,5 @@
 use Rattle.plain_tree.specs.declared.step.Action.TheVariants as steps
-use Rattle.whole_calls.specs.Closes.{left}
+use Rattle.whole_calls.proofs.Lemmas.{left}
 use Rattle.whole_calls.proofs.close.Close.mark.Goals as goal
 
 pub returns-in-Drops : goal.returns-in-Drops

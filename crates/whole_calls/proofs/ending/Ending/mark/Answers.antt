@@ -1,5 +1,4 @@
-use Rattle.inode_machine.specs.Parts.{free_all, give_up, say, tail}
-use Rattle.path_walk.specs.Asks.{reply_to}
+use Rattle.whole_calls.proofs.Lemmas.{free_all, give_up, say, tail, reply_to}
 use Rattle.whole_calls.proofs.ending.Ending.mark.Goals as goal
 
 pub returns-in-Frees : goal.returns-in-Frees

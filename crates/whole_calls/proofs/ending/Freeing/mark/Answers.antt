@@ -1,5 +1,4 @@
-use Rattle.atomic_programs.specs.Prog.{Do, unmarked}
-use Rattle.inode_machine.specs.World.Op.{Leave}
+use Rattle.whole_calls.proofs.Lemmas.{Do, unmarked, Leave}
 use Rattle.whole_calls.proofs.ending.Freeing.mark.Goals as goal
 
 pub returns-in-Frees : goal.returns-in-Frees

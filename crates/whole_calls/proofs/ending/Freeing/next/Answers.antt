@@ -1,4 +1,4 @@
-use Rattle.std.proofs.Common.{refl}
+use Rattle.whole_calls.proofs.Lemmas.{refl}
 use Rattle.whole_calls.proofs.ending.Freeing.next.Goals as goal
 
 pub returns-in-Join : goal.returns-in-Join

@@ -1,15 +1,7 @@
-use Rattle.std.proofs.Common.{◌≡◌, ℕ, ◌+◌, ◌++◌, List, length, Some, refl, sym, subst, ap, ◌∙◌, arith}
-use Rattle.std.specs.Prelude.{◌<◌, ◌^◌}
-use Rattle.plain_tree.specs.Tree.{Name}
+use Rattle.whole_calls.proofs.Lemmas.{◌≡◌, ℕ, ◌+◌, ◌++◌, List, length, Some, refl, sym, subst, ap, ◌∙◌, arith, ◌<◌, ◌^◌, Name, AtName, Enter, Take, name_in, shifted, IsElement, IsInOne, new_after, old_after, Element, element_shifted, name_shifted, named_front, op_front, shifted_in_one}
 use Rattle.plain_tree.specs.declared.step.Action.TheVariants as steps
-use Rattle.inode_machine.specs.Inodes.{AtName}
 use Rattle.inode_machine.specs.World as world
-use Rattle.inode_machine.specs.World.Op.{Enter, Take}
-use Rattle.path_walk.specs.Elements.{name_in, shifted, IsElement, IsInOne}
-use Rattle.whole_calls.specs.Links.{new_after, old_after}
-use Rattle.path_walk.specs.declared.elements.Element.{Element}
 use Rattle.path_walk.specs.declared.walk.Goal.TheVariants as goals
-use Rattle.whole_calls.proofs.Shifted.{element_shifted, name_shifted, named_front, op_front, shifted_in_one}
 use Rattle.whole_calls.proofs.link.Link.ask.Goals as goal
 
 -- an element of the new path, behind the old one

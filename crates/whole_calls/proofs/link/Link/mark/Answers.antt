@@ -1,8 +1,6 @@
 use Rattle.plain_tree.specs.declared.call.Call.TheVariants as calls
 use Rattle.plain_tree.specs.declared.step.Action.TheVariants as steps
-use Rattle.path_walk.specs.Asks.{reply_to}
-use Rattle.inode_machine.specs.Naming.{lower}
-use Rattle.inode_machine.specs.Parts.{drop, tail, done}
+use Rattle.whole_calls.proofs.Lemmas.{reply_to, lower, drop, tail, done}
 use Rattle.whole_calls.proofs.link.Link.mark.Goals as goal
 
 pub returns-in-GiveNamed : goal.returns-in-GiveNamed

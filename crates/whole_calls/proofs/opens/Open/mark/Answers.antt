@@ -1,7 +1,6 @@
 use Rattle.plain_tree.specs.declared.call.Call.TheVariants as calls
 use Rattle.plain_tree.specs.declared.step.Action.TheVariants as steps
-use Rattle.path_walk.specs.Asks.{sort_of}
-use Rattle.inode_machine.specs.Opening.{open_at, open_made}
+use Rattle.whole_calls.proofs.Lemmas.{sort_of, open_at, open_made}
 use Rattle.whole_calls.proofs.opens.Open.mark.Goals as goal
 
 pub returns-in-GiveParent : goal.returns-in-GiveParent

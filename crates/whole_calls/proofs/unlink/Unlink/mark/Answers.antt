@@ -1,7 +1,6 @@
 use Rattle.plain_tree.specs.declared.call.Call.TheVariants as calls
 use Rattle.plain_tree.specs.declared.step.Action.TheVariants as steps
-use Rattle.path_walk.specs.Asks.{face_of}
-use Rattle.whole_calls.specs.Calls.{gave_parent}
+use Rattle.whole_calls.proofs.Lemmas.{face_of, gave_parent}
 use Rattle.whole_calls.proofs.unlink.Unlink.mark.Goals as goal
 
 pub returns-in-GiveParent : goal.returns-in-GiveParent

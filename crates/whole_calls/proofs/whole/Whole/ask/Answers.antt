@@ -1,10 +1,4 @@
-use Rattle.std.proofs.Common.{ℕ, List, sym, subst}
-use Rattle.path_walk.specs.Asks.{IsNamed, IsNamedInTwo}
-use Rattle.whole_calls.specs.Calls.{Fits, chdir_stage, unlink_stage}
-use Rattle.whole_calls.specs.Links.{LinkFits, link_stage}
-use Rattle.whole_calls.specs.Makes.{mkdir_stage}
-use Rattle.whole_calls.specs.Opens.{open_stage}
-use Rattle.whole_calls.specs.Reads.{ReadAsks}
+use Rattle.whole_calls.proofs.Lemmas.{ℕ, List, sym, subst, IsNamed, IsNamedInTwo, Fits, chdir_stage, unlink_stage, LinkFits, link_stage, mkdir_stage, open_stage, ReadAsks}
 use Rattle.whole_calls.proofs.whole.Whole.ask.Goals as goal
 
 pub returns-in-Open-clause-named : goal.returns-in-Open-clause-named

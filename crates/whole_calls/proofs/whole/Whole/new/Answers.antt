@@ -1,5 +1,4 @@
-use Rattle.std.proofs.Common.{ℕ, List, length, sym, subst}
-use Rattle.std.specs.Prelude.{◌<◌, ◌^◌}
+use Rattle.whole_calls.proofs.Lemmas.{ℕ, List, length, sym, subst, ◌<◌, ◌^◌}
 use Rattle.whole_calls.proofs.whole.Whole.new.Goals as goal
 
 pub returns-in-Read-clause-fits : goal.returns-in-Read-clause-fits

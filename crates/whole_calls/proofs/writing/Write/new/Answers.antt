@@ -1,5 +1,4 @@
-use Rattle.std.proofs.Common.{arith}
-use Rattle.whole_calls.proofs.Writes.{begins_is}
+use Rattle.whole_calls.proofs.Lemmas.{arith, begins_is}
 use Rattle.whole_calls.proofs.writing.Write.new.Goals as goal
 
 pub returns-else-is_empty-clause-program : goal.returns-else-is_empty-clause-program

@@ -1,0 +1,26 @@
+-- What the crates below call things: the words that this crate's definitions and contracts use.
+pub use Rattle.inodes_on_blocks.specs.Vocabulary.{Answer, Both, Commit, Did, Do, Halted, IsGoodSuper, IsNamedPart, IsPlaced, IsWellFormed, LogPart, Lower, Op, Open, Outside, Phase, Ran, Ret, SeatState, Stops, Super, TablesState, Tree, UpToLog, descriptor_count, file_named, hart_count, is_at, joined_count as joined, tree_in, tree_of}
+unfoldable pub use Rattle.inodes_on_blocks.specs.Vocabulary.{any_below, put, sizes_of}
+pub use Rattle.inode_machine.specs.Vocabulary.{AllHonest, Began, Begins, Call, Chdir, Close, DidEnd, Dup, Event, Fstat, Inherit, Lawful, Link, Mkdir, Open as OpenCall, Placed, Read, Refuses, Reply, Run, Start, State, Step, Theory, Unlink, Write, fresh, makes, next, run}
+unfoldable pub use Rattle.inode_machine.specs.Vocabulary.{Chain}
+pub use Rattle.fs_machine.specs.Vocabulary.{Installing, Progress, Staging, did_in}
+pub use Rattle.group_log.specs.Stories.{IsMarked, after_leave, after_write, no_marks}
+pub use Rattle.group_log.specs.declared.marks.Marks.{Marks}
+pub use Rattle.inode_machine.specs.MoveCalls.{Alone, HasOneHistory, MoveMachine, NoneClimbs}
+pub use Rattle.inodes_on_blocks.specs.Mounted.{IsMountable, first_world, mounted}
+pub use Rattle.atomic_programs.specs.Logic.{P}
+pub use Rattle.atomic_programs.specs.Lowered.{Part, Starts, code_part, lowered_calls}
+pub use Rattle.atomic_programs.specs.Plain.{Code, IsCode}
+pub use Rattle.atomic_programs.specs.Prog.{or_else}
+pub use Rattle.fs_machine.specs.LogPart.{is_open}
+pub use Rattle.fs_machine.specs.Steps.{Leave}
+unfoldable pub use Rattle.fs_machine.specs.Steps.{exec}
+pub use Rattle.fs_machine.specs.declared.kind.Kind.{Kind}
+pub use Rattle.group_log.specs.Phases.{is_point}
+pub use Rattle.group_log.specs.Soundness.{IsSoundLog}
+pub use Rattle.group_log.specs.declared.commit.Progress.TheVariants.{Ended, Failed, Wrote}
+pub use Rattle.inode_machine.specs.Theory.{Busy, NoSuchHart, NotCovered, NotEmptyHart, PathTooLong, Refusal, ZeroInPath, are_bytes, asks_wrong, calls_that, has_zero, is_covered, path_limit}
+pub use Rattle.inodes_on_blocks.specs.Below.{World as Blocks, exec as exec_blocks}
+pub use Rattle.inodes_on_blocks.specs.Lowering.{below}
+pub use Rattle.inodes_on_blocks.specs.Programs.{handlers}
+pub use Rattle.tree_laws.specs.MoveLaws.{before}

@@ -1,0 +1,32 @@
+-- What this crate's proofs speak of: its own definitions, and what the crates below and the library call things.
+pub use Rattle.inode_data.proofs.Vocabulary.{Address, Bool, Dinode, Direct, Do, FetchedBlock, Get, Hand, HasOne, InTable, List, None, Option, Oracle, P, Ret, Some, [], address, ap, append_assoc, arith, bind, block_left, cases_eq, cases_lt, drop, drop-drop, drop_at, fetch, fetch_at, fetch_block, fetch_named, fetch_number, first, get_or, get_or-drop, give_fetched, length, length-append, length-take, ne_eqb, numbers_in, option_map, outcome, read_unless, refl, slice_index, store_has, store_left, subst, suc, sym, table_of, take, write_left, zero, ℕ, ⊎_elim, ◌%◌, ◌*◌, ◌++◌, ◌+◌, ◌-◌, ◌/◌, ◌<◌, ◌==◌, ◌∙◌, ◌∷◌, ◌≡◌, ◌≢◌, ◌≤◌}
+pub use Rattle.fs_layout.proofs.Vocabulary.{Dirent, Free, IsBytes, Used, and_parts, dirent_at, dirent_of, drop-take, eq-eqb, eqb, eqb-false, eqb-true, false, free_of, is_name, is_zero, length-drop, length-replicate, length-take-le, list_all, little_from-take, little_number, name_of, nat_le, not, position_or_len, record_at, replicate, spell_dirent, true, used_of, ◌&&◌}
+unfoldable pub use Rattle.fs_layout.proofs.Vocabulary.{u16_at, u16_bytes}
+pub use Rattle.directory.specs.Vocabulary.{IsName, first_below, recorded}
+pub use Rattle.directory.specs.Programs.{Aim, Entry, Named, Unused, block_count, first_in, found_at, look_at, or_next, slot_count, slots_in}
+unfoldable pub use Rattle.directory.specs.Programs.{found_in, search_from, with_dirent}
+pub use Rattle.directory.specs.Slots.{is_free, is_named, is_used}
+unfoldable pub use Rattle.directory.specs.Slots.{field_of, first_free, first_named, first_used, has_words, is_clear, u64_at}
+pub use Rattle.directory.specs.Laws.{FindsNothingInTheDead, FindsTheFirst, IsFirst, PutsOneEntry, Shows, is_sought, number_of, slot_at}
+pub use Rattle.fs_layout.proofs.Branches.{which_branch}
+pub use Rattle.fs_layout.proofs.Entries.{dirent_of-spell, name_parts, number-part, others_stay, reads_back, spell-dirent_of}
+pub use Rattle.std.proofs.lemmas.Bool.{and_from, and_left, and_right, le-leb, lt-leb, not-true}
+pub use Rattle.std.proofs.lemmas.Bool.Decides.{same_from_decides}
+pub use Rattle.bitmap_alloc.proofs.First.{FirstIs, first_is, none_below, this_below}
+pub use Rattle.bitmap_alloc.specs.Laws.{recording}
+pub use Rattle.byteorder.specs.Endian.{little_bytes, little_from}
+pub use Rattle.directory.specs.Clearing.{clear_left}
+pub use Rattle.directory.specs.EnterParts.{enter_left}
+pub use Rattle.directory.specs.Filling.{fill_left}
+pub use Rattle.directory.specs.Searching.{search_left}
+pub use Rattle.directory.specs.declared.clear.Clear.{Clear}
+pub use Rattle.directory.specs.declared.enter.Enter.{Enter}
+pub use Rattle.directory.specs.declared.fill.Fill.{Fill}
+pub use Rattle.directory.specs.declared.found.Found.{Found}
+pub use Rattle.directory.specs.declared.search.Search.{Search}
+pub use Rattle.fs_layout.proofs.Numbers.{length-u16_bytes, u16_at-lt, u16_bytes-at}
+pub use Rattle.inode_data.proofs.HasOnes.{block_has, write_has}
+pub use Rattle.std.proofs.Common.{zero-add}
+pub use Rattle.std.proofs.lemmas.Grind.{same_number_lists}
+pub use Rattle.std.proofs.lemmas.List.{drop-replicate, get_or-append_right, get_or-replicate, get_or-take, get_or_append_left, get_or_past}
+pub use Rattle.std.proofs.lemmas.Slice.Eq.{bytes_eq-Decides}

@@ -1,0 +1,15 @@
+-- What this crate's proofs speak of: its own definitions, and what the crates below and the library call things.
+pub use Rattle.hart_core.proofs.Vocabulary.{All, All-cons, All-nil, Came, DeviceFault, Event, Explains, IsWellFormed, List, MountFault, Placed, Rests, Trace, TracedCall, TreeData, WorldOf, [], call_climbs, false, inl, inr, subst, trace_in, tree_in, ℕ, ◌∙◌, ◌∷◌, ◌≡◌}
+unfoldable pub use Rattle.hart_core.proofs.Vocabulary.{sizes_of}
+pub use Rattle.explain.specs.Vocabulary.{Global, any_climbs}
+unfoldable pub use Rattle.explain.specs.Vocabulary.{blocks_of}
+pub use Rattle.image_tree.proofs.Vocabulary.{Err, Ok, Result, Vec}
+pub use Rattle.explain.specs.Explained.{ExplainsRun, IsFoundFor, IsRefusedFor, IsRefusedMount, IsRefusedSo, RunOn, StartsOn, never, refused_by}
+pub use Rattle.explain.specs.Played.{IsPlayed}
+pub use Rattle.explain.specs.declared.play.Played.{Played}
+pub use Rattle.explain.specs.declared.refused.ExplainRefused.{ExplainRefused}
+pub use Rattle.hart_core.proofs.Histories.{explained}
+pub use Rattle.image_tree.specs.Damage.{JudgesFault}
+pub use Rattle.image_tree.specs.declared.fault.MountFault.TheVariants.{Damaged, NoMemory}
+pub use Rattle.std.proofs.Common.{MatchResult}
+pub use Rattle.std.proofs.lemmas.Bool.{or_parts}

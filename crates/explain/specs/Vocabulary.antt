@@ -1,0 +1,13 @@
+-- What the crates below call things: the words that this crate's definitions and contracts use.
+pub use Rattle.hart_core.specs.Vocabulary.{Call, EventOf, Explains, IsWellFormed, MountFault, Outside, Placed, Trace, TreeData, fault_count_of, tree_in}
+unfoldable pub use Rattle.block_device.specs.Blocks.{blocks_of}
+pub use Rattle.hart_core.specs.Runs.{FoundRoom, HasHistory, IsHistory, IsMounted, trace_in}
+pub use Rattle.hart_core.specs.declared.events.Event.{Event}
+pub use Rattle.std.specs.declared.alloc.Global.{Global}
+pub use Rattle.hart_core.specs.Harts.{HartsOf}
+pub use Rattle.hart_core.specs.Worlds.{WorldOf}
+pub use Rattle.hart_core.specs.declared.events.Came.{Came}
+pub use Rattle.image_tree.specs.Damage.{IsFirstDamage}
+pub use Rattle.image_tree.specs.Faults.{damage_name, damage_number}
+pub use Rattle.plain_tree.specs.declared.refused.NoMemory.{NoMemory}
+pub use Rattle.tree_histories.specs.Told.{any_climbs, any_full}

@@ -1,0 +1,39 @@
+-- What the crates below call things: the words that this crate's definitions and contracts use.
+pub use Rattle.calls_on_blocks.specs.Vocabulary.{Answer, Begins, Call, Chdir, Close, Code, DidEnd, Dup, Event as EventOf, Fstat, Inherit, IsMountable, IsNamedPart, IsPlaced, IsWellFormed, Kind, Link, LogPart, Marks, Mkdir, Op, Open, OpenCall, Outside, Placed, Read, Refusal, Reply, Start as StartOf, Step as StepOf, Super, Theory, Tree, Unlink, Write, are_bytes, before, fresh, is_open, joined, no_marks, or_else, run, tree_in, tree_of}
+unfoldable pub use Rattle.calls_on_blocks.specs.Vocabulary.{Chain, exec, sizes_of}
+pub use Rattle.inodes_on_blocks.specs.Vocabulary.{HasBytes, HasWholeBlocks, IsOutsideLog, Machine, State, block_at, buffer_count, count_of, holder_of as buffer_holder, is_held_by, is_marked, lock_holder as holder_of, seen_of}
+unfoldable pub use Rattle.inodes_on_blocks.specs.Vocabulary.{May, MayWait, logged, numbers_by, recovered, unused_from}
+pub use Rattle.tree_laws.specs.Vocabulary.{Explains, Other, Replied, Shown, Started, Trace, TreeData, call_climbs, noted, trace_of}
+unfoldable pub use Rattle.tree_laws.specs.Vocabulary.{acts_of}
+pub use Rattle.syscalls.specs.Vocabulary.{CallsOnce, Core, LeavesTied, P, state_of}
+pub use Rattle.fs_machine.specs.Vocabulary.{hart_count, list_any, turn_is_out}
+pub use Rattle.atomic_programs.specs.Calls.{DidRun, DidStop, DidWait, Outcome as OutcomeOf, Refused as WasRefused, Started as WasStarted, WasIdle, WasStopped, all_asked, with_answer}
+pub use Rattle.atomic_programs.specs.Plain.{MayOf, Plain, PlainHonest, PlainHonestStep, hart_step, plain_makes, plain_outcomes, plain_run}
+pub use Rattle.calls_on_blocks.specs.Theory.{block_calls, block_code, child_of, has_file, reserved}
+pub use Rattle.plain_tree.specs.declared.trace.TracedCall.{TracedCall}
+pub use Rattle.syscalls.specs.Machines.{Running, RunningFits}
+unfoldable pub use Rattle.syscalls.specs.Machines.{running_of}
+pub use Rattle.atomic_programs.specs.Tables.{PlaceFits, plain_at}
+pub use Rattle.calls_on_blocks.specs.History.{first}
+pub use Rattle.calls_on_blocks.specs.Marks.{at_point, marks_told}
+pub use Rattle.fs_machine.specs.LogPart.{Fails, Passes}
+pub use Rattle.atomic_programs.specs.Machines.{program_at}
+pub use Rattle.atomic_programs.specs.Shown.{CameTo}
+pub use Rattle.block_device.specs.Calls.{ComesByCalls}
+pub use Rattle.calls_on_blocks.specs.Stops.{marks_at}
+pub use Rattle.fs_machine.specs.Premises.{IsElsewhere, JoinWaits}
+unfoldable pub use Rattle.fs_machine.specs.Premises.{Honest}
+pub use Rattle.fs_machine.specs.Steps.{kind_of}
+pub use Rattle.image_tree.specs.Damage.{JudgesFault, fault_count_of, faults_with}
+pub use Rattle.image_tree.specs.Freeing.{AreNamed}
+pub use Rattle.image_tree.specs.Shape.{is_orphan}
+pub use Rattle.image_tree.specs.declared.fault.MountFault.{MountFault}
+pub use Rattle.image_tree.specs.declared.fault.MountFault.TheVariants.{DeviceFault}
+pub use Rattle.inode_parts.specs.Sizes.{IsSized}
+pub use Rattle.inodes_on_blocks.specs.Below.{disk_of}
+pub use Rattle.inodes_on_blocks.specs.OnBlocks.{is_joined}
+pub use Rattle.inodes_on_blocks.specs.Seen.{IsRecoveredSo}
+pub use Rattle.plain_tree.specs.Explains.{ends_at}
+pub use Rattle.plain_tree.specs.Steps.{is_nothing}
+pub use Rattle.std.specs.Option.{is_some}
+pub use Rattle.std.specs.Vec.{vec_capacity}

@@ -1,0 +1,6 @@
+-- What the crates below call things: the words that this crate's definitions and contracts use.
+pub use Rattle.syscalls.specs.Vocabulary.{Call, Reply}
+pub use Rattle.locked_world.specs.Kept.{StoredRun, replies_of}
+pub use Rattle.locked_world.specs.declared.locked.Receipt.{Receipt}
+pub use Rattle.locked_world.specs.HandedBack.{HandsBack}
+pub use Rattle.locked_world.specs.declared.locked.Told.{Told}

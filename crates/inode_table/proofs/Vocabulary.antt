@@ -1,0 +1,21 @@
+-- What this crate's proofs speak of: its own definitions, and what the crates below and the library call things.
+pub use Rattle.fs_machine.proofs.Vocabulary.{Dinode, GuardState, Hand, Inode, IsSome, MatchOption, None, One, Option, P, Seat, Some, Two, ap, arith, false, fetch_left, inode_in, is_some, no_inode, option_map, option_map_or, refl, ℕ, ◌∙◌, ◌≡◌}
+pub use Rattle.fs_layout.proofs.Vocabulary.{dinode_of, spell_dinode, ◌*◌}
+pub use Rattle.fs_layout.proofs.Inodes.{dinode_of-spell, length-spell_dinode}
+pub use Rattle.fs_layout.proofs.Overwrites.{part-overwrite, record_at-overwrite}
+pub use Rattle.fs_machine.proofs.HasOnes.{HasOne, fetch_has, first}
+pub use Rattle.fs_machine.specs.Hands.{recorded, with_record}
+pub use Rattle.inode_table.specs.HeldInodes.{IsLoadedAt}
+pub use Rattle.inode_table.specs.Laws.{StoresOneInode}
+pub use Rattle.inode_table.specs.Loading.{load_left}
+pub use Rattle.inode_table.specs.LockingInodes.{lock_left}
+pub use Rattle.inode_table.specs.Making.{new_left}
+pub use Rattle.inode_table.specs.Programs.{load, load_unless, place_of}
+unfoldable pub use Rattle.inode_table.specs.Programs.{with_dinode}
+pub use Rattle.inode_table.specs.Storing.{store_left}
+pub use Rattle.inode_table.specs.StoringRecords.{record_left}
+pub use Rattle.inode_table.specs.declared.load_inode.LoadInode.{LoadInode}
+pub use Rattle.inode_table.specs.declared.lock_inode.LockInode.{LockInode}
+pub use Rattle.inode_table.specs.declared.new_inode.NewInode.{NewInode}
+pub use Rattle.inode_table.specs.declared.store_inode.StoreInode.{StoreInode}
+pub use Rattle.inode_table.specs.declared.store_record.StoreRecord.{StoreRecord}

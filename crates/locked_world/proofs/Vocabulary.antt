@@ -1,0 +1,36 @@
+-- What this crate's proofs speak of: its own definitions, and what the crates below and the library call things.
+pub use Rattle.calls_on_blocks.proofs.Vocabulary.{ActOf, Action, Answer, Began, Begins, Bool, Call, Cause, Did, DidEnd, Dinode, Do, Event as EventOf, Face, Fails, Get, Got, Halted, Handlers, Installing, IsOutsideLog, IsWholeLog, JoinResult, Joined, Kind, Lent, List, LoanResult, LockResult, LocksIt, LogPart, Moved, Name, NoEntry, NoMemory, None, NotJoined, NotLocked, NotThere, Op, Open, Option, Other, Outside, P as Above, PartOf, Passes, Phase, Ran, Refusal, Refuses, Replied, Reply, Ret, SeatState, SharedState, Short, Shown, Shows, Some, Sort, Staging, Start, Started as IsBegun, Step, Stops, Store, Super, Theory, Waits, Whole, WriteResult as Wrote, [], ap, append_assoc, arith, begin_in, block_at, block_calls, block_code, child_of, creates, descriptor_count, did_in, done, dot, dotdot, elements, face_or, failed, false, first, free_all, fresh as fresh_state, get_or, give_up, got_by, handlers, if◌then◌else◌, in_log, inl, inr, inv_of, is_directory_face, is_directory_sort, is_live_face, layer, leave_directory, length, length-set, machine, map, mounts_show_their_trees, nat_lt, nat_tests, own_step, program, read_block, read_on, read_reply, refl, say, see_parent, served_calls, slice_set, sound_fresh, sound_keeps, start, start_on, stopped, subst, suc, sym, tail, take, take_more, true, unmarked, walk, walk_parent, walk_step, with_last, zero, ℕ, ◌++◌, ◌+◌, ◌-◌, ◌/◌, ◌<◌, ◌==◌, ◌||◌, ◌∙◌, ◌∷◌, ◌≡◌, ◌≢◌, ◌≤◌}
+unfoldable pub use Rattle.calls_on_blocks.proofs.Vocabulary.{May, exec, get_of, put, same_name, sizes_of}
+pub use Rattle.inodes_on_blocks.proofs.Vocabulary.{Address, BlockInHand as FetchedBlock, Carry, Direct, FilledMemory, GetLaws, Handover, IfSome, InTable, LockedState, Locks, Lower, Machine, Mark, Prog, State, address, bind, block_len, blocks_between, drop, end_of, fetch, fetch_at, fetch_block, fetch_named, fetch_number, file_locked, filled_with, get_laws, get_or_past, give_fetched, give_read, kept, length-append, length-take, load_unless, next_block, overwrite, part_of, read_file, read_from, read_part, read_unless, record_in, replicate, seen_of, slice_get_past, table_of, take-append-drop, unwrap_or, ◌%◌}
+unfoldable pub use Rattle.inodes_on_blocks.proofs.Vocabulary.{read_blocks}
+pub use Rattle.hart_core.proofs.Vocabulary.{AllAnswer, Answers, Came, Chdir, Close, DidRun, DidStop, DidWait, Dup, Event, Fstat, HartsOf, Inherit, IsMounted, Link, Makes, MayOf, Mkdir, Open as OpenCall, Outcome, OutcomeOf, P, Plain, PlainMade, Read, Refused, Rests, Running, SoundPlain, StartRefused, Started, Unlink, WasIdle, WasStopped, WorldOf, Write, all_shown, begun_here, calls_of, came_of, changed, event_of, is_called as is_some, is_code, lawful, nat_eq, outcome_of, plain, plain_begun, plain_makes, plain_moved, plain_prog, plain_run, plain_start, plain_step, plain_tried, plain_unless, program_at, reason_of, shared_of, shown, shown_outcome, sound_may, with_answer}
+unfoldable pub use Rattle.hart_core.proofs.Vocabulary.{running_of}
+pub use Rattle.locked_world.specs.Vocabulary.{CallsOnce, ComesByCalls, Fuse, IsFusedCall, Stop}
+pub use Rattle.fs_layout.proofs.Vocabulary.{get_or-set_other, get_or-set_same, length-drop}
+pub use Rattle.inode_machine.proofs.Vocabulary.{ClaimResult, EntryResult, InPlace, New, NoBlock, NoInode, NoPlace, NoSlot, read_program}
+pub use Rattle.locked_world.specs.HandedBack.{EndsWith, FitsBlock, HandsBack, SpareFits, cleared}
+pub use Rattle.locked_world.specs.Kept.{ComesFromImage, IsKept, IsRunOf, LockedRun, OneListExplains, StoredRun, contents, count_in, counts, device_of, disk_of, failures, opened, replied_by, replies_in, replies_of, shown_in, with_event}
+pub use Rattle.std.proofs.Common.{append-nil, slice_index_or}
+pub use Rattle.atomic_programs.specs.Joined.{lowered}
+pub use Rattle.locked_world.specs.Stories.{IsNoted, answered, came_at, came_noted, each, event_at, event_noted, given_to, is_reply, is_start, noted_events, noted_outcomes, noted_pairs, past, replies, reply_to, starts, takers}
+pub use Rattle.locked_world.specs.declared.note.Given.{Given}
+pub use Rattle.std.proofs.lemmas.Bool.Decides.{eqb_tells}
+pub use Rattle.std.specs.List.{slice_get}
+pub use Rattle.atomic_programs.proofs.Reached.{sound_event}
+pub use Rattle.block_device.specs.Calls.{one_more}
+pub use Rattle.calls_on_blocks.proofs.History.{first_holds, first_idle}
+pub use Rattle.calls_on_blocks.proofs.Starting.{below_count}
+pub use Rattle.calls_on_blocks.specs.Layer.{exec_shared}
+pub use Rattle.group_log.specs.Soundness.{CleanFrom, DiskFits}
+pub use Rattle.hart_core.proofs.Histories.{explained, history_more, no_history, one_each}
+pub use Rattle.hart_core.proofs.Resting.{mountable, rests_erased}
+pub use Rattle.hart_core.proofs.Stepping.{nones}
+pub use Rattle.hart_core.specs.declared.outcome.Outcome.TheVariants.{Stopped}
+pub use Rattle.hart_core.specs.declared.outcome.Stop.TheVariants.{DeviceFault}
+pub use Rattle.inodes_on_blocks.specs.Files.{with_file}
+pub use Rattle.locked_world.specs.Told.{HaltAnswers, IsUnmoved, Steps, halt_for}
+pub use Rattle.locked_world.specs.declared.locked.Halt.{Halt}
+pub use Rattle.locked_world.specs.declared.note.Note.{Note}
+pub use Rattle.locked_world.specs.declared.note.What.{What}
+pub use Rattle.std.proofs.Math.ListN.{length-replicate}
+pub use Rattle.std.proofs.lemmas.Option.{slice_get_cases, slice_get_read}

@@ -1,0 +1,14 @@
+-- What the crates below call things: the words that this crate's definitions and contracts use.
+pub use Rattle.hart_core.specs.Vocabulary.{Answer, Call, CallsOnce, Chdir, Close, ComesByCalls, Dup, Fstat, Inherit, Link, Mkdir, Op, OpenCall as Open, Other, P, Read, Replied, Reply, Shown, StartOf, Started, StepOf, Unlink, Write, tree_in}
+pub use Rattle.inode_table.specs.Vocabulary.{Do, Ret, block_len}
+pub use Rattle.hart_core.specs.declared.events.Came.{Came}
+pub use Rattle.hart_core.specs.declared.events.Event.{Event}
+pub use Rattle.block_device.specs.Fuse.{Fuse, IsFusedCall}
+pub use Rattle.hart_core.specs.Worlds.{Answers as MayAnswer, Makes, WorldOf, calls_of}
+unfoldable pub use Rattle.block_device.specs.Blocks.{blocks_of}
+pub use Rattle.hart_core.specs.Events.{came_of}
+pub use Rattle.hart_core.specs.Harts.{outcome_of, said, shared_of}
+pub use Rattle.hart_core.specs.Runs.{FoundRoom, HasHistory, IsExplained, IsMounted, NoneClimbs, OneHart, all_shown, trace_in}
+pub use Rattle.hart_core.specs.declared.events.Event.TheVariants.{Start, Step}
+pub use Rattle.hart_core.specs.declared.outcome.Outcome.{Outcome}
+pub use Rattle.hart_core.specs.declared.outcome.Stop.{Stop}

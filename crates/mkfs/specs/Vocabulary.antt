@@ -1,0 +1,23 @@
+-- What the crates below call things: the words that this crate's definitions and contracts use.
+pub use Rattle.image_tree.specs.Vocabulary.{Dinode, Directory, Dirent, File, Node, Slot, Super, TreeData, Used, at_rest, block_at, block_len, dinode_at, dirent_len, dirents_per_block, flat_map, inodes_per_block}
+unfoldable pub use Rattle.image_tree.specs.Vocabulary.{logged, recovered, sizes_of}
+pub use Rattle.image_tree.specs.Checks.{largest_size}
+pub use Rattle.image_tree.specs.Inodes.{blocks_for, direct}
+pub use Rattle.fs_layout.specs.Entry.{spell_dirent}
+pub use Rattle.fs_layout.specs.Inode.{spell_dinode}
+pub use Rattle.fs_layout.specs.Name.{IsName}
+pub use Rattle.fs_layout.specs.Widths.{addresses, inode_len, numbers_per_block}
+pub use Rattle.plain_tree.specs.Tree.{dot, dotdot}
+unfoldable pub use Rattle.block_device.specs.Blocks.{blocks_of}
+pub use Rattle.clap.specs.Words.{App, FailsBy, Rule, Text, app_of, fault_of, found_of, matches_of, new_app, new_rule, one_text, rows_of, rule_of, with_rule}
+pub use Rattle.fs_layout.specs.Indirect.{spell_numbers}
+pub use Rattle.fs_layout.specs.Super.{spell_super}
+pub use Rattle.plain_tree.specs.Widths.{root}
+pub use Rattle.std.specs.List.{range_with_len}
+pub use Rattle.clap.specs.Lexer.{usize_max}
+pub use Rattle.clap.specs.declared.builder.action.ArgAction.TheVariants.{Set}
+pub use Rattle.clap.specs.declared.builder.value_parser.ValueParser.TheVariants.{Signed}
+pub use Rattle.clap.specs.declared.parser.matches.ArgMatches.{ArgMatches}
+pub use Rattle.image_tree.specs.Damage.{IsWellFormed}
+pub use Rattle.image_tree.specs.Trees.{tree_in}
+pub use Rattle.std.specs.Str.Parse.{IsNumeral, digits_value, without_leading_plus}

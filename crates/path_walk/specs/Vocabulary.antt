@@ -1,0 +1,11 @@
+-- What the crates below call things: the words that this crate's definitions and contracts use.
+pub use Rattle.inode_machine.specs.Vocabulary.{Action, BadDescriptor, Call, Cause, Do, Name, Reply, Ret, elements, is_absolute, name_len, piece, unmarked}
+pub use Rattle.inode_machine.specs.Parts.{P, leave_directory, looks_or_quits, see_parent, start, stopped, walk, walk_parent, walk_step, with_last}
+pub use Rattle.std.specs.Option.{option_map}
+pub use Rattle.inode_machine.specs.Inodes.{AtName, face_or, is_directory_face, is_live_face}
+pub use Rattle.inode_machine.specs.Opening.{file_for}
+pub use Rattle.inode_machine.specs.World.{Answer, Op}
+pub use Rattle.inode_machine.specs.World.Op.{Give, Take, WalkDown}
+pub use Rattle.plain_tree.specs.Code.{with_element}
+pub use Rattle.plain_tree.specs.declared.answer.Answer.{Answer as CallAnswer}
+pub use Rattle.std.specs.List.{list_all}

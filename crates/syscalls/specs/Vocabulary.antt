@@ -1,0 +1,16 @@
+-- What the crates below call things: the words that this crate's definitions and contracts use.
+pub use Rattle.inode_parts.specs.Vocabulary.{Call, IsCall, P, Reply, Super, nothing, program}
+pub use Rattle.fs_machine.specs.Vocabulary.{Came, Still, stepped_at}
+pub use Rattle.fs_machine.specs.Steps.{State, state_of}
+pub use Rattle.atomic_programs.specs.Machines.{Left}
+pub use Rattle.atomic_programs.specs.declared.machines.Came.TheVariants.{Done, Ran, Stopped, Waits}
+pub use Rattle.fs_machine.specs.Hands.{HandFits}
+pub use Rattle.fs_machine.specs.Machines.{Answers, CallsOnce, Moves}
+pub use Rattle.fs_machine.specs.Tied.{LeavesTied}
+pub use Rattle.fs_machine.specs.declared.control.Machine.{Machine}
+pub use Rattle.fs_machine.specs.declared.kind.Kind.{Kind}
+pub use Rattle.fs_machine.specs.declared.shared.Core.{Core}
+pub use Rattle.inode_parts.specs.Calls.{LoweredReady, RunsByParts, lowered_left, path_of}
+pub use Rattle.inode_parts.specs.Expecting.{RunsAlone}
+pub use Rattle.inode_parts.specs.Parts.{lowered}
+pub use Rattle.inode_parts.specs.declared.lowered.Lowered.{Lowered}
