@@ -5,9 +5,8 @@ use crate::workload::WorkloadError;
 use block_device::MemoryDisk;
 use explain::explain;
 use hart_core::{Event, Outcome, World};
+use plain_tree::HARTS;
 use std::alloc::Global;
-
-const HARTS: u8 = 8;
 
 // In each turn each hart makes one event.
 const TURNS: u64 = 12_500;

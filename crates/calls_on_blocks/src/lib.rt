@@ -1,5 +1,6 @@
-//! The calls on the blocks of a file system: each call's program over whole inodes as a program below, and what every list of
-//! events makes of them. The functions do nothing: each carries a law.
+//! The calls on the blocks of a file system: each call's program over whole inodes as a program below, what every list of
+//! events makes of them, and what the disk is where a mounted file system stops at any event. The functions do nothing: each
+//! carries a law.
 #![tactic(auto)]
 
 ghost use Rattle.calls_on_blocks.specs.Laws.{CallsAreLawful, CodeIsOfIt};

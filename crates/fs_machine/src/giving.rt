@@ -7,10 +7,11 @@ ghost use Rattle.fs_machine.specs.Files.{descriptors_of};
 
 use crate::desk::Desk;
 use crate::entries::{Reference, count_up, place_of};
-use crate::limits::{DESCRIPTORS, DESKS};
+use crate::limits::DESCRIPTORS;
 use crate::places::{directory_at, place_at, set_descriptor, set_directory};
 use crate::slots::Given;
 use crate::tables::Tables;
+use buffer_cache::HARTS;
 
 impl Tables {
     ghost use Rattle.fs_machine.specs.Tables.{references_of, place_named, place_of};
@@ -21,8 +22,8 @@ impl Tables {
     /// reference to its old one is handed out.
     #[tactic(auto, unfolding(crate::specs::Files::give_next))]
     pub fn give(&mut self, hart: u8, child: u8, from: u32) -> Given
-        requires hart { hart < DESKS }
-        requires child { child < DESKS }
+        requires hart { hart < HARTS }
+        requires child { child < HARTS }
         requires room { references_of (directory_of (slice_get self.old.desks hart)) self.old + 1 < 2 ^ 32 }
         ensures ran { give_next hart child from self.old ≡ Ran result self.new }
         ensures past { DESCRIPTORS ≤ from → IsDirectory result }
@@ -36,8 +37,8 @@ impl Tables {
 
     // The child's descriptor names what the hart's names.
     fn give_descriptor(&mut self, hart: u8, child: u8, fd: u32) -> Given
-        requires hart { hart < DESKS }
-        requires child { child < DESKS }
+        requires hart { hart < HARTS }
+        requires child { child < HARTS }
         requires fd { fd < DESCRIPTORS }
         ensures ran { give_at hart child fd self.old (place_named hart fd self.old) ≡ Ran result self.new }
         ensures others { LeavesLocked self.old self.new }
@@ -52,8 +53,8 @@ impl Tables {
 
     // The child's directory becomes the hart's.
     fn give_directory(&mut self, hart: u8, child: u8) -> Given
-        requires hart { hart < DESKS }
-        requires child { child < DESKS }
+        requires hart { hart < HARTS }
+        requires child { child < HARTS }
         requires room { references_of (directory_of (slice_get self.old.desks hart)) self.old + 1 < 2 ^ 32 }
         ensures directory { IsDirectory result }
         ensures ran { given_directory hart child self.old (place_of (directory_of (slice_get self.old.desks hart)) self.old.entries)
@@ -74,8 +75,8 @@ impl Tables {
 }
 
 // The first descriptor of a hart from this one on that is open.
-fn next_at(desks: &[Desk; DESKS], hart: u8, from: u32) -> Option<usize>
-    requires { hart < DESKS }
+fn next_at(desks: &[Desk; HARTS as usize], hart: u8, from: u32) -> Option<usize>
+    requires { hart < HARTS }
     ensures next { result ≡ next_full from (descriptors_of (slice_get desks.now hart)) }
     ensures within { IfSome result (λ fd. fd < DESCRIPTORS) }
     ensures from { IfSome result (λ fd. from ≤ fd) }

@@ -12,9 +12,6 @@ pub const OPEN_FILES: usize = 100;
 /// How many descriptors a hart has.
 pub const DESCRIPTORS: usize = 16;
 
-/// One desk for each hart.
-pub(crate) const DESKS: usize = 8;
-
 /// The inode of the root, every hart's directory at first.
 pub const ROOT: u32 = 1;
 

@@ -9,9 +9,10 @@ ghost use Rattle.fs_machine.specs.Files.{is_free, names, opened, hand_of, descri
 use crate::desk::Desk;
 use crate::entries::Reference;
 use crate::files::{FilePlace, NewFile, OpenFile, Refused, Want};
-use crate::limits::{DESCRIPTORS, DESKS, DEVICE, OPEN_FILES};
+use crate::limits::{DESCRIPTORS, DEVICE, OPEN_FILES};
 use crate::slots::{Doubled, Shut};
 use crate::tables::Tables;
+use buffer_cache::HARTS;
 
 impl Tables {
     ghost use Rattle.fs_machine.specs.Tables.{file_named, place_named};
@@ -21,7 +22,7 @@ impl Tables {
 
     /// The open file that a descriptor names (xv6: `argfd`).
     pub fn file(&self, hart: u8, fd: u32) -> Option<OpenFile>
-        requires { hart < DESKS }
+        requires { hart < HARTS }
         ensures { result ≡ file_named hart fd self.now }
     {
         match place_at(&self.desks, hart, fd) {
@@ -32,7 +33,7 @@ impl Tables {
 
     /// Why a descriptor may not be had for this.
     pub fn check(&self, hart: u8, want: Want, fd: u32) -> Option<Refused>
-        requires { hart < DESKS }
+        requires { hart < HARTS }
         ensures { result ≡ refusal_of want (file_named hart fd self.now) }
     {
         refusal(want, self.file(hart, fd))
@@ -40,7 +41,7 @@ impl Tables {
 
     /// The number of the hart's current directory.
     pub fn directory(&self, hart: u8) -> u32
-        requires { hart < DESKS }
+        requires { hart < HARTS }
         ensures { result ≡ directory_of (slice_get self.now.desks hart) }
     {
         directory_at(&self.desks, hart)
@@ -48,7 +49,7 @@ impl Tables {
 
     /// The hart's current directory becomes this inode, whose reference goes into the table; the old one's is handed out.
     pub fn set_directory(&mut self, hart: u8, reference: Reference) -> Reference
-        requires { hart < DESKS }
+        requires { hart < HARTS }
         ensures ran { settled hart reference self.old ≡ Ran result self.new }
         ensures others { LeavesLocked self.old self.new }
     {
@@ -59,7 +60,7 @@ impl Tables {
 
     /// From now on the open file that a descriptor names has this offset.
     pub fn move_offset(&mut self, hart: u8, fd: u32, offset: u32)
-        requires { hart < DESKS }
+        requires { hart < HARTS }
         ensures ran { self.new ≡ with_offset hart (Some (fd, offset)) self.old }
         ensures others { LeavesLocked self.old self.new }
     {
@@ -77,7 +78,7 @@ impl Tables {
 
     /// Takes a place for an open file into the hart's hand (xv6: `filealloc`). False where all are taken, and then nothing changes.
     pub fn take_place(&mut self, hart: u8) -> bool
-        requires { hart < DESKS }
+        requires { hart < HARTS }
         ensures ran { take_place hart self.old ≡ Ran result self.new }
         ensures others { LeavesLocked self.old self.new }
     {
@@ -94,7 +95,7 @@ impl Tables {
     /// Opens a file at the place in hand, by the lowest free descriptor (xv6: `fdalloc`). Where all are open the place is given back, and
     /// the reference.
     pub fn open(&mut self, hart: u8, reference: Reference, file: NewFile) -> Result<u8, Reference>
-        requires { hart < DESKS }
+        requires { hart < HARTS }
         ensures ran { open_file hart reference file self.old ≡ Ran (opened_as result) self.new }
         ensures back { IfErr result (λ back. back ≡ reference) }
         ensures others { LeavesLocked self.old self.new }
@@ -120,7 +121,7 @@ impl Tables {
 
     /// The lowest free descriptor names what this one names (xv6: `fdalloc` and `filedup`).
     pub fn double(&mut self, hart: u8, fd: u32) -> Doubled
-        requires { hart < DESKS }
+        requires { hart < HARTS }
         ensures ran { double_descriptor hart fd self.old ≡ Ran result self.new }
         ensures others { LeavesLocked self.old self.new }
     {
@@ -139,7 +140,7 @@ impl Tables {
     /// The descriptor goes, and with the last one that names it the open file, whose reference is handed out (xv6: `fileclose`, without
     /// its `iput`).
     pub fn shut(&mut self, hart: u8, fd: u32) -> Shut
-        requires { hart < DESKS }
+        requires { hart < HARTS }
         ensures ran { shut_descriptor hart fd self.old ≡ Ran result self.new }
         ensures others { LeavesLocked self.old self.new }
     {
@@ -163,8 +164,8 @@ impl Tables {
 }
 
 // The place that a hart's descriptor names.
-pub(crate) fn place_at(desks: &[Desk; DESKS], hart: u8, fd: u32) -> Option<u8>
-    requires { hart < DESKS }
+pub(crate) fn place_at(desks: &[Desk; HARTS as usize], hart: u8, fd: u32) -> Option<u8>
+    requires { hart < HARTS }
     ensures place { result ≡ at_descriptor fd (slice_get desks.now hart) }
     ensures within { IfSome result (λ _. fd < DESCRIPTORS) }
 {
@@ -172,8 +173,8 @@ pub(crate) fn place_at(desks: &[Desk; DESKS], hart: u8, fd: u32) -> Option<u8>
 }
 
 // The lowest descriptor of a hart that is free.
-fn lowest(desks: &[Desk; DESKS], hart: u8) -> Option<usize>
-    requires { hart < DESKS }
+fn lowest(desks: &[Desk; HARTS as usize], hart: u8) -> Option<usize>
+    requires { hart < HARTS }
     ensures lowest { result ≡ first_empty (descriptors_of (slice_get desks.now hart)) }
     ensures within { IfSome result (λ fd. fd < DESCRIPTORS) }
 {
@@ -181,16 +182,16 @@ fn lowest(desks: &[Desk; DESKS], hart: u8) -> Option<usize>
 }
 
 // The place in a hart's hand.
-fn hand_of(desks: &[Desk; DESKS], hart: u8) -> Option<u8>
-    requires { hart < DESKS }
+fn hand_of(desks: &[Desk; HARTS as usize], hart: u8) -> Option<u8>
+    requires { hart < HARTS }
     ensures { result ≡ hand_of (slice_get desks.now hart) }
 {
     desks[hart as usize].hand
 }
 
 // The number of a hart's current directory.
-pub(crate) fn directory_at(desks: &[Desk; DESKS], hart: u8) -> u32
-    requires { hart < DESKS }
+pub(crate) fn directory_at(desks: &[Desk; HARTS as usize], hart: u8) -> u32
+    requires { hart < HARTS }
     ensures { result ≡ directory_of (slice_get desks.now hart) }
 {
     desks[hart as usize].directory
@@ -219,7 +220,7 @@ fn set_hand(desks: &mut [Desk], hart: u8, place: Option<u8>)
 }
 
 // Whether a descriptor names a place.
-fn is_named(desks: &[Desk; DESKS], place: u8) -> bool
+fn is_named(desks: &[Desk; HARTS as usize], place: u8) -> bool
     ensures { result ≡ list_any (names place) desks.now }
 {
     desks.iter().any(|desk| desk.names(place))

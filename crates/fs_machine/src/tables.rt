@@ -11,7 +11,8 @@ use crate::entries::{
     Dropped, Entry, Inode, Reference, count_down, count_up, free_place, place_of,
 };
 use crate::files::FilePlace;
-use crate::limits::{DESKS, LAST_REFERENCE, MEMORY_INODES, OPEN_FILES, ROOT};
+use crate::limits::{LAST_REFERENCE, MEMORY_INODES, OPEN_FILES, ROOT};
+use buffer_cache::HARTS;
 use sleep_lock::{Guard, RetiredSlots, Slots};
 use std::alloc::{AllocError, Global};
 use std::marker::Model;
@@ -23,7 +24,7 @@ pub struct Tables {
     pub(crate) entries: [Entry; MEMORY_INODES],
     pub(crate) locks: Slots<Inode>,
     pub(crate) files: [FilePlace; OPEN_FILES],
-    pub(crate) desks: [Desk; DESKS],
+    pub(crate) desks: [Desk; HARTS as usize],
 }
 
 impl Model for Tables {
@@ -57,12 +58,12 @@ impl Tables {
             number: ROOT,
             references: 0,
         }; MEMORY_INODES];
-        entries[0].references = DESKS as u32;
+        entries[0].references = HARTS as u32;
         Ok(Tables {
             entries,
             locks,
             files: [FilePlace::Free; OPEN_FILES],
-            desks: [Desk::new(); DESKS],
+            desks: [Desk::new(); HARTS as usize],
         })
     }
 

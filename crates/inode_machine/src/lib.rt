@@ -1,5 +1,5 @@
 //! The machine of whole inodes, and the eleven calls as programs over it: each operation is one step of a hart, and each
-//! call is right whatever the other harts do. The functions do nothing: each carries a law.
+//! call is right whatever the other harts do. The history of a run is kept beside it. The functions do nothing: each carries a law.
 #![tactic(auto)]
 
 ghost use Rattle.inode_machine.specs.Examples.{ChdirFinishes, CloseFinishes, CreateFinishes, DupFinishes, InheritFinishes, InheritFrees, InheritMoves, LinkBelowNothing, LinkFinishes, LinkOfDirectory, LinkOfMany, LinkOfNothing, LinkToNoName, LinkToTaken, MkdirFinishes, NoBlockForDirectory, NoBlockForFile, NoBlockForName, NoBlockForPart, NoSlotForDirectory, NoSlotForFile, NoSlotForName, NoBlockLeft, NoDescriptorToDouble, NoDescriptorToOpen, NoInodeForFile, NoInodeLeft, OpenFinishes, ReadFinishes, StartsRefused, StatFinishes, UnlinkFinishes, WalkerFails, WriteFinishes};

@@ -1,6 +1,8 @@
 //! The nodes of a running file system on the blocks that its log shows: what always holds of them, which puts and calls of
-//! the log keep it, and that they are a well-formed image of the tree whenever no transaction is outstanding. The functions
-//! do nothing: each carries a law.
+//! the log keep it, and that they are a well-formed image of the tree whenever no transaction is outstanding.
+//!
+//! Beside them the tables that all harts share, each step of which is an operation on whole inodes, and the laws that join images
+//! and plain trees. The functions do nothing: each carries a law.
 #![tactic(auto)]
 
 pub mod acting;

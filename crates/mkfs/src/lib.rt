@@ -1,5 +1,8 @@
 //! Makes images: a root with files in it, on an otherwise empty disk.
 //! `make` answers exactly the bytes that docs/FORMATS.md describes, or the first refusal that stands in its order.
+//!
+//! The host's files that the programs read and write are read no further than they can serve, and written beside their place and
+//! then moved there, so that none is ever half written.
 #![tactic(auto)]
 
 mod appends;

@@ -12,7 +12,7 @@ use crate::refusal::has_flag;
 use crate::refused::Attempt;
 use crate::step::{Action, StepAnswer};
 use crate::tree::{Hold, OpenFile, OpenFileEntry, Tree};
-use crate::widths::{CREATE, DOT, DOTDOT, READ_WRITE, WRITE_ONLY};
+use crate::widths::{CREATE, DOT, DOTDOT, HARTS, READ_WRITE, WRITE_ONLY};
 use std::alloc::Global;
 
 /// A file as it is when it is opened.
@@ -58,7 +58,7 @@ fn new_directory(alloc: Global, number: u16, parent: u16) -> Attempt<Node>
 impl Tree {
     /// Gives the open file that was added to the hart's lowest descriptor.
     fn give_file(&mut self, hart: u8, files: Vec<OpenFileEntry>, id: usize)
-        requires hart { hart < 8 }
+        requires hart { hart < HARTS }
         requires room { has_room ((tree_of self.old).fds hart) ≡ true }
         ensures { tree_of self.new
             ≡ record (tree_of self.old) {
@@ -73,7 +73,7 @@ impl Tree {
 
     /// Opens the node, where the hart has a descriptor free.
     fn open_node(&mut self, alloc: Global, hart: u8, number: u16, flags: u32, id: usize) -> Attempt
-        requires hart { hart < 8 }
+        requires hart { hart < HARTS }
         requires unused { (tree_of self.old).files id ≡ None }
         ensures { MatchResult result (λ _. tree_of self.new ≡ with_file (tree_of self.old) hart id number flags)
             (λ _. self.new ≡ self.old) }
@@ -134,7 +134,7 @@ impl Tree {
         number: u16,
         id: usize,
     ) -> Attempt
-        requires hart { hart < 8 }
+        requires hart { hart < HARTS }
         requires live { live_directory ((tree_of self.old).nodes directory) ≡ true }
         requires range { number < (tree_of self.old).ninodes }
         requires unused { (tree_of self.old).files id ≡ None }
@@ -161,7 +161,7 @@ impl Tree {
         number: u16,
         id: usize,
     ) -> Attempt
-        requires hart { hart < 8 }
+        requires hart { hart < HARTS }
         requires live { IfSome parent (λ d. live_directory ((tree_of self.old).nodes d) ≡ true) }
         requires new { is_absent (tree_of self.old) (with_name parent name.now) ≡ true → IsNewNode (tree_of self.old) number }
         requires unused { (tree_of self.old).files id ≡ None }
@@ -187,7 +187,7 @@ impl Tree {
         number: u16,
         id: usize,
     ) -> Attempt
-        requires hart { hart < 8 }
+        requires hart { hart < HARTS }
         requires unused { (tree_of self.old).files id ≡ None }
         ensures { MatchResult result (λ _. tree_of self.new ≡ opened_at (tree_of self.old) hart id flags found number)
             (λ _. self.new ≡ self.old) }
@@ -265,7 +265,7 @@ impl Tree {
     }
 
     fn find(&mut self, hart: u8, found: Option<u16>)
-        requires { hart < 8 }
+        requires { hart < HARTS }
         ensures { tree_of self.new ≡ held (tree_of self.old) hart found }
     {
         if let Some(number) = found {
@@ -280,7 +280,7 @@ impl Tree {
     }
 
     fn bump(&mut self, alloc: Global, hart: u8) -> Attempt
-        requires hart { hart < 8 }
+        requires hart { hart < HARTS }
         requires none { bump_refusal (tree_of self.old) ((tree_of self.old).holds hart) ≡ None }
         ensures { MatchResult result
             (λ _. tree_of self.new ≡ record
@@ -307,7 +307,7 @@ impl Tree {
     }
 
     fn enter_held(&mut self, alloc: Global, hart: u8, parent: Option<u16>, name: &[u8]) -> Attempt
-        requires hart { hart < 8 }
+        requires hart { hart < HARTS }
         requires live { IfSome parent (λ d. live_directory ((tree_of self.old).nodes d) ≡ true) }
         ensures { MatchResult result
             (λ _. tree_of self.new ≡ drop_hold
@@ -324,7 +324,7 @@ impl Tree {
     }
 
     fn unbump(&mut self, alloc: Global, hart: u8) -> Attempt
-        requires { hart < 8 }
+        requires { hart < HARTS }
         ensures { MatchResult result
             (λ _. tree_of self.new ≡ drop_hold (at_hold (tree_of self.old) ((tree_of self.old).holds hart) lowered) hart)
             (λ _. self.new ≡ self.old) }
@@ -339,7 +339,7 @@ impl Tree {
     }
 
     fn chdir(&mut self, hart: u8, found: Option<u16>)
-        requires { hart < 8 }
+        requires { hart < HARTS }
         ensures { tree_of self.new ≡ at_dir (tree_of self.old) hart found }
     {
         if let Some(number) = found {
@@ -348,7 +348,7 @@ impl Tree {
     }
 
     fn dup(&mut self, hart: u8, fd: u32)
-        requires hart { hart < 8 }
+        requires hart { hart < HARTS }
         requires room { has_room ((tree_of self.old).fds hart) ≡ true }
         ensures { tree_of self.new
             ≡ record (tree_of self.old) {
@@ -362,7 +362,7 @@ impl Tree {
     }
 
     fn close(&mut self, hart: u8, fd: u32)
-        requires hart { hart < 8 }
+        requires hart { hart < HARTS }
         requires fd { fd < 16 }
         ensures { tree_of self.new
             ≡ closed (record (tree_of self.old) { fds = put (tree_of self.old).fds hart (put ((tree_of self.old).fds hart) fd None) }) }
@@ -391,7 +391,7 @@ impl Tree {
         id: usize,
         answer: &StepAnswer,
     ) -> Attempt
-        requires hart { hart < 8 }
+        requires hart { hart < HARTS }
         requires live { IfSome found.now.parent (λ d. live_directory ((tree_of self.old).nodes d) ≡ true) }
         requires none { refusal_with (tree_of self.old) hart action.now found.now.node (with_name found.now.parent found.now.name.now)
             ≡ None }

@@ -9,7 +9,7 @@ use crate::answer::{Cause, Full};
 use crate::refused::{ApplyRefused, NoMemory};
 use crate::step::{Action, StepAnswer, TreeStep};
 use crate::tree::Tree;
-use crate::widths::HART_COUNT;
+use crate::widths::HARTS;
 use std::alloc::Global;
 
 /// The path that the action follows; empty where it follows none.
@@ -49,7 +49,7 @@ fn out_of_place(action: &Action) -> StepAnswer
 impl Tree {
     /// What a refused action changes: a raise drops its hold.
     fn refuse(&mut self, hart: u8, action: &Action)
-        requires { hart < 8 }
+        requires { hart < HARTS }
         ensures { tree_of self.new ≡ refused (tree_of self.old) hart action.now }
     {
         match action {
@@ -87,7 +87,7 @@ impl Tree {
     {
         let hart = step.hart;
         let action = &step.action;
-        if hart >= HART_COUNT {
+        if hart >= HARTS {
             return Ok(StepAnswer::Failed {
                 cause: Cause::BadDescriptor,
             });

@@ -9,6 +9,7 @@ use crate::node::{Kind, Node, Slot, Slots};
 use crate::refused::Attempt;
 use crate::slots::{clear_slot, enter_slot};
 use crate::tree::{Hold, Tree};
+use crate::widths::HARTS;
 use std::alloc::Global;
 
 /// These bytes, written at the offset.
@@ -201,7 +202,7 @@ impl Tree {
     }
 
     pub(crate) fn set_directory(&mut self, hart: u8, number: u16)
-        requires { hart < 8 }
+        requires { hart < HARTS }
         ensures { tree_of self.new ≡ record (tree_of self.old) { cwd = put (tree_of self.old).cwd hart number } }
     {
         let mut value = self.hart(hart);
@@ -210,7 +211,7 @@ impl Tree {
     }
 
     pub(crate) fn set_hold(&mut self, hart: u8, hold: Option<Hold>)
-        requires { hart < 8 }
+        requires { hart < HARTS }
         ensures { tree_of self.new ≡ record (tree_of self.old) { holds = put (tree_of self.old).holds hart hold } }
     {
         let mut value = self.hart(hart);
@@ -219,7 +220,7 @@ impl Tree {
     }
 
     pub(crate) fn set_descriptor(&mut self, hart: u8, fd: usize, id: Option<usize>)
-        requires hart { hart < 8 }
+        requires hart { hart < HARTS }
         requires fd { fd < 16 }
         ensures { tree_of self.new
             ≡ record (tree_of self.old) { fds = put (tree_of self.old).fds hart (put ((tree_of self.old).fds hart) fd id) } }
@@ -231,8 +232,8 @@ impl Tree {
 
     /// The child takes over the hart's descriptors and current directory.
     pub(crate) fn inherit(&mut self, hart: u8, child: u8)
-        requires hart { hart < 8 }
-        requires child { child < 8 }
+        requires hart { hart < HARTS }
+        requires child { child < HARTS }
         ensures { tree_of self.new
             ≡ record (tree_of self.old) {
               fds = put (tree_of self.old).fds child ((tree_of self.old).fds hart);

@@ -8,7 +8,7 @@ use crate::refused::{ApplyRefused, Attempt, NoMemory};
 use crate::step::{StepAnswer, TreeStep};
 use crate::trace::Placed;
 use crate::tree::Tree;
-use crate::widths::HART_COUNT;
+use crate::widths::HARTS;
 use std::alloc::Global;
 
 fn same_answer(a: &StepAnswer, b: &StepAnswer) -> bool
@@ -22,7 +22,7 @@ impl Tree {
     fn is_in_place(&self, step: &TreeStep) -> bool
         ensures { IsTrue result ↔ IsInPlace (tree_of self.now) step.now.hart step.now.action }
     {
-        step.hart < HART_COUNT && self.has_place(step.hart, &step.action)
+        step.hart < HARTS && self.has_place(step.hart, &step.action)
     }
 
     /// Makes the step, and says whether it leads on with that answer. Where it doesn't, the tree is of no account.

@@ -44,3 +44,4 @@ pub use crate::refused::{ApplyRefused, NoMemory};
 pub use crate::step::{Action, StepAnswer, TreeStep};
 pub use crate::trace::{Calls, Placed, Trace, TracedCall};
 pub use crate::tree::{Hart, Hold, OpenFile, OpenFileEntry, Tree};
+pub use crate::widths::HARTS;

@@ -8,7 +8,7 @@ use crate::look::Found;
 use crate::refusal::has_flag;
 use crate::step::Action;
 use crate::tree::{Hold, OpenFile, Tree};
-use crate::widths::{CREATE, DESCRIPTOR_COUNT, HART_COUNT};
+use crate::widths::{CREATE, DESCRIPTOR_COUNT, HARTS};
 
 fn is_raised(raised: bool, hold: Option<Hold>) -> bool
     ensures { result ≡ holds_raised raised hold }
@@ -73,7 +73,7 @@ impl Tree {
             Action::Bump => is_raised(false, self.hold(hart)),
             Action::Enter { .. } | Action::Unbump => is_raised(true, self.hold(hart)),
             Action::Dup { fd } => self.file_at(hart, *fd).is_none() || self.has_room(hart),
-            Action::Inherit { child } => *child < HART_COUNT
+            Action::Inherit { child } => *child < HARTS
                 && *child != hart
                 && !self.has_descriptors(*child),
             _ => true,

@@ -12,7 +12,7 @@ use crate::paths::same;
 use crate::step::Action;
 use crate::tree::{Hold, OpenFile, Tree};
 use crate::widths::{
-    COUNT_LIMIT, CREATE, DESCRIPTOR_COUNT, DIRENT_LEN, DOT, DOTDOT, HART_COUNT, LARGEST_SIZE,
+    COUNT_LIMIT, CREATE, DESCRIPTOR_COUNT, DIRENT_LEN, DOT, DOTDOT, HARTS, LARGEST_SIZE,
     MAJOR_LIMIT,
 };
 

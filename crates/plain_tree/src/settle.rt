@@ -6,7 +6,7 @@ ghost use Rattle.plain_tree.specs.Tree.{any_below, fd_names, hold_names, is_name
 ghost use Rattle.plain_tree.specs.Widths.{descriptor_count};
 
 use crate::tree::Tree;
-use crate::widths::{DESCRIPTOR_COUNT, HART_COUNT};
+use crate::widths::{DESCRIPTOR_COUNT, HARTS};
 
 impl Tree {
     fn is_open_at(&self, hart: u8, fd: usize, number: usize) -> bool
@@ -55,7 +55,7 @@ impl Tree {
     fn is_named(&self, number: usize) -> bool
         ensures { result ≡ is_named (tree_of self.now) number }
     {
-        for hart in 0..HART_COUNT {
+        for hart in 0..HARTS {
             if self.is_named_by(hart, number) {
                 return true;
             }
@@ -87,7 +87,7 @@ impl Tree {
     pub(crate) fn has_descriptor(&self, id: usize) -> bool
         ensures { result ≡ has_fd (tree_of self.now) id }
     {
-        for hart in 0..HART_COUNT {
+        for hart in 0..HARTS {
             if self.has_descriptor_by(hart, id) {
                 return true;
             }

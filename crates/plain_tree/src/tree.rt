@@ -9,7 +9,7 @@ use crate::bytes::Bytes;
 use crate::fresh::{fresh_hart, fresh_nodes, push_absent};
 use crate::node::{Kind, Node};
 use crate::refused::{Attempt, NoMemory};
-use crate::widths::{DESCRIPTOR_COUNT, HART_COUNT, ROOT};
+use crate::widths::{DESCRIPTOR_COUNT, HARTS, ROOT};
 use std::alloc::Global;
 use std::marker::Model;
 use std::mem;
@@ -52,7 +52,7 @@ pub struct Tree {
     ninodes: usize,
     nodes: Vec<Option<Node>>,
     files: Vec<OpenFileEntry>,
-    harts: [Hart; HART_COUNT as usize],
+    harts: [Hart; HARTS as usize],
 }
 
 impl Model for Tree {
@@ -96,7 +96,7 @@ impl Tree {
             ninodes: nodes.len(),
             nodes,
             files: Vec::new(alloc),
-            harts: [fresh_hart(); HART_COUNT as usize],
+            harts: [fresh_hart(); HARTS as usize],
         }
     }
 
@@ -116,7 +116,7 @@ impl Tree {
             ninodes: self.ninodes,
             nodes,
             files: Vec::new(alloc),
-            harts: [fresh_hart(); HART_COUNT as usize],
+            harts: [fresh_hart(); HARTS as usize],
         }
     }
 
@@ -206,7 +206,7 @@ impl Tree {
 
     /// Everything of the hart.
     pub(crate) fn hart(&self, hart: u8) -> Hart
-        requires { hart < 8 }
+        requires { hart < HARTS }
         ensures { result ≡ hart_at self.now hart }
     {
         self.harts[usize::from(hart)]
@@ -214,7 +214,7 @@ impl Tree {
 
     /// Puts everything of the hart in its place.
     pub(crate) fn set_hart(&mut self, hart: u8, value: Hart)
-        requires { hart < 8 }
+        requires { hart < HARTS }
         ensures { tree_of self.new
             ≡ record (tree_of self.old) {
               cwd = put (tree_of self.old).cwd hart value.directory;

@@ -15,7 +15,8 @@ pub(crate) const PIECE_LEN: usize = 3072;
 /// The greatest count of a node.
 pub(crate) const COUNT_LIMIT: u16 = 32767;
 
-pub(crate) const HART_COUNT: u8 = 8;
+/// How many harts there are.
+pub const HARTS: u8 = 8;
 
 /// Descriptors of a hart.
 pub(crate) const DESCRIPTOR_COUNT: usize = 16;

@@ -1,6 +1,6 @@
 //! Every run of the calls on blocks is a run of the machine of whole inodes, has one list of tree steps, finds no room only where there is
-//! none, and then takes back what the call had changed, records at most ten blocks in a transaction, and leaves nothing behind in an idle
-//! hart. The functions do nothing: each carries a law.
+//! none, and then takes back what the call had changed, records at most ten blocks in a transaction, takes few steps a call, and leaves
+//! nothing behind in an idle hart. The functions do nothing: each carries a law.
 #![tactic(auto)]
 
 ghost use Rattle.run_laws.specs.ActsAt.{OperationsActFirstOrLast};

@@ -1,5 +1,6 @@
-//! Tests of running harts: threads that make calls of one kernel. They stand here, above the crates that they run, since a crate with
-//! tests is proved twice.
+//! Tests of running harts: threads that make calls of one kernel; and of the console what no stored script can be: a device, a script
+//! or answers that fail, the bytes of an image, and short memory. What scripts print is shown by examples/rows/. They stand here, above
+//! the crates that they run, since a crate with tests is proved twice.
 #![tactic(auto)]
 
 #[cfg(test)]

@@ -4,10 +4,9 @@ use crate::kernels::{copied, no_kernel, push};
 use crate::runs::Left;
 use block_device::MemoryDisk;
 use hart_core::{Came, Event, Outcome, World};
+use plain_tree::HARTS;
 use std::alloc::Global;
 use std::process::Abort;
-
-const HARTS: usize = 8;
 
 // So many tables of calls the harts go through, each of them four.
 const TABLES: u32 = 32;
@@ -76,7 +75,7 @@ struct Stand {
 struct Made {
     events: Vec<Event>,
     outcomes: Vec<Came>,
-    stands: [Stand; HARTS],
+    stands: [Stand; HARTS as usize],
 }
 
 impl Made {
@@ -88,13 +87,13 @@ impl Made {
         Made {
             events: Vec::new(alloc),
             outcomes: Vec::new(alloc),
-            stands: [stand; HARTS],
+            stands: [stand; HARTS as usize],
         }
     }
 
     fn is_through(&self, rounds: &Rounds) -> bool {
         for hart in 0..8u8 {
-            let stand = self.stands[usize::from(hart) % HARTS];
+            let stand = self.stands[usize::from(hart) % usize::from(HARTS)];
             if stand.is_busy || stand.started < rounds.rows(hart).len() {
                 return false;
             }
@@ -104,7 +103,7 @@ impl Made {
 
     // The next event of a hart, if it has one left.
     fn next(&self, rt: &impl Abort, alloc: Global, rounds: &Rounds, hart: u8) -> Option<Event> {
-        let stand = self.stands[usize::from(hart) % HARTS];
+        let stand = self.stands[usize::from(hart) % usize::from(HARTS)];
         if stand.is_busy {
             return Some(Event::Step { hart });
         }
@@ -118,7 +117,7 @@ impl Made {
     }
 
     fn note(&mut self, rt: &impl Abort, event: Event, came: Came) {
-        let at = usize::from(hart_of(&event)) % HARTS;
+        let at = usize::from(hart_of(&event)) % usize::from(HARTS);
         let mut stand = self.stands[at];
         match &came {
             Came::Started => {

@@ -1,6 +1,8 @@
-//! Scripts of the console: what their lines say (docs/SCRIPT.md has the grammar).
-//! What its lines say is answered in order, each with its number; or the number of the first line that says nothing, with why. A line
-//! that is typed at a prompt is read alone.
+//! Scripts of the console: what their lines say (docs/SCRIPT.md has the grammar), and the lines that answer them.
+//!
+//! What a script's lines say is answered in order, each with its number; or the number of the first line that says nothing, with why.
+//! A line that is typed at a prompt is read alone. Beside them stand the command line, the lines of replies and of a history's entries,
+//! and the last of many events.
 #![tactic(auto)]
 
 mod asked;

@@ -18,12 +18,10 @@ use crate::Hint;
 use crate::sees::{is_live_directory, look, sight};
 use crate::standing::{Standing, Walk};
 use path_walk::{Ask, Heard, Locked, Mark};
-use plain_tree::{Action, ApplyRefused, Call, NoMemory, Tree, TreeStep};
+use plain_tree::{Action, ApplyRefused, Call, HARTS, NoMemory, Tree, TreeStep};
 use std::alloc::Global;
 use std::marker::Model;
 use std::mem;
-
-const HARTS: u8 = 8;
 
 // A tree step that acts, by the number that a new node gets by it; 0 where it makes none.
 #[derive(Clone, Copy)]
@@ -307,7 +305,7 @@ impl Kept {
 
     // The hart's walk is lost by now and wasn't before.
     fn falls(&self, before: &[bool; HARTS as usize], hart: u8) -> bool
-        requires { hart < 8 }
+        requires { hart < HARTS }
         ensures { result ≡ (not (slice_index_or before.now hart false) && is_lost (stage_of self.now) hart) }
     {
         !before[usize::from(hart)] && self.is_lost(hart)

@@ -1,8 +1,9 @@
-//! A complete search for the history of a trace: one list of tree steps that explains what several harts were answered.
-//! It finds one wherever there is one, so that it answers of any trace, also of another file system's, whether the
-//! replies are those of calls that act in steps on one tree.
-//! That there is none is said only where no list explains the trace. It gives up where memory is refused, or a node is to be made in a
-//! table of more than 65,536 numbers.
+//! Lists of tree steps that explain what several harts were answered.
+//!
+//! `Kept` is the tree kept beside a run, with the list of its steps, which grows as calls tell of themselves. `find_history` searches
+//! where nothing was kept: it finds a list wherever there is one, so that it answers of any trace, also of another file system's,
+//! whether the replies are those of calls that act in steps on one tree. That there is none is said only where no list explains the
+//! trace. It gives up where memory is refused, or a node is to be made in a table of more than 65,536 numbers.
 #![tactic(auto)]
 
 mod ends;

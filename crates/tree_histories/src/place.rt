@@ -2,9 +2,7 @@
 ghost use Rattle.std.specs.Prelude.{◌≡◌, ◌≤◌, IsTrue, ◌↔◌};
 ghost use Rattle.tree_histories.specs.Vocabulary.{IsInPlace, file_at, has_descriptors, has_room, holds_raised, is_open_file, lowest, place_of, tree_of};
 
-use plain_tree::{Action, Hold, Kind, OpenFile, Tree, TreeStep};
-
-const HART_COUNT: u8 = 8;
+use plain_tree::{Action, HARTS, Hold, Kind, OpenFile, Tree, TreeStep};
 
 const DESCRIPTOR_COUNT: usize = 16;
 
@@ -85,7 +83,7 @@ fn has_place(tree: &Tree, hart: u8, action: &Action) -> bool
         Action::Bump => is_raised(false, tree.hold(hart)),
         Action::Enter { .. } | Action::Unbump => is_raised(true, tree.hold(hart)),
         Action::Dup { fd } => file_at(tree, hart, *fd).is_none() || has_room(tree, hart),
-        Action::Inherit { child } => *child < HART_COUNT
+        Action::Inherit { child } => *child < HARTS
             && *child != hart
             && !has_descriptors(tree, *child),
         _ => true,
@@ -96,5 +94,5 @@ fn has_place(tree: &Tree, hart: u8, action: &Action) -> bool
 pub(crate) fn is_in_place(tree: &Tree, step: &TreeStep) -> bool
     ensures { IsTrue result ↔ IsInPlace (tree_of tree.now) step.now.hart step.now.action }
 {
-    step.hart < HART_COUNT && has_place(tree, step.hart, &step.action)
+    step.hart < HARTS && has_place(tree, step.hart, &step.action)
 }

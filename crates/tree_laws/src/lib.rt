@@ -1,5 +1,9 @@
 //! Laws of the plain tree: when a tree is well formed, that every tree step keeps it so, and what a step leaves of
-//! directories and of the paths that other harts follow. The functions do nothing: each carries a law.
+//! directories and of the paths that other harts follow.
+//!
+//! And of the moves of calls on a tree (walks, lookups, acts), as a single hart sees them: each run of them is explained by one
+//! list of tree steps. A walk that another hart's step kills fails at that very step; its call is told when it gives the walk up.
+//! The functions do nothing: each carries a law.
 #![tactic(auto)]
 
 ghost use Rattle.tree_laws.specs.Actions.{ActionsAreTold};

@@ -1,5 +1,6 @@
-//! Tests of a mounted world: what its calls answer, event by event. They stand here, above the crates that they run, since a crate
-//! with tests is proved twice. Most are rows (`rows`), over a few images (`images`), so that few functions are to be proved.
+//! Tests of a mounted world: what its calls answer, event by event, and the histories that are handed out. They stand here, above the
+//! crates that they run, since a crate with tests is proved twice. Most are rows (`rows`), over a few images (`images`), so that few
+//! functions are to be proved.
 #![tactic(auto)]
 
 #[cfg(test)]

@@ -4,15 +4,13 @@ use fs_machine::Kind;
 use hart_core::{Came, Event, Outcome, Run, World, run, trace};
 use image_tree::tree_of;
 use mkfs::make;
-use plain_tree::{Bytes, Call, NoMemory, Placed, Trace, Tree, check};
+use plain_tree::{Bytes, Call, HARTS, NoMemory, Placed, Trace, Tree, check};
 use script::{CallLine, Command, parse};
 use std::alloc::{AllocError, Global};
 use std::test::Fail;
 
 /// More steps than a call of these runs has.
 const MANY: usize = 100000;
-
-const HARTS: u8 = 8;
 
 /// A fresh image of 2000 blocks and 200 inodes, and the events that a script comes to on it.
 #[derive(Drop)]
