@@ -1,6 +1,6 @@
 -- What the hart of the workloads has in its hand.
 use Rattle.std.specs.Prelude.{◌≡◌, ℕ, List}
-use Rattle.bench.specs.Vocabulary.{GuardState, BufferState, count_of, SeatState, is_held_by}
+use Rattle.fs_machine.specs.Vocabulary.{GuardState, BufferState, count_of, SeatState, is_held_by}
 
 abbrev pub this_hart : ℕ
 this_hart = 1

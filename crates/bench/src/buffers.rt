@@ -1,6 +1,7 @@
 //! Buffers over a disk in memory.
 ghost use Rattle.std.specs.Prelude.{◌≡◌, ◌<◌, IfOk, IfSome, length};
-ghost use Rattle.bench.specs.Vocabulary.{IsHeld, seen};
+ghost use Rattle.fs_machine.specs.Vocabulary.{IsHeld};
+ghost use Rattle.group_log.specs.Vocabulary.{seen};
 ghost use Rattle.bench.specs.InHand.{HasNone, HasOne};
 
 use crate::workload::WorkloadError;

@@ -1,5 +1,5 @@
 //! Sleep locks in a row.
-ghost use Rattle.bench.specs.Vocabulary.{IsNumbered};
+ghost use Rattle.sleep_lock.specs.Row.{IsNumbered};
 
 use crate::workload::WorkloadError;
 use sleep_lock::Slots;

@@ -1,6 +1,10 @@
 //! Transactions over a disk in memory.
 ghost use Rattle.std.specs.Prelude.{◌≡◌, ◌≢◌, [], IfOk, IsTrue};
-ghost use Rattle.bench.specs.Vocabulary.{blocks_of, logged, HasRoom, IsMember, IsHome, IsPlaced, Halted};
+ghost use Rattle.block_device.specs.Blocks.{blocks_of};
+ghost use Rattle.group_log.specs.Vocabulary.{logged};
+ghost use Rattle.fs_machine.specs.Vocabulary.{HasRoom, IsMember, IsHome};
+ghost use Rattle.group_log.specs.Soundness.{IsPlaced};
+ghost use Rattle.group_log.specs.declared.phase.Phase.TheVariants.{Halted};
 
 use crate::workload::WorkloadError;
 use block_device::{BLOCK_LEN, Device, MemoryDisk};

@@ -1,4 +1,3 @@
-pub mod Lemmas
 pub mod Vocabulary
 pub mod First
 pub mod FirstClear

@@ -1,9 +1,6 @@
 -- The chains of the buffers.
 use Rattle.buffer_cache.proofs.Vocabulary.{◌≡◌, inl, inr, ℕ, zero, suc, ◌+◌, ◌-◌, ◌%◌, ◌<◌, ◌≤◌, List, [], ◌∷◌, ◌++◌, length, length-set, get_or, set, map, Bool, true, false, cond, refl, sym, ◌∙◌, ap, subst, arith, ◌==◌, if◌then◌else◌, nat_lt, Option, Some, None, position, range_with_len, cases_lt, nat_tests, get_or-set_same, get_or-set_other, map-set, get_or-map, map-set_same, change_first, count_of, is_same, numbered, SeatState, has_block, seat_of, with_holder, without_holder, unused, unused_from, IsPath, follow, IsRing, head_of, block_in, head_behind, AreGrouped, IsChained, get_of, Got}
-use Rattle.buffer_cache.proofs.Firsts.{pick, position_some, first_passes, length-change_first}
-use Rattle.buffer_cache.proofs.Blocks.{is_block}
-use Rattle.buffer_cache.proofs.Seated.{get_out, get_in}
-use Rattle.buffer_cache.proofs.Ordered.{placed_first}
+use Rattle.buffer_cache.proofs.Basics.{pick, position_some, first_passes, length-change_first, is_block, get_out, get_in, placed_first}
 use Rattle.buffer_cache.proofs.Rings.{AreApart, count_here, count_join, absent_first, absent_rest, Stands, stands, path_split, ring_has, ring_apart, ring_again, Unlinked, Linked, linked}
 
 is_slot : (k : ℕ) → k < 46 → nat_lt k 46 ≡ true

@@ -1,10 +1,7 @@
 -- What each call keeps, in the words of its contract.
 use Rattle.buffer_cache.proofs.Vocabulary.{◌∷◌, is_some, cond, ◌≡◌, ◌≢◌, ◌⊎◌, inl, inr, ℕ, ◌<◌, ◌≤◌, List, [], length, Bool, true, false, ◌==◌, refl, sym, ◌∙◌, ap, subst, arith, Option, Some, None, IsSome, is_none, not, ◌&&◌, if◌then◌else◌, slice_set, ◌↔◌, IfSome, Result, Ok, Err, OnOk, OnErr, MatchOption, option_map, option_and_then, unwrap_or, cases_eq, nat_tests, same_Some, none-some, find, GuardState, IfSome_each, block_at, block_at-set_same, BufferState, change_first, count_of, is_any, is_unused, is_settled, UnusedFirst, is_number, SeatState, has_block, without_holder, Passes, Keeps, IsPinned, IsRecorded, is_recorded, is_held_by, is_pinned, is_free, seat_of, holder_of, kept, seen_in, with_seat, given_back, with_holder, with_content, with_pin, as_new, IsGuardOf, IsHeld, KeepsHeld, KeepsOthers, IsSound, get_of, get_by, get_new, guard_of, IfHeld, Got, Held, Waits}
-use Rattle.buffer_cache.proofs.Firsts.{pick}
-use Rattle.buffer_cache.proofs.Seated.{held_seat, held_unread}
-use Rattle.buffer_cache.proofs.Blocks.{seat_back_here, seat_with_other, seat_with_here, seat_back_other, seat_new_here, seat_new_other, new_seen, kept_with, kept_back}
+use Rattle.buffer_cache.proofs.Basics.{pick, held_seat, held_unread, seat_back_here, seat_with_other, seat_with_here, seat_back_other, seat_new_here, seat_new_other, new_seen, kept_with, kept_back, some_free}
 use Rattle.buffer_cache.proofs.Sound.{sound_lent, sound_new, sound_back, sound_content}
-use Rattle.buffer_cache.proofs.Enough.{some_free}
 
 pub held_by : (ss : List SeatState) (g : GuardState BufferState) (s : SeatState) → seat_of g.value.block ss ≡ Some s → IsGuardOf g s → IsHeld ss g
 held_by ss g s e is = subst (λ (o : Option SeatState). MatchOption o ⊥ (IsGuardOf g)) (sym e) is

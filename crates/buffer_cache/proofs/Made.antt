@@ -1,6 +1,6 @@
 -- Buffers that are made.
 use Rattle.buffer_cache.proofs.Vocabulary.{◌≡◌, ℕ, zero, suc, ◌+◌, ◌<◌, ◌≤◌, List, [], ◌∷◌, ◌++◌, length, ◌==◌, Bool, true, false, cond, refl, sym, ◌∙◌, ap, subst, arith, None, slice_get, nat_tests, row_of, BufferState, count_of, SeatState, unused, unused_from, has_number, SlotFits, AllSeated, IsSeated}
-use Rattle.buffer_cache.proofs.Firsts.{pick}
+use Rattle.buffer_cache.proofs.Basics.{pick}
 
 -- buffers that aren't valid
 abbrev pub AllNew : List BufferState → Type 0

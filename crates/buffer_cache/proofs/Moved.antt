@@ -1,8 +1,6 @@
 -- A number of the order moved to its end.
 use Rattle.buffer_cache.proofs.Vocabulary.{◌≡◌, ℕ, suc, ◌+◌, ◌<◌, ◌≤◌, List, [], ◌∷◌, ◌++◌, length, get_or, set, Bool, cond, sym, ◌∙◌, ap, subst, arith, if◌then◌else◌, ◌==◌, range_with_len, append_assoc, change_to_end, count_of, is_same, first_or, IsPath, follow, IsRing}
-use Rattle.buffer_cache.proofs.Firsts.{pick}
-use Rattle.buffer_cache.proofs.Seated.{same_number}
-use Rattle.buffer_cache.proofs.Ordered.{range_apart}
+use Rattle.buffer_cache.proofs.Basics.{pick, same_number, range_apart}
 use Rattle.buffer_cache.proofs.Rings.{behind_first, count_here, count_join, last_split, ring_again, Unlinked, Linked, linked}
 
 there_counted : (n : ℕ) (front back : List ℕ) → 1 ≤ count_of (is_same n) (front ++ n ∷ back)

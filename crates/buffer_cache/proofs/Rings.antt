@@ -1,9 +1,6 @@
 -- Rings of linked numbers: one is taken out, and put in behind another.
 use Rattle.buffer_cache.proofs.Vocabulary.{◌≡◌, ◌≢◌, ℕ, zero, suc, ◌+◌, ◌<◌, ◌≤◌, List, [], ◌∷◌, ◌++◌, length, length-set, get_or, set, Bool, true, cond, refl, sym, ◌∙◌, ap, subst, arith, ◌==◌, inl, inr, Some, range_with_len, cases_lt, nat_tests, get_or-set_same, get_or-set_other, length-range_with_len, count_of, is_same, first_or, IsPath, follow, IsRing}
-use Rattle.buffer_cache.proofs.Firsts.{pick}
-use Rattle.buffer_cache.proofs.Once.{counted_at}
-use Rattle.buffer_cache.proofs.Seated.{same_number}
-use Rattle.buffer_cache.proofs.Ordered.{range_at, range_within, range_apart}
+use Rattle.buffer_cache.proofs.Basics.{pick, counted_at, same_number, range_at, range_within, range_apart}
 
 is_equal : (m n : ℕ) → (m == n) ≡ true → m ≡ n
 is_equal m n e = grind (arith, nat_tests)

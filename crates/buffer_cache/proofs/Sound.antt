@@ -1,7 +1,6 @@
 -- What each call keeps of a sound cache, and of what is seen.
 use Rattle.buffer_cache.proofs.Vocabulary.{IsSome, is_none, is_some, ◌&&◌, ◌≡◌, ◌≢◌, ◌⊎◌, inl, inr, ℕ, zero, suc, ◌+◌, ◌<◌, ◌≤◌, List, [], ◌∷◌, ◌++◌, length, Bool, true, false, cond, ◌==◌, refl, sym, ◌∙◌, ap, subst, arith, Option, Some, None, if◌then◌else◌, slice_set, IfSome, option_map, option_and_then, unwrap_or, cases_eq, same_Some, none-some, find, block_at, block_at-set_same, block_at-set_other, change_first, count_of, is_unused, is_settled, UnusedFirst, SeatState, is_number, has_block, is_held_by, is_pinned, is_free, seat_of, kept, seen_in, with_seat, given_back, with_holder, without_holder, with_content, with_pin, as_new, unused_from, unused, AllClean, IsCleanSeat, IsBelow, HoldersBelow, IsSound}
-use Rattle.buffer_cache.proofs.Firsts.{count_push, pick, none_counted, count_same, count_more, count_to_end, length-change_first, length-change_to_end}
-use Rattle.buffer_cache.proofs.Blocks.{equal, equals, seat_has, is_block}
+use Rattle.buffer_cache.proofs.Basics.{count_push, pick, none_counted, count_same, count_more, count_to_end, length-change_first, length-change_to_end, equal, equals, seat_has, is_block}
 
 -- facts of each seat, after a change of one
 holders_change : (n : ℕ) (p : SeatState → Bool) (f : SeatState → SeatState) (ss : List SeatState) → ((s : SeatState) → IsBelow n s.holder → IsBelow n (f s).holder) → HoldersBelow n ss → HoldersBelow n (change_first p f ss)

@@ -1,8 +1,9 @@
 -- The history of a run beside its log: a stop leaves the tree after a beginning of it.
-use Rattle.calls_on_blocks.proofs.Vocabulary.{◌≡◌, ℕ, suc, ◌+◌, List, [], ◌∷◌, ◌++◌, map, refl, sym, ◌∙◌, ap, subst, arith, AllByRecursion, Call, Placed, Trace, Shown, Chain, Explains, Rises, trace_of, Started, Replied, Other, TreeData, Tree, tree_of, Stage, Told, Turn, Happens, Goings, opened, shown_of, runs_more, runs_none, runs_one, AllBelow, AllFrom, run_grew, run_below, AllMayStart, MayStart, Apart, happens_trace, opened_ok, run_explained, run_ok, Theory, Event, State, IsHonest, fresh, makes, next, Sound, sound_keeps, MoveMachine, IsMoving, shown_by, theory_of, Beside, Turns, event_turns}
+use Rattle.calls_on_blocks.proofs.Vocabulary.{◌≡◌, ℕ, suc, ◌+◌, List, [], ◌∷◌, ◌++◌, map, refl, sym, ◌∙◌, ap, subst, arith, AllByRecursion, Call, Placed, Trace, Shown, Chain, Explains, Rises, trace_of, TreeData, Tree, tree_of, Stage, Told, Turn, Happens, Goings, opened, shown_of, runs_more, runs_none, runs_one, AllBelow, AllFrom, run_grew, run_below, AllMayStart, MayStart, Apart, happens_trace, opened_ok, run_explained, run_ok, Theory, Event, State, IsHonest, fresh, makes, next, Sound, sound_keeps, MoveMachine, IsMoving, shown_by, theory_of, Beside, Turns, event_turns}
 use Rattle.plain_tree.specs.Explains.{noted}
 use Rattle.tree_laws.specs.WellFormed.{IsWellFormed}
 use Rattle.calls_on_blocks.proofs.Following.{event_of}
+use Rattle.tree_laws.proofs.Cut.{noted_events}
 
 -- ---- entries of an event
 
@@ -11,11 +12,6 @@ unfolding AllFrom AllBelow
 one_numbered n [] [] from below = tt
 one_numbered n [] (e ∷ es) from below = (let a = from.0 in let b = below.0 in omega (arith, a, b), one_numbered n [] es from.1 below.1)
 one_numbered n (x ∷ old) more from below = one_numbered n old more from below.1
-
-noted_events : (t : Trace) (s : Shown) → (noted t s).events ≡ t.events + 1
-noted_events t (Started h c) = refl
-noted_events t (Replied h r) = refl
-noted_events t Other = refl
 
 happens_now : (w w' : Told) (e : Turn) → Happens w e w' → w'.history.trace.events ≡ w.history.trace.events + 1
 happens_now w w' e o = ap (λ (z : Trace). z.events) (happens_trace w w' e o) ∙ noted_events w.history.trace (shown_of e)

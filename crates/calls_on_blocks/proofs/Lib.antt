@@ -1,4 +1,3 @@
-pub mod Lemmas
 pub mod Vocabulary
 pub mod Lenders
 pub mod Beside

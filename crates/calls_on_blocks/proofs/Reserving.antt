@@ -1,5 +1,5 @@
 -- A start that reserves a child: what the tables and the blocks show of it, and what it finds.
-use Rattle.calls_on_blocks.proofs.Vocabulary.{◌≡◌, ◌≢◌, inl, inr, ℕ, ◌<◌, Bool, true, false, ◌&&◌, not, nat_lt, List, Option, Some, None, refl, sym, ◌∙◌, ap, subst, arith, if◌then◌else◌, is_some, option_map, nat_tests, none-some, same_Some, Dinode, put, hart_count, descriptor_count, same_or, put_same, put_other, any_none, none_any, any_same, eq_self, TablesState, file_named, entry_at, entry_of, is_at, is_nothing, serving, Idle, Inv, has_descriptor, serving_world, Desk, Entry, serving_none, DesksShow, FilesShow, descriptor, file_of, is_taken, lent_by, loaded, place_with, part_same, descriptors_name_files, Blocks, tables_of, Shows, shows_then, Reserves, has_file, reserved}
+use Rattle.calls_on_blocks.proofs.Vocabulary.{◌≡◌, ◌≢◌, inl, inr, ℕ, ◌<◌, Bool, true, false, ◌&&◌, not, nat_lt, List, Option, Some, None, refl, sym, ◌∙◌, ap, subst, arith, if◌then◌else◌, is_some, option_map, nat_tests, none-some, same_Some, Dinode, put, hart_count, descriptor_count, same_or, put_same, put_other, any_none, none_any, any_same, eq_self, TablesState, file_named, entry_at, entry_of, is_at, is_nothing, serving, Idle, Inv, has_descriptor, serving_world, Desk, Entry, serving_none, DesksShow, descriptor, file_of, is_taken, lent_by, loaded, place_with, part_same, descriptors_name_files, Blocks, tables_of, Shows, shows_then, Reserves, has_file, reserved}
 use Rattle.fs_machine.specs.declared.desk.Desk as cards
 use Rattle.inode_machine.specs.World as above
 use Rattle.inodes_on_blocks.specs.ShownTables as tables

@@ -1,5 +1,5 @@
 -- A start below begins above too, and what an inherit reserves is reserved in both.
-use Rattle.calls_on_blocks.proofs.Vocabulary.{◌≡◌, ◌≢◌, ◌⊎◌, inl, inr, ◌<◌, ◌==◌, ◌||◌, ◌&&◌, ℕ, Bool, true, false, not, nat_lt, if◌then◌else◌, Option, Some, None, refl, sym, ◌∙◌, ap, subst, arith, nat_tests, Super, Call, put, hart_count, eq_isnt, or_none, same_or, or_else, Begins, LowerLaws, BeginsBoth, StartsBoth, LockResult, NotLocked, LocksIt, Leave, is_nothing, full, Idle, Inv, machine, Refusal, NoSuchHart, Busy, TooLong, NotEmptyHart, NotCovered, asks_wrong, begin_call, begin_if, begin_inherit, has_descriptor, is_covered, call_wrong, serving_world, why_not, started_rests, begun_same, inherit_begins, loaded, tables_of, nothing, below_laws, SharedState, World, Reserves, layer, shared_of, serves, served_calls, fault_of, refusal_for, child_of, reserved, has_file, child_refusal, others_refusal, start_refusal, begun_by, if_hart, begin_in, begins}
+use Rattle.calls_on_blocks.proofs.Vocabulary.{◌≡◌, ◌≢◌, ◌⊎◌, inl, inr, ◌<◌, ◌==◌, ◌||◌, ◌&&◌, ℕ, Bool, true, false, not, nat_lt, if◌then◌else◌, Option, Some, None, refl, sym, ◌∙◌, ap, subst, arith, nat_tests, Super, Call, put, hart_count, eq_isnt, or_none, same_or, or_else, Begins, LowerLaws, BeginsBoth, StartsBoth, is_nothing, full, Idle, Inv, machine, Refusal, NoSuchHart, Busy, NotEmptyHart, NotCovered, begin_call, begin_if, begin_inherit, has_descriptor, call_wrong, serving_world, why_not, started_rests, begun_same, inherit_begins, loaded, tables_of, nothing, below_laws, SharedState, World, Reserves, layer, shared_of, serves, served_calls, fault_of, refusal_for, child_of, reserved, has_file, child_refusal, others_refusal, start_refusal, begun_by, if_hart, begin_in, begins}
 use Rattle.plain_tree.specs.declared.call.Call.TheVariants as calls
 use Rattle.inode_machine.specs.World as above
 use Rattle.inode_machine.specs.Theory as theory

@@ -1,9 +1,9 @@
 -- What the crates below call things: the words that this crate's definitions and contracts use.
-pub use Rattle.inodes_on_blocks.specs.Vocabulary.{Answer, Both, Commit, Did, Do, Halted, IsGoodSuper, IsNamedPart, IsPlaced, IsWellFormed, LogPart, Lower, Op, Open, Outside, Phase, Ran, Ret, SeatState, Stops, Super, TablesState, Tree, UpToLog, descriptor_count, file_named, hart_count, is_at, joined_count as joined, tree_in, tree_of}
+pub use Rattle.inodes_on_blocks.specs.Vocabulary.{Answer, Both, Commit, Did, Do, IsGoodSuper, IsNamedPart, IsPlaced, IsWellFormed, LogPart, Lower, Op, Outside, Ran, Ret, SeatState, Stops, TablesState, Tree, UpToLog, descriptor_count, file_named, hart_count, is_at, joined_count as joined, tree_in, tree_of}
 unfoldable pub use Rattle.inodes_on_blocks.specs.Vocabulary.{any_below, put, sizes_of}
-pub use Rattle.inode_machine.specs.Vocabulary.{AllHonest, Began, Begins, Call, Chdir, Close, DidEnd, Dup, Event, Fstat, Inherit, Lawful, Link, Mkdir, Open as OpenCall, Placed, Read, Refuses, Reply, Run, Start, State, Step, Theory, Unlink, Write, fresh, makes, next, run}
+pub use Rattle.inode_machine.specs.Vocabulary.{AllHonest, Began, Begins, DidEnd, Event, Lawful, Refuses, Run, Start, State, Step, Theory, fresh, makes, next, run}
 unfoldable pub use Rattle.inode_machine.specs.Vocabulary.{Chain}
-pub use Rattle.fs_machine.specs.Vocabulary.{Installing, Progress, Staging, did_in}
+pub use Rattle.fs_machine.specs.Vocabulary.{did_in}
 pub use Rattle.group_log.specs.Stories.{IsMarked, after_leave, after_write, no_marks}
 pub use Rattle.group_log.specs.declared.marks.Marks.{Marks}
 pub use Rattle.inode_machine.specs.MoveCalls.{Alone, HasOneHistory, MoveMachine, NoneClimbs}
@@ -24,3 +24,11 @@ pub use Rattle.inodes_on_blocks.specs.Below.{World as Blocks, exec as exec_block
 pub use Rattle.inodes_on_blocks.specs.Lowering.{below}
 pub use Rattle.inodes_on_blocks.specs.Programs.{handlers}
 pub use Rattle.tree_laws.specs.MoveLaws.{before}
+pub use Rattle.fs_layout.specs.declared.superblock.Super.{Super}
+pub use Rattle.group_log.specs.declared.commit.Progress.{Progress}
+pub use Rattle.group_log.specs.declared.phase.Phase.{Phase}
+pub use Rattle.group_log.specs.declared.phase.Phase.TheVariants.{Halted, Installing, Open, Staging}
+pub use Rattle.plain_tree.specs.declared.answer.Reply.{Reply}
+pub use Rattle.plain_tree.specs.declared.call.Call.{Call}
+pub use Rattle.plain_tree.specs.declared.call.Call.TheVariants.{Chdir, Close, Dup, Fstat, Inherit, Link, Mkdir, Open as OpenCall, Read, Unlink, Write}
+pub use Rattle.plain_tree.specs.declared.trace.Placed.{Placed}

@@ -1,7 +1,7 @@
 -- What this crate's proofs speak of: its own definitions, and what the crates below and the library call things.
-pub use Rattle.hart_core.proofs.Vocabulary.{Answers, Began, Begins, Bool, Call, Came, Code, Did, DidEnd, DidRun, DidStop, DidWait, Do, Event, EventOf, Explains, HartsOf, HasHistory, IsPlaced, IsSettled, IsWellFormed, Kind, List, Makes, MountFault, None, Op, OpenFile, Option, OutcomeOf, Outside, Passes, Placed, Plain, PlainMade, Ran, Refusal, Refused, Refuses, Ret, SharedState, Some, Start, Started, Step, Stops, Super, Theory, TreeData, Waits, WasIdle, WasStopped, [], ap, arith, block_calls, block_code, buffer_count, calls_of, came_of, did_in, eqb-true, event_of, false, fault_count_of, file_named, get_or, get_or_past, hart_count, inl, inr, joined as joined_count, length, length-append, length-map, length-take, map, map-append, min, nil_from_length, plain_begun, plain_makes, plain_moved, plain_prog, plain_start, plain_step, plain_tried, plain_unless, refl, replicate, set, shared_of, subst, suc, sym, take, trace_in, tree_in, true, with_answer, zero, ℕ, ◌*◌, ◌++◌, ◌+◌, ◌-◌, ◌<◌, ◌∙◌, ◌∷◌, ◌≡◌, ◌≤◌}
+pub use Rattle.hart_core.proofs.Vocabulary.{Answers, Began, Begins, Bool, Code, Did, DidEnd, DidRun, DidStop, DidWait, Do, EventOf, Explains, HartsOf, HasHistory, IsPlaced, IsSettled, IsWellFormed, List, Makes, None, Op, Option, OutcomeOf, Outside, Passes, Plain, PlainMade, Ran, Refusal, Refused, Refuses, Ret, SharedState, Some, Start, Started, Step, Stops, Theory, TreeData, Waits, WasIdle, WasStopped, [], ap, arith, block_calls, block_code, buffer_count, calls_of, came_of, did_in, eqb-true, event_of, false, fault_count_of, file_named, get_or, get_or_past, hart_count, inl, inr, joined as joined_count, length, length-append, length-map, length-take, map, map-append, min, nil_from_length, plain_begun, plain_makes, plain_moved, plain_prog, plain_start, plain_step, plain_tried, plain_unless, refl, replicate, set, shared_of, subst, suc, sym, take, trace_in, tree_in, true, with_answer, zero, ℕ, ◌*◌, ◌++◌, ◌+◌, ◌-◌, ◌<◌, ◌∙◌, ◌∷◌, ◌≡◌, ◌≤◌}
 unfoldable pub use Rattle.hart_core.proofs.Vocabulary.{sizes_of, unused_from}
-pub use Rattle.fs_machine.proofs.Vocabulary.{CheckFile, Claim, Close, Commit, Dinode, Directory, Double, Down, Err, Fails, Freed, Get, Give, Got, GuardState, Held, IfSome, Inode, Join, JoinToWrite, Leave, Lock, LockFile, LockOpen, NewFile, Number, Ok, OnOk, Put, Read, Refused as RefusedState, Reply, Result, SeatState, Settle, SlotState, State, TablesState, TakeDescriptor, TakePlace, Unlock, Up, Walked, Want, claim_first, claims, commit_if, cond, got_by, in_log, in_tables, join_if, join_unless, join_waits, joins, kind_of, limit_of, lock_open, place_named, place_of, read_block, turn_is_out, with_open, write_log}
+pub use Rattle.fs_machine.proofs.Vocabulary.{CheckFile, Claim, Close, Commit, Directory, Double, Down, Err, Fails, Freed, Get, Give, GuardState, Held, IfSome, Join, JoinToWrite, Leave, Lock, LockFile, LockOpen, Number, Ok, OnOk, Put, Read, Reply, Result, SeatState, Settle, SlotState, State, TablesState, TakeDescriptor, TakePlace, Unlock, Up, Walked, claim_first, claims, commit_if, cond, got_by, in_log, in_tables, join_if, join_unless, join_waits, joins, kind_of, limit_of, lock_open, place_named, place_of, read_block, turn_is_out, with_open, write_log}
 unfoldable pub use Rattle.fs_machine.proofs.Vocabulary.{exec, get_of, lock_of}
 pub use Rattle.console.specs.Vocabulary.{Appends, Asked, ExplainRefused, ExplainsRun, Global, Help, IsRefusedFor, IsRefusedSo, Mode, Nothing, Quit, Run, StartsOn, Stop, asked_in, entry_line, line_said, numbered, said_of}
 unfoldable pub use Rattle.console.specs.Vocabulary.{blocks_of, typed_lines}
@@ -57,3 +57,17 @@ pub use Rattle.std.proofs.lemmas.List.{drop-map}
 pub use Rattle.std.specs.Io.BufRead.{DropsThrough, drop_through, take_through}
 pub use Rattle.std.specs.Io.KnownBytes.{IsAtEnd, append_known}
 pub use Rattle.std.specs.Option.{option_to_list}
+pub use Rattle.buffer_cache.specs.declared.got.Got.{Got}
+pub use Rattle.fs_layout.specs.declared.inode.Dinode.{Dinode}
+pub use Rattle.fs_layout.specs.declared.superblock.Super.{Super}
+pub use Rattle.fs_machine.specs.declared.entries.Inode.{Inode}
+pub use Rattle.fs_machine.specs.declared.files.NewFile.{NewFile}
+pub use Rattle.fs_machine.specs.declared.files.OpenFile.{OpenFile}
+pub use Rattle.fs_machine.specs.declared.files.Refused.{Refused as RefusedState}
+pub use Rattle.fs_machine.specs.declared.files.Want.{Want}
+pub use Rattle.fs_machine.specs.declared.kind.Kind.{Kind}
+pub use Rattle.hart_core.specs.declared.events.Came.{Came}
+pub use Rattle.hart_core.specs.declared.events.Event.{Event}
+pub use Rattle.image_tree.specs.declared.fault.MountFault.{MountFault}
+pub use Rattle.plain_tree.specs.declared.call.Call.{Call}
+pub use Rattle.plain_tree.specs.declared.trace.Placed.{Placed}

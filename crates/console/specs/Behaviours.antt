@@ -3,8 +3,7 @@ use Rattle.std.specs.Prelude.{◌≡◌, ℕ, List, [], ◌++◌, Bool, true, fa
 use Rattle.console.specs.Vocabulary.{Appends}
 use Rattle.console.specs.declared.fault.ConsoleFault.{ConsoleFault}
 use Rattle.console.specs.declared.fault.ConsoleFault.TheVariants as faults
-use Rattle.console.specs.Sessions.{EventOfCall}
-use Rattle.console.specs.Notes.{NotesOf, all_noted}
+use Rattle.console.specs.Basics.{EventOfCall, NotesOf, all_noted}
 
 -- From this state these things happen in their order, this is printed, and it ends so, in that state.
 abbrev pub Behaviour : Type 0 → Type 0 → Type 1

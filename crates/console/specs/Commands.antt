@@ -15,11 +15,8 @@ use Rattle.console.specs.declared.plan.Until.{Until}
 use Rattle.console.specs.declared.verb.Verb.{Verb}
 use Rattle.console.specs.declared.doing.Doing.{Doing}
 use Rattle.console.specs.Behaviours.{Behaviour, gives, in_case, followed_by, takes_memory, prints}
-use Rattle.console.specs.Lines.{called}
-use Rattle.console.specs.Queues.{Left, left_to}
-use Rattle.console.specs.Sessions.{SessionOf, EventOfCall, Happens, count_of, doing_at}
+use Rattle.console.specs.Basics.{called, Left, left_to, SessionOf, EventOfCall, Happens, count_of, doing_at, verb_of}
 use Rattle.console.specs.Told.{told}
-use Rattle.console.specs.Verbs.{verb_of}
 
 -- ---- one event
 

@@ -4,10 +4,8 @@ use Rattle.console.specs.Vocabulary.{styled_decimal, format_spec, Answer, Fd, Co
 use Rattle.console.specs.declared.notes.Note.{Note}
 use Rattle.console.specs.declared.notes.What.{What}
 use Rattle.console.specs.declared.notes.What.TheVariants.{Start, Refused, Ran, Waits, Done, Stopped}
-use Rattle.console.specs.Notes.{NotesOf, rows_in}
-use Rattle.console.specs.Numbers.{start_number, stop_number}
+use Rattle.console.specs.Basics.{NotesOf, rows_in, start_number, stop_number, word_of}
 use Rattle.console.specs.Told.{refused_text, stopped_text}
-use Rattle.console.specs.Verbs.{word_of}
 
 -- ---- --last
 

@@ -4,7 +4,7 @@ use Rattle.console.specs.Vocabulary.{Appends, blocks_of, Placed, Explains, TreeD
 use Rattle.explain.specs.declared.refused.ExplainRefused.TheVariants as refused
 use Rattle.console.specs.declared.fault.ConsoleFault.{ConsoleFault}
 use Rattle.console.specs.declared.fault.ConsoleFault.TheVariants as faults
-use Rattle.console.specs.Notes.{KeptRun}
+use Rattle.console.specs.Basics.{KeptRun}
 
 abbrev pub WhereSet : Bool → Type 0 → Type 0 → Type 0
 WhereSet true this other = this

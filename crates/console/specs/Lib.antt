@@ -1,3 +1,4 @@
+pub mod Basics
 pub mod Vocabulary
 pub mod Behaviours
 pub mod Commands

@@ -7,13 +7,9 @@ use Rattle.console.specs.declared.fault.ConsoleFault.TheVariants as faults
 use Rattle.console.specs.Behaviours.{Behaviour, DoesNothing, Runs, followed_by, gives, in_case, prints, takes_memory}
 use Rattle.console.specs.Commands.{RunOf, all_harts, line, state}
 use Rattle.console.specs.Histories.{History, history_of}
-use Rattle.console.specs.Images.{bytes_for}
-use Rattle.console.specs.Notes.{NotesOf, no_notes}
-use Rattle.console.specs.Queues.{Left, none_left}
+use Rattle.console.specs.Basics.{bytes_for, NotesOf, no_notes, Left, none_left, SessionOf, doing_at, is_joined, locks_of, word_of}
 use Rattle.console.specs.Runs.{EndsSo, RunsNone}
 use Rattle.console.specs.Scripts.{HandsOut, TakesNoImage}
-use Rattle.console.specs.Sessions.{SessionOf, doing_at, is_joined, locks_of}
-use Rattle.console.specs.Verbs.{word_of}
 
 -- ---- what is told
 

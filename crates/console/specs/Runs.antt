@@ -7,10 +7,7 @@ use Rattle.console.specs.Behaviours.{Runs}
 use Rattle.console.specs.Commands.{lines, state}
 use Rattle.console.specs.Events.{last_of, timeline_of}
 use Rattle.console.specs.Histories.{History, TellsHistory, WhereSet}
-use Rattle.console.specs.Lines.{CourseOf, TellsLine, script_course}
-use Rattle.console.specs.Notes.{NotesOf, no_notes, run_in}
-use Rattle.console.specs.Queues.{Left}
-use Rattle.console.specs.Sessions.{SessionOf}
+use Rattle.console.specs.Basics.{CourseOf, TellsLine, script_course, NotesOf, no_notes, run_in, Left, SessionOf}
 
 -- ---- after the lines
 

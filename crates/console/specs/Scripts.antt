@@ -4,9 +4,8 @@ use Rattle.console.specs.Vocabulary.{Appends, Global, blocks_of, shape_of, TreeD
 use Rattle.console.specs.declared.fault.ConsoleFault.{ConsoleFault}
 use Rattle.console.specs.declared.fault.ConsoleFault.TheVariants as faults
 use Rattle.console.specs.Histories.{WhereSet, history_of}
-use Rattle.console.specs.Images.{bytes_for}
+use Rattle.console.specs.Basics.{bytes_for, SessionOf}
 use Rattle.console.specs.Runs.{RunsReader}
-use Rattle.console.specs.Sessions.{SessionOf}
 
 -- the image, or there is no memory for it
 abbrev pub IsUntaken : {A : Type 0} → Result A ConsoleFault → Type 0

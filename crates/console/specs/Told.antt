@@ -4,9 +4,7 @@ use Rattle.console.specs.Vocabulary.{Came, Outcome, Stop, StartRefused, numbered
 use Rattle.hart_core.specs.declared.events.Came.TheVariants as came
 use Rattle.hart_core.specs.declared.outcome.Outcome.TheVariants as outcome
 use Rattle.console.specs.declared.verb.Verb.{Verb}
-use Rattle.console.specs.Numbers.{start_name, start_number, stop_name, stop_number}
-use Rattle.console.specs.Sessions.{EventOfCall, hart_in}
-use Rattle.console.specs.Verbs.{word_of}
+use Rattle.console.specs.Basics.{start_name, start_number, stop_name, stop_number, EventOfCall, hart_in, word_of}
 
 abbrev pub refused_text : StartRefused → List ℕ
 refused_text why = numbered_text (codes "refused") (start_number why) (start_name why)

@@ -1,8 +1,7 @@
 -- What the crates below call things: the words that this crate's definitions and contracts use.
-pub use Rattle.explain.specs.Vocabulary.{Call, Came, Event, Explains, Global, IsFirstDamage, IsWellFormed, MountFault, Placed, TreeData, WorldOf, trace_in, tree_in}
+pub use Rattle.explain.specs.Vocabulary.{Explains, IsFirstDamage, IsWellFormed, TreeData, WorldOf, trace_in, tree_in}
 unfoldable pub use Rattle.explain.specs.Vocabulary.{blocks_of}
-pub use Rattle.script.specs.Vocabulary.{Answer, Appends, Count, Done as IsDone, Failed, Fd, Full, Kind, Stat, cause_name, cause_number, full_name, full_number}
-pub use Rattle.fs_machine.specs.Vocabulary.{Halted, Installing, Open, Phase, Staging}
+pub use Rattle.script.specs.Vocabulary.{Appends, cause_name, cause_number, full_name, full_number}
 pub use Rattle.hart_core.specs.declared.outcome.Outcome.{Outcome}
 pub use Rattle.script.specs.declared.mode.Mode.{Mode}
 pub use Rattle.hart_core.specs.declared.outcome.Stop.{Stop}
@@ -31,3 +30,14 @@ pub use Rattle.script.specs.Tails.{TailView, tail, with_event}
 pub use Rattle.script.specs.declared.command.ScriptFault.{ScriptFault}
 pub use Rattle.script.specs.declared.mode.Schedule.{Schedule}
 pub use Rattle.script.specs.declared.mode.Schedule.TheVariants.{Listed, Round}
+pub use Rattle.fs_machine.specs.declared.kind.Kind.{Kind}
+pub use Rattle.group_log.specs.declared.phase.Phase.{Phase}
+pub use Rattle.group_log.specs.declared.phase.Phase.TheVariants.{Halted, Installing, Open, Staging}
+pub use Rattle.hart_core.specs.declared.events.Came.{Came}
+pub use Rattle.hart_core.specs.declared.events.Event.{Event}
+pub use Rattle.image_tree.specs.declared.fault.MountFault.{MountFault}
+pub use Rattle.plain_tree.specs.declared.answer.Answer.{Answer}
+pub use Rattle.plain_tree.specs.declared.answer.Answer.TheVariants.{Count, Done as IsDone, Failed, Fd, Full, Stat}
+pub use Rattle.plain_tree.specs.declared.call.Call.{Call}
+pub use Rattle.plain_tree.specs.declared.trace.Placed.{Placed}
+pub use Rattle.std.specs.declared.alloc.Global.{Global}

@@ -1,7 +1,7 @@
 -- What this crate's proofs speak of: its own definitions, and what the crates below and the library call things.
 pub use Rattle.console_threads.specs.Vocabulary.{Appends, Call, Came, ConsoleFault, Event, HandsBack, IsWellFormed, Mode, MountFault, NotesOf, PrintsAll, Reply, SeatV, StoredRun, What, call_said, called, count_of, hart_in, history_on, no_notes, replies_of, with_what}
 pub use Rattle.console.proofs.Vocabulary.{Bool, Err, IsUntold, JudgesFault, KeptRun, List, None, Ok, OnOk, Option, Result, Some, TellsHistory, WhereSet, [], ap, appends_both, appends_nothing, arith, at_drop_all, at_drop_more, copy_for, drop, false, get_or, inl, inr, length, length-append, length-drop, map, min, nil_from_length, refl, run_in, subst, sym, true, with_note, ℕ, ◌*◌, ◌++◌, ◌+◌, ◌-◌, ◌<◌, ◌∙◌, ◌∷◌, ◌≡◌, ◌≤◌}
-pub use Rattle.hart_runner.proofs.Vocabulary.{All, LedgerGhosts as Ghosts, crosses, slice_index_or, ◌≢◌}
+pub use Rattle.hart_runner.proofs.Vocabulary.{All, crosses, slice_index_or, ◌≢◌}
 pub use Rattle.image_tree.proofs.Vocabulary.{append_assoc, sum_by-cons, ◌↔◌}
 pub use Rattle.console_threads.specs.Worked.{AllAnswered, EachAnswered, EachWorked, HasMade, HasMadeAll, HasWorked, eight_harts}
 unfoldable pub use Rattle.console_threads.specs.Worked.{AnswersSome}
@@ -23,3 +23,4 @@ pub use Rattle.hart_runner.proofs.Eight.{eight}
 pub use Rattle.hart_runner.proofs.Sent.{seat_send}
 pub use Rattle.script.specs.declared.call.CallLine.{CallLine}
 pub use Rattle.std.proofs.lemmas.List.Elements.{All-cons, All-head, All-nil, All-tail}
+pub use Rattle.std.specs.declared.sync.ledger.Ledger.{Ghosts}

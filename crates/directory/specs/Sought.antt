@@ -1,5 +1,5 @@
 -- What is sought among the slots of a directory, and what is found.
-use Rattle.std.specs.Prelude.{ℕ, ◌<◌, Option, IfSome}
+use Rattle.std.specs.Prelude.{◌<◌, Option, IfSome}
 use Rattle.directory.specs.Vocabulary.{IsName}
 use Rattle.directory.specs.Programs.{Aim, Named, Unused, Entry, most_slots}
 use Rattle.directory.specs.declared.found.Found.{Found}

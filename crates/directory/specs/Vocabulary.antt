@@ -1,5 +1,5 @@
 -- What the crates below call things: the words that this crate's definitions and contracts use.
-pub use Rattle.inode_data.specs.Vocabulary.{Answer, CanDo, Dinode, Do, First, Goes, HandState as Hand, IsAfter, MatchOption, Op, Oracle, P, Prepared, Prog, Put, Ret, StoreReady, Super, asks, bare, bind, bits_per_block, block_at, block_len, bytes_at, bytes_of, inode_block, left_after, op_in, outcome, overwrite, store, store_asked, store_left, store_place, unmarked, with_bytes, with_content}
+pub use Rattle.inode_data.specs.Vocabulary.{Answer, CanDo, Do, Goes, IsAfter, MatchOption, Oracle, P, Prepared, Prog, Put, Ret, StoreReady, asks, bare, bind, bits_per_block, block_at, block_len, bytes_at, bytes_of, inode_block, left_after, op_in, outcome, overwrite, store, store_asked, store_left, store_place, unmarked, with_bytes, with_content}
 unfoldable pub use Rattle.inode_data.specs.Vocabulary.{answer_in}
 pub use Rattle.fs_layout.specs.Widths.{dirent_len, dirent_name_at, dirents_per_block, name_len}
 pub use Rattle.fs_layout.specs.declared.entry.Dirent.TheVariants.{Free, Used}
@@ -23,3 +23,8 @@ pub use Rattle.inode_data.specs.declared.write_part.Written.{Written}
 pub use Rattle.plain_tree.specs.Tree.{dot, dotdot}
 pub use Rattle.std.specs.Option.{option_map}
 pub use Rattle.std.specs.Str.{bytes_eq}
+pub use Rattle.fs_layout.specs.declared.inode.Dinode.{Dinode}
+pub use Rattle.fs_layout.specs.declared.superblock.Super.{Super}
+pub use Rattle.fs_machine.specs.declared.hand.Hand.{Hand}
+pub use Rattle.fs_machine.specs.declared.hand.Place.TheVariants.{First}
+pub use Rattle.fs_machine.specs.declared.op.Op.{Op}

@@ -1,8 +1,9 @@
 -- What the proofs of this crate's functions use: its lemmas, and what they speak of.
 pub use Rattle.explain.proofs.Vocabulary.{ExplainRefused, Global, IsRefusedMount, Ok, Placed, Vec, any_climbs, inr, subst, ◌∙◌}
-pub use Rattle.hart_core.proofs.Vocabulary.{Call, IsCall, Option, ap, refl, sym}
+pub use Rattle.hart_core.proofs.Vocabulary.{IsCall, Option, ap, refl, sym}
 pub use Rattle.explain.proofs.Mounting.{refused_mount}
 pub use Rattle.explain.proofs.Running.{found_played, nowhere}
 pub use Rattle.explain.specs.Played.{IsFound}
 pub use Rattle.hart_core.proofs.RightCalls.{right_call}
 pub use Rattle.std.proofs.Common.{rules}
+pub use Rattle.plain_tree.specs.declared.call.Call.{Call}

@@ -1,5 +1,5 @@
 -- What this crate's proofs speak of: its own definitions, and what the crates below and the library call things.
-pub use Rattle.hart_core.proofs.Vocabulary.{All, All-cons, All-nil, Came, DeviceFault, Event, Explains, IsWellFormed, List, MountFault, Placed, Rests, Trace, TracedCall, TreeData, WorldOf, [], call_climbs, false, inl, inr, subst, trace_in, tree_in, ℕ, ◌∙◌, ◌∷◌, ◌≡◌}
+pub use Rattle.hart_core.proofs.Vocabulary.{All, All-cons, All-nil, Explains, IsWellFormed, List, Rests, TreeData, WorldOf, [], call_climbs, false, inl, inr, subst, trace_in, tree_in, ℕ, ◌∙◌, ◌∷◌, ◌≡◌}
 unfoldable pub use Rattle.hart_core.proofs.Vocabulary.{sizes_of}
 pub use Rattle.explain.specs.Vocabulary.{Global, any_climbs}
 unfoldable pub use Rattle.explain.specs.Vocabulary.{blocks_of}
@@ -10,6 +10,12 @@ pub use Rattle.explain.specs.declared.play.Played.{Played}
 pub use Rattle.explain.specs.declared.refused.ExplainRefused.{ExplainRefused}
 pub use Rattle.hart_core.proofs.Histories.{explained}
 pub use Rattle.image_tree.specs.Damage.{JudgesFault}
-pub use Rattle.image_tree.specs.declared.fault.MountFault.TheVariants.{Damaged, NoMemory}
+pub use Rattle.image_tree.specs.declared.fault.MountFault.TheVariants.{Damaged, DeviceFault, NoMemory}
 pub use Rattle.std.proofs.Common.{MatchResult}
 pub use Rattle.std.proofs.lemmas.Bool.{or_parts}
+pub use Rattle.hart_core.specs.declared.events.Came.{Came}
+pub use Rattle.hart_core.specs.declared.events.Event.{Event}
+pub use Rattle.image_tree.specs.declared.fault.MountFault.{MountFault}
+pub use Rattle.plain_tree.specs.declared.trace.Placed.{Placed}
+pub use Rattle.plain_tree.specs.declared.trace.Trace.{Trace}
+pub use Rattle.plain_tree.specs.declared.trace.TracedCall.{TracedCall}

@@ -1,5 +1,5 @@
 -- What the crates below call things: the words that this crate's definitions and contracts use.
-pub use Rattle.hart_core.specs.Vocabulary.{Call, EventOf, Explains, IsWellFormed, MountFault, Outside, Placed, Trace, TreeData, fault_count_of, tree_in}
+pub use Rattle.hart_core.specs.Vocabulary.{EventOf, Explains, IsWellFormed, Outside, TreeData, fault_count_of, tree_in}
 unfoldable pub use Rattle.block_device.specs.Blocks.{blocks_of}
 pub use Rattle.hart_core.specs.Runs.{FoundRoom, HasHistory, IsHistory, IsMounted, trace_in}
 pub use Rattle.hart_core.specs.declared.events.Event.{Event}
@@ -11,3 +11,7 @@ pub use Rattle.image_tree.specs.Damage.{IsFirstDamage}
 pub use Rattle.image_tree.specs.Faults.{damage_name, damage_number}
 pub use Rattle.plain_tree.specs.declared.refused.NoMemory.{NoMemory}
 pub use Rattle.tree_histories.specs.Told.{any_climbs, any_full}
+pub use Rattle.image_tree.specs.declared.fault.MountFault.{MountFault}
+pub use Rattle.plain_tree.specs.declared.call.Call.{Call}
+pub use Rattle.plain_tree.specs.declared.trace.Placed.{Placed}
+pub use Rattle.plain_tree.specs.declared.trace.Trace.{Trace}

@@ -1,5 +1,10 @@
 -- Each part has an operation to make.
-use Rattle.file_table.proofs.Vocabulary.{HasOne, first, Hand, load_left, file_left, open_left, LockFile, LockOpen, load_has}
+use Rattle.inode_table.proofs.Vocabulary.{HasOne, first, load_left}
+use Rattle.fs_machine.specs.declared.hand.Hand.{Hand}
+use Rattle.file_table.specs.LockingFiles.{file_left, open_left}
+use Rattle.file_table.specs.declared.lock_file.LockFile.{LockFile}
+use Rattle.file_table.specs.declared.lock_open.LockOpen.{LockOpen}
+use Rattle.inode_table.proofs.HasOnes.{load_has}
 use Rattle.file_table.specs.declared.lock_file.LockFile.TheVariants as file
 use Rattle.file_table.specs.declared.lock_open.LockOpen.TheVariants as opened
 

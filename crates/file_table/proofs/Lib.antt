@@ -1,3 +1,2 @@
 pub mod Lemmas
-pub mod Vocabulary
 pub mod HasOnes

@@ -1,5 +1,5 @@
 -- What the crates below call things: the words that this crate's definitions and contracts use.
-pub use Rattle.inode_table.specs.Vocabulary.{Dinode, Do, Goes, Hand as HandState, IsAfter, Op, P, Ret, Seat as SeatState, bare, bind, inode_at, left_after, unmarked}
+pub use Rattle.inode_table.specs.Vocabulary.{Do, Goes, IsAfter, P, Ret, bare, bind, inode_at, left_after, unmarked}
 unfoldable pub use Rattle.inode_table.specs.Vocabulary.{answer_in}
 pub use Rattle.fs_machine.specs.Inodes.{LockedState, Locks, Refuses}
 pub use Rattle.fs_machine.specs.declared.files.OpenFile.{OpenFile}
@@ -8,3 +8,7 @@ pub use Rattle.fs_machine.specs.declared.files.Want.{Want}
 pub use Rattle.inode_table.specs.HeldInodes.{IsLoadedAt, number_in, record_in}
 pub use Rattle.inode_table.specs.Loading.{load_asked, load_left}
 pub use Rattle.inode_table.specs.Programs.{inode_block, load_unless}
+pub use Rattle.fs_layout.specs.declared.inode.Dinode.{Dinode}
+pub use Rattle.fs_machine.specs.declared.hand.Hand.{Hand as HandState}
+pub use Rattle.fs_machine.specs.declared.hand.Seat.{Seat as SeatState}
+pub use Rattle.fs_machine.specs.declared.op.Op.{Op}

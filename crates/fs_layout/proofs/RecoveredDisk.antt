@@ -1,5 +1,5 @@
 -- Laws of the recovered disk, one fact each.
-use Rattle.fs_layout.proofs.Vocabulary.{◌≡◌, ◌≢◌, ◌⊎◌, ⊎_elim, inl, inr, ℕ, zero, suc, ◌+◌, ◌^◌, ◌<◌, ◌≤◌, ◌==◌, nat_lt, Bool, true, false, cond, List, [], ◌∷◌, length, drop, get_or, set, refl, sym, ap, ◌∙◌, arith, Some, None, AllByRecursion, position_or_len, option_map_or, position_or_len_is, passes_at_first, fails_before_first, eq-eqb, ne_eqb, eqb-true, eqb-false, cases_lt, nat_tests, block_at-set_same, block_at-set_other, overwrite, u32s_at, spell_log_head, head_numbers, Super, super_fields, block_at, sizes_of, log_head_at, log_count, logged, place_of, overlay, recovered}
+use Rattle.fs_layout.proofs.Vocabulary.{◌≡◌, ◌≢◌, ◌⊎◌, ⊎_elim, inl, inr, ℕ, zero, suc, ◌+◌, ◌^◌, ◌<◌, ◌≤◌, ◌==◌, nat_lt, Bool, true, false, cond, List, [], ◌∷◌, length, drop, get_or, set, refl, sym, ap, ◌∙◌, arith, Some, None, AllByRecursion, position_or_len, option_map_or, position_or_len_is, passes_at_first, fails_before_first, eq-eqb, ne_eqb, eqb-true, eqb-false, cases_lt, nat_tests, block_at-set_other, overwrite, u32s_at, spell_log_head, head_numbers, Super, super_fields, block_at, sizes_of, log_head_at, log_count, logged, place_of, overlay, recovered}
 use Rattle.fs_layout.proofs.Numbers.{length-u32s_at}
 use Rattle.fs_layout.proofs.Words.{front-overwrite, head_numbers-spell}
 

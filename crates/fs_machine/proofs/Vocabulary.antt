@@ -1,5 +1,5 @@
 -- What this crate's proofs speak of: its own definitions, and what the crates below and the library call things.
-pub use Rattle.group_log.proofs.Vocabulary.{Bool, BufferState, Err, GetLaws, Got, GuardState, Halted, HasRoom, IfFailed, IfMade, Installing, IsGuardOf, IsHeld, IsMember, IsOutsideLog, IsSome, IsSoundLog, IsWhole, LeadsToWhole, Left, List, LogState, MatchOption, None, Ok, Open, Option, Phase, Progress, Result, SeatState, Some, Staging, [], ap, arith, as_new, back_laws, cases_eq, change_first, change_laws, change_to_end, cond, count_of, eqb-true, false, fill_laws, get_by, get_laws, get_new, get_or, given_back, group_in, has, has_block, holder_of, if◌then◌else◌, inl, inr, is_held_by, is_none, is_number, is_some, join_waits, joined, kept, left_at, length, limit_of, members_with, nat_lt, nat_tests, next_phase, not, option_and_then, option_map, phase_at_leave, pin_keeps, pin_seen, progress_at, refl, replicate, seat_of, seats_after, seats_at_fault, seen, seen_in, set, slice_get, slice_index, slice_set, sound_pin, subst, suc, sym, true, unwrap_or, with_block, with_content, with_holder, with_pin, with_seat, without_holder, write_of, write_to, zero, ℕ, ◌&&◌, ◌++◌, ◌+◌, ◌-◌, ◌<◌, ◌==◌, ◌∙◌, ◌∷◌, ◌≡◌, ◌≢◌, ◌≤◌, ◌⊎◌}
+pub use Rattle.group_log.proofs.Vocabulary.{Bool, BufferState, Err, GetLaws, GuardState, HasRoom, IfFailed, IfMade, IsGuardOf, IsHeld, IsMember, IsOutsideLog, IsSome, IsSoundLog, IsWhole, LeadsToWhole, List, LogState, MatchOption, None, Ok, Option, Result, SeatState, Some, [], ap, arith, as_new, back_laws, cases_eq, change_first, change_laws, change_to_end, cond, count_of, eqb-true, false, fill_laws, get_by, get_laws, get_new, get_or, given_back, group_in, has, has_block, holder_of, if◌then◌else◌, inl, inr, is_held_by, is_none, is_number, is_some, join_waits, joined, kept, left_at, length, limit_of, members_with, nat_lt, nat_tests, next_phase, not, option_and_then, option_map, phase_at_leave, pin_keeps, pin_seen, progress_at, refl, replicate, seat_of, seats_after, seats_at_fault, seen, seen_in, set, slice_get, slice_index, slice_set, sound_pin, subst, suc, sym, true, unwrap_or, with_block, with_content, with_holder, with_pin, with_seat, without_holder, write_of, write_to, zero, ℕ, ◌&&◌, ◌++◌, ◌+◌, ◌-◌, ◌<◌, ◌==◌, ◌∙◌, ◌∷◌, ◌≡◌, ◌≢◌, ◌≤◌, ◌⊎◌}
 unfoldable pub use Rattle.group_log.proofs.Vocabulary.{get_of}
 pub use Rattle.buffer_cache.proofs.Vocabulary.{IfHeld, IfSome, OnErr, OnOk, SlotState, filled, get_or_from_slice_get, is_count_by, is_out, length-set, lock_at as lock_row_at, none-some, position, position_or_len, row_of, same_Some, set_same, slice_get-set_other, slice_get-set_same, slice_get_within, ◌↔◌}
 unfoldable pub use Rattle.buffer_cache.proofs.Vocabulary.{IsOut, lock_of, unlocked}
@@ -75,3 +75,8 @@ pub use Rattle.group_log.specs.Waiting.{faults_at}
 pub use Rattle.sleep_lock.proofs.Locks.{lock_laws}
 pub use Rattle.std.proofs.Common.{IfNone, IsTrue, find, ⊎_elim}
 pub use Rattle.std.specs.Prelude.{IsNone, count_by}
+pub use Rattle.buffer_cache.specs.declared.got.Got.{Got}
+pub use Rattle.group_log.specs.declared.commit.Progress.{Progress}
+pub use Rattle.group_log.specs.declared.log.Left.{Left}
+pub use Rattle.group_log.specs.declared.phase.Phase.{Phase}
+pub use Rattle.group_log.specs.declared.phase.Phase.TheVariants.{Halted, Installing, Open, Staging}

@@ -1,5 +1,5 @@
 -- What the crates below call things: the words that this crate's definitions and contracts use.
-pub use Rattle.group_log.specs.Vocabulary.{IsOutsideLog, MatchOption, SeatState, Super, block_at, count_of, given_back, holder_of, is_held_by, kept, most_faults, seat_of, seen_in, unwrap_or, with_content, with_pin, with_seat}
+pub use Rattle.group_log.specs.Vocabulary.{IsOutsideLog, MatchOption, SeatState, block_at, count_of, given_back, holder_of, is_held_by, kept, most_faults, seat_of, seen_in, unwrap_or, with_content, with_pin, with_seat}
 unfoldable pub use Rattle.group_log.specs.Vocabulary.{get_of}
 pub use Rattle.buffer_cache.specs.Vocabulary.{GuardState, SlotState, option_map}
 pub use Rattle.atomic_programs.specs.Prog.{Did, Do, OfNext, Prog, Ran, Ret, Stops, Waits, advance, asks, did_in, once, unmarked}
@@ -29,3 +29,4 @@ pub use Rattle.group_log.specs.declared.phase.Phase.{Phase}
 pub use Rattle.sleep_lock.specs.Row.{row_of}
 unfoldable pub use Rattle.sleep_lock.specs.Row.{IsOut, lock_of}
 pub use Rattle.sleep_lock.specs.SleepLock.{filled, taken}
+pub use Rattle.fs_layout.specs.declared.superblock.Super.{Super}

@@ -1,7 +1,6 @@
 -- What a leave keeps of a log.
 use Rattle.group_log.proofs.Vocabulary.{◌≡◌, ℕ, ◌==◌, List, [], ◌∷◌, refl, ◌∙◌, arith, Option, None, slice_set, if◌then◌else◌, eqb-true, Super, SeatState, Open, Staging, Free, Commits, joined, phase_at_leave, left_at, IsSoundLog}
-use Rattle.group_log.proofs.Seats.{pick}
-use Rattle.group_log.proofs.Rooms.{rooms_leave, length-set_member}
+use Rattle.group_log.proofs.Basics.{pick, rooms_leave, length-set_member}
 
 pub commits_none : (n : ℕ) (ks : List ℕ) → left_at n ks ≡ Commits → n ≡ 0
 commits_none n [] e = absurd (cc e)

@@ -1,3 +1,4 @@
+pub mod Basics
 pub mod Lemmas
 pub mod Vocabulary
 pub mod Rooms

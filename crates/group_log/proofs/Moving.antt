@@ -1,7 +1,6 @@
 -- What each call's clauses say of a stop.
 use Rattle.group_log.proofs.Vocabulary.{◌≡◌, ◌≢◌, ◌⊎◌, inl, inr, ℕ, zero, suc, ◌+◌, ◌<◌, ◌≤◌, ◌==◌, List, [], ◌∷◌, length, Bool, true, false, if◌then◌else◌, refl, sym, ◌∙◌, ap, subst, arith, add-one, eqb-true, Super, recovered, IsOutsideLog, seen, Phase, Open, Staging, Installing, Halted, Left, Free, Commits, Progress, WaitsFor as Waits, Wrote, Ended, Failed, joined, is_point, next_phase, phase_at_leave, LogState, left_at, progress_at, IfWaits, IfMade, IfFailed, StaysOrBecomes, Blocks, AgreeOutside, commit_cut, IsLoggedRun, recovered_of, seen_of, is_under_way, is_settled, is_running, IsMove, begins_at, Stands, IsCommitMove, IsRunOfLog, LogsAreLoggedRuns, LogsStopAtACut, MovesCompose}
-use Rattle.group_log.proofs.Seats.{pick}
-use Rattle.group_log.proofs.Cuts.{stops_at_a_cut}
+use Rattle.group_log.proofs.Basics.{pick, stops_at_a_cut}
 
 pub never : {P : Type 0} → false ≡ true → P
 never e = absurd (cc e)

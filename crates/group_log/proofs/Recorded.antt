@@ -1,9 +1,6 @@
 -- A record, with its parts as the calls give them.
 use Rattle.group_log.proofs.Vocabulary.{◌≡◌, ◌≢◌, ◌⊎◌, inl, inr, ℕ, ◌<◌, ◌≤◌, ◌==◌, List, [], length, Bool, true, false, refl, sym, ◌∙◌, ap, subst, arith, Option, Some, None, IsSome, if◌then◌else◌, ne_eqb, IfSome, option_map, unwrap_or, GuardState, Super, BufferState, count_of, SeatState, has_block, is_pinned, seat_of, seen_in, with_seat, with_content, with_pin, given_back, IsHeld, HasRecorded, Open, has, with_block, HasRoom, members_with, IsHome, IsSoundLog}
-use Rattle.group_log.proofs.Rooms.{rooms_one_more}
-use Rattle.group_log.proofs.Seats.{pick, seat_changed}
-use Rattle.group_log.proofs.Getting.{held_cached}
-use Rattle.group_log.proofs.Kept.{some_recorded}
+use Rattle.group_log.proofs.Basics.{rooms_one_more, pick, seat_changed, held_cached, some_recorded}
 use Rattle.group_log.proofs.Recording.{where_is, recorded_good}
 
 pub room_to_add : (d : List (List ℕ)) (ss : List SeatState) (sizes : Super) (ks : List ℕ) (ms : List (Option ℕ)) (b hart : ℕ) → IsSoundLog d ss sizes ks ms Open → HasRoom ms hart → length ks < 30

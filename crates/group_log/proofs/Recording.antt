@@ -1,9 +1,6 @@
 -- What a record keeps of a log.
 use Rattle.group_log.proofs.Vocabulary.{◌≡◌, ◌≢◌, inl, inr, ℕ, zero, suc, ◌+◌, ◌-◌, ◌<◌, ◌≤◌, ◌==◌, ◌||◌, min, List, [], ◌∷◌, ◌++◌, length, get_or, true, false, refl, sym, ◌∙◌, ap, subst, arith, Option, Some, None, IsSome, if◌then◌else◌, cases_eq, eqb-true, eqb-false, MatchOption, option_map, Super, count_of, SeatState, has_block, is_pinned, seat_of, seen_in, with_seat, with_content, with_pin, without_holder, given_back, KeepsRecorded, HasRecorded, Open, has, with_block, rooms, HasRoom, one_more, members_with, IsHome, IsSoundLog}
-use Rattle.group_log.proofs.Rooms.{rooms_one_more, length-one_more}
-use Rattle.group_log.proofs.Seats.{pick, count_more, count_same, seat_changed, seat_of_others, seat_given_back, others_given_back}
-use Rattle.group_log.proofs.Kept.{kept_back, kept_change, some_recorded, recorded_of}
-use Rattle.group_log.proofs.Writes.{not_inside}
+use Rattle.group_log.proofs.Basics.{rooms_one_more, length-one_more, pick, count_more, count_same, seat_changed, seat_of_others, seat_given_back, others_given_back, kept_back, kept_change, some_recorded, recorded_of, not_inside}
 
 pub length-push : (ks : List ℕ) (b : ℕ) → length (ks ++ b ∷ []) ≡ length ks + 1
 length-push [] b = omega arith

@@ -1,9 +1,6 @@
 -- What the calls of the cache do to its buffers, as the log needs it.
 use Rattle.group_log.proofs.Vocabulary.{◌≡◌, ◌≢◌, ℕ, ◌+◌, ◌≤◌, List, [], ◌∷◌, ◌++◌, Bool, true, false, cond, refl, sym, ◌∙◌, ap, arith, Option, Some, None, if◌then◌else◌, eqb-true, ne_eqb, option_map, find, change_first, change_to_end, count_of, SeatState, has_block, is_number, seat_of, with_seat, without_holder, given_back}
-
-pub pick : (t : Bool) (P : Bool → Type 0) → (t ≡ true → P true) → (t ≡ false → P false) → P t
-pick true P yes_ no_ = yes_ refl
-pick false P yes_ no_ = no_ refl
+pub use Rattle.buffer_cache.proofs.Firsts.{pick, count_to_end}
 
 -- ---- the first that passes, after a change
 
@@ -119,18 +116,6 @@ count_less {X} q p f (y ∷ xs) x e was isnt =
     omega (arith, a, b))
     (λ _ later. let a = count_less q p f xs x later was isnt in omega (arith, a))
     e
-
-count_push : {X : Type 0} (q : X → Bool) (xs : List X) (x : X) → count_of q (xs ++ x ∷ []) ≡ count_of q xs + cond (q x) 1 0
-count_push q [] x = omega arith
-count_push q (y ∷ xs) x = let a = count_push q xs x in omega (arith, a)
-
-pub count_to_end : {X : Type 0} (q p : X → Bool) (f : X → X) (xs : List X) → ((x : X) → q (f x) ≡ true → q x ≡ true) → count_of q (change_to_end p f xs) ≤ count_of q xs
-count_to_end q p f [] keeps = omega arith
-count_to_end q p f (x ∷ xs) keeps =
-    let a = count_push q xs (f x) in
-    let l = less (q (f x)) (q x) (keeps x) in
-    let more = count_to_end q p f xs keeps in
-    pick (p x) (λ t. count_of q (if t then xs ++ f x ∷ [] else x ∷ change_to_end p f xs) ≤ cond (q x) 1 0 + count_of q xs) (λ _. omega (arith, a, l)) (λ _. omega (arith, more))
 
 -- ---- the buffers of one block and of another
 

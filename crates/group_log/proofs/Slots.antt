@@ -1,8 +1,7 @@
 -- The slots of the group's buffers stay known.
 use Rattle.group_log.proofs.Vocabulary.{◌≡◌, ◌≢◌, inl, inr, ℕ, ◌+◌, ◌<◌, ◌≤◌, List, [], ◌∷◌, ◌++◌, length, get_or, true, false, refl, sym, ◌∙◌, ap, subst, arith, Option, Some, None, IsSome, is_some, if◌then◌else◌, ◌==◌, cases_eq, cases_lt, MatchOption, IfSome, option_map, find, get_or_append_left, get_or-append_seam, GuardState, Super, BufferState, change_first, count_of, Got, Held, Waits, get_of, get_by, get_new, guard_of, SeatState, has_block, is_free, seat_of, slot_of, with_seat, with_holder, with_content, with_pin, as_new, given_back, without_holder, IsHeld, IsGuardOf, Phase, Open, Staging, Installing, Halted, HasRecorded, has, with_block, next_phase, group_in, seats_after, PinsFrom, PinsFit, AreInSlots, SlotsFit, HasSlots, slots_with}
 use Rattle.std.proofs.lemmas.List.{length-append}
-use Rattle.group_log.proofs.Seats.{pick, count_same, of_another, seat_changed, seat_of_others, seat_given_back, others_given_back}
-use Rattle.group_log.proofs.Kept.{some_recorded, first_stays, not_free}
+use Rattle.group_log.proofs.Basics.{pick, count_same, of_another, seat_changed, seat_of_others, seat_given_back, others_given_back, some_recorded, first_stays, not_free}
 
 abbrev number_of : Option SeatState → Option ℕ
 number_of o = option_map (λ (s : SeatState). s.number) o

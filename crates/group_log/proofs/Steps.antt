@@ -1,9 +1,6 @@
 -- What each call keeps of a log.
 use Rattle.group_log.proofs.Vocabulary.{◌≡◌, ◌≢◌, ◌⊎◌, inl, inr, ℕ, ◌+◌, ◌<◌, ◌≤◌, ◌==◌, List, [], length, get_or, set, false, refl, sym, ◌∙◌, subst, arith, Option, if◌then◌else◌, eqb-true, eqb-false, Super, recovered, logged, IsOutsideLog, count_of, SeatState, has_block, is_pinned, seat_of, seen_in, with_seat, with_pin, given_back, Phase, Open, Staging, Installing, Halted, IsMember, IsUnderWay, next_phase, group_in, write_to, write_of, head_block, is_point, IsPlaced, IsHome, DiskFits, PinsFrom, PinsFit, IsQuiet, IsSoundLog, CanWrite, seats_after}
-use Rattle.group_log.proofs.Rooms.{member_joined}
-use Rattle.group_log.proofs.Seats.{pick, count_same, count_less, seat_of_others, others_given_back}
-use Rattle.group_log.proofs.Kept.{kept_back, pins_kept, some_recorded, recorded_of}
-use Rattle.group_log.proofs.Writes.{not_inside, copied, headed, went_home, cleared, copied_recovered, headed_recovered, home_recovered, cleared_recovered, place_stays, homes_stay}
+use Rattle.group_log.proofs.Basics.{member_joined, pick, count_same, count_less, seat_of_others, others_given_back, kept_back, pins_kept, some_recorded, recorded_of, not_inside, copied, headed, went_home, cleared, copied_recovered, headed_recovered, home_recovered, cleared_recovered, place_stays, homes_stay}
 
 pub below : (i n : ℕ) → i ≤ n → (i == n) ≡ false → i < n
 below i n le isnt = let ne = eqb-false i n isnt in omega (arith, le, ne)

@@ -1,6 +1,6 @@
 -- What each call keeps of a history.
 use Rattle.group_log.proofs.Vocabulary.{◌≡◌, ◌⊎◌, inl, inr, ℕ, ◌+◌, ◌≤◌, ◌<◌, nat_lt, Bool, true, false, cond, if◌then◌else◌, List, [], ◌∷◌, ◌++◌, Option, Some, None, refl, sym, ◌∙◌, ap, subst, arith, add-one, add-zero, zero, suc, length, AllByRecursion, lt-ltb, le-ltb, ltb-false, append-nil, filter-append, Super, Marks, Left, Free, Commits, Phase, Open, Staging, Installing, Halted, Progress, WaitsFor as Waits, Wrote, Ended, Failed, is_point, LogState, Blocks, AgreeOutside, recovered_of, seen_of, is_under_way, is_settled, is_running, IsMove, begins_at, IsCommitMove, no_marks, after_leave, after_write, before, RisesBy, IsMarked, IsKept, Span, IsApart, AreWhole, IsStory, Turns, IsSpanned}
-use Rattle.group_log.proofs.Seats.{pick}
+use Rattle.group_log.proofs.Basics.{pick}
 use Rattle.group_log.proofs.Moving.{never}
 
 pub all_map : {X : Type 0} (P Q : X → Type 0) (xs : List X) → ((x : X) → P x → Q x) → AllByRecursion P xs → AllByRecursion Q xs

@@ -1,7 +1,7 @@
 -- What this crate's proofs speak of: its own definitions, and what the crates below and the library call things.
-pub use Rattle.buffer_cache.proofs.Vocabulary.{Bool, BufferState, Err, Got, GuardState, Held, IsGuardOf, IsHeld, IsPinned, IsSome, IsSound, KeepsHeld, KeepsOthers, List, MatchOption, None, Ok, Option, Result, SeatState, Some, Waits, [], ap, arith, as_new, block_at, block_at-set_other, block_at-set_same, cases_eq, cases_lt, change_first, change_to_end, cond, count_of, false, find, get_by, get_new, get_or, given_back, guard_of, has_block, holder_of, if◌then◌else◌, inl, inr, is_free, is_held_by, is_none, is_number, is_pinned, is_some, kept, length, nat_lt, nat_tests, not, option_and_then, option_map, refl, seat_of, seen_in, set, slice_get, slice_set, slot_of, subst, suc, sym, true, unwrap_or, with_content, with_holder, with_pin, with_seat, without_holder, zero, ℕ, ◌&&◌, ◌*◌, ◌++◌, ◌+◌, ◌-◌, ◌<◌, ◌==◌, ◌∙◌, ◌∷◌, ◌≡◌, ◌≢◌, ◌≤◌, ◌⊎◌}
+pub use Rattle.buffer_cache.proofs.Vocabulary.{Bool, BufferState, Err, GuardState, IsGuardOf, IsHeld, IsPinned, IsSome, IsSound, KeepsHeld, KeepsOthers, List, MatchOption, None, Ok, Option, Result, SeatState, Some, [], ap, arith, as_new, block_at, block_at-set_other, block_at-set_same, cases_eq, cases_lt, change_first, change_to_end, cond, count_of, false, find, get_by, get_new, get_or, given_back, guard_of, has_block, holder_of, if◌then◌else◌, inl, inr, is_free, is_held_by, is_none, is_number, is_pinned, is_some, kept, length, nat_lt, nat_tests, not, option_and_then, option_map, refl, seat_of, seen_in, set, slice_get, slice_set, slot_of, subst, suc, sym, true, unwrap_or, with_content, with_holder, with_pin, with_seat, without_holder, zero, ℕ, ◌&&◌, ◌*◌, ◌++◌, ◌+◌, ◌-◌, ◌<◌, ◌==◌, ◌∙◌, ◌∷◌, ◌≡◌, ◌≢◌, ◌≤◌, ◌⊎◌}
 unfoldable pub use Rattle.buffer_cache.proofs.Vocabulary.{get_of, unused_from}
-pub use Rattle.fs_layout.proofs.Vocabulary.{AllByRecursion, Super, append-nil, eqb-false, eqb-true, length-append, ne_eqb, replicate, ◌^◌}
+pub use Rattle.fs_layout.proofs.Vocabulary.{AllByRecursion, append-nil, eqb-false, eqb-true, length-append, ne_eqb, replicate, ◌^◌}
 unfoldable pub use Rattle.fs_layout.proofs.Vocabulary.{logged, recovered, sizes_of, u32_at}
 pub use Rattle.group_log.specs.Vocabulary.{CacheState, IsOutsideLog, seen}
 pub use Rattle.group_log.specs.declared.phase.Phase.TheVariants.{Halted, Installing, Open, Staging}
@@ -37,3 +37,6 @@ pub use Rattle.std.proofs.lemmas.Bool.{le-ltb, lt-ltb, ltb-false}
 pub use Rattle.std.proofs.lemmas.List.{get_or_append_left}
 pub use Rattle.std.proofs.lemmas.List.Elements.{filter-append}
 pub use Rattle.std.proofs.lemmas.List.Sums.{sum_by-cons}
+pub use Rattle.buffer_cache.specs.declared.got.Got.{Got}
+pub use Rattle.buffer_cache.specs.declared.got.Got.TheVariants.{Held, Waits}
+pub use Rattle.fs_layout.specs.declared.superblock.Super.{Super}

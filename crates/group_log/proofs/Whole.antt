@@ -1,12 +1,9 @@
 -- Every call of the log keeps the log and its cache sound.
 use Rattle.group_log.proofs.Vocabulary.{◌≡◌, ◌≢◌, ◌⊎◌, inl, inr, ℕ, ◌+◌, ◌*◌, ◌<◌, ◌≤◌, ◌==◌, Bool, true, false, List, [], ◌∷◌, Option, Some, None, length, refl, sym, subst, ap, ◌∙◌, arith, if◌then◌else◌, slice_get, slice_set, slice_index, IsSome, is_some, unwrap_or, MatchOption, option_and_then, eqb-true, nat_tests, Super, IsOutsideLog, block_at, GuardState, BufferState, count_of, get_of, SeatState, seat_of, holder_of, is_held_by, kept, IsGuardOf, seen_in, with_seat, with_content, with_pin, given_back, IsHeld, IsSound, Got, block_at-set_same, sound_pin, sound_unpin, sound_uncached, sound_home, seen_past, seen_home, GetLaws, get_laws, fill_laws, back_laws, change_laws, pin_keeps, pin_seen, Phase, Open, Staging, Installing, Halted, joined, has, with_block, members_with, HasRoom, IsMember, IsUnderWay, write_to, write_of, next_phase, group_in, phase_at_leave, head_block, IsSoundLog, IsHome, PinsFrom, limit_of, seats_after, seats_at_fault, join_waits, HasRecorded, IsWhole, LeadsToWhole, CallsKeepWhole, written}
-use Rattle.group_log.proofs.Rooms.{rooms_le, rooms_join, length-set_member}
-use Rattle.group_log.proofs.Seats.{pick}
+use Rattle.group_log.proofs.Basics.{rooms_le, rooms_join, length-set_member, pick, kept_get, kept_back, kept_change, sound_kept, some_recorded, held_cached}
 use Rattle.group_log.proofs.Steps.{below, open_of, can_write, under_way}
-use Rattle.group_log.proofs.Kept.{kept_get, kept_back, kept_change, sound_kept, some_recorded}
 use Rattle.group_log.proofs.Recording.{recorded_good}
 use Rattle.group_log.proofs.Recorded.{room_to_pin, pinned_by_pin}
-use Rattle.group_log.proofs.Getting.{held_cached}
 use Rattle.group_log.proofs.Leaving.{left_good, begun_good}
 use Rattle.group_log.proofs.Committed.{failed_good, done_good}
 

@@ -87,12 +87,12 @@ one_each contents failures sizes old new events cs h =
 
 -- ---- what events show of calls
 
-abbrev zipped : List (EventOf Call (Unit {0})) → List (OutcomeOf Kind Reply Refusal) → List Shown
+abbrev pub zipped : List (EventOf Call (Unit {0})) → List (OutcomeOf Kind Reply Refusal) → List Shown
 zipped [] os = []
 zipped (e ∷ es) [] = []
 zipped (e ∷ es) (o ∷ os) = shown_by e o ∷ zipped es os
 
-same_start : (h : ℕ) (call : Call) (o : Outcome) → shown_by {Outside = Unit {0}} {Refusal = Refusal} (Start h call) (outcome_of o) ≡ Other
+pub same_start : (h : ℕ) (call : Call) (o : Outcome) → shown_by {Outside = Unit {0}} {Refusal = Refusal} (Start h call) (outcome_of o) ≡ Other
 same_start h call outcome.Idle = refl
 same_start h call outcome.Waits = refl
 same_start h call (outcome.Ran kind) = refl
@@ -100,7 +100,7 @@ same_start h call (outcome.Done reply) = refl
 same_start h call (outcome.Stopped stop.DeviceFault) = refl
 same_start h call (outcome.Stopped stop.Halted) = refl
 
-same_step : (h : ℕ) (o : Outcome) → shown_by {Outside = Unit {0}} {Refusal = Refusal} (Step h tt) (outcome_of o) ≡ shown_outcome h o
+pub same_step : (h : ℕ) (o : Outcome) → shown_by {Outside = Unit {0}} {Refusal = Refusal} (Step h tt) (outcome_of o) ≡ shown_outcome h o
 same_step h outcome.Idle = refl
 same_step h outcome.Waits = refl
 same_step h (outcome.Ran kind) = refl
@@ -108,7 +108,7 @@ same_step h (outcome.Done reply) = refl
 same_step h (outcome.Stopped stop.DeviceFault) = refl
 same_step h (outcome.Stopped stop.Halted) = refl
 
-same_shown : (e : Event) (c : Came) → shown_by (event_of e) (came_of c) ≡ shown e c
+pub same_shown : (e : Event) (c : Came) → shown_by (event_of e) (came_of c) ≡ shown e c
 same_shown (event.Start h call) came.Started = refl
 same_shown (event.Start h call) (came.Refused why) = refl
 same_shown (event.Start h call) (came.Stepped o) = same_start h call o
@@ -116,7 +116,7 @@ same_shown (event.Step h) came.Started = refl
 same_shown (event.Step h) (came.Refused why) = refl
 same_shown (event.Step h) (came.Stepped o) = same_step h o
 
-all_same : (es : List Event) (cs : List Came) → zipped (events_of es) (outcomes_of cs) ≡ all_shown es cs
+pub all_same : (es : List Event) (cs : List Came) → zipped (events_of es) (outcomes_of cs) ≡ all_shown es cs
 all_same [] cs = refl
 all_same (e ∷ es) [] = refl
 all_same (e ∷ es) (c ∷ cs) = λ i. same_shown e c i ∷ all_same es cs i

@@ -3,7 +3,7 @@ use Rattle.hart_core.proofs.Vocabulary.{◌≡◌, ℕ, Bool, false, Option, Som
 use Rattle.fs_machine.specs.Steps as steps
 use Rattle.hart_core.proofs.Lasting.{world_sound}
 
-none_of : (L : Theory) (C : Code L) (r : Option (Run L)) → prog_of L C r ≡ None → r ≡ None
+pub none_of : (L : Theory) (C : Code L) (r : Option (Run L)) → prog_of L C r ≡ None → r ≡ None
 none_of L C None e = refl
 none_of L C (Some r) e = absurd cc
 

@@ -7,7 +7,7 @@ pub use Rattle.atomic_programs.proofs.Vocabulary.{Came as CameOf, Holds, IsExpla
 pub use Rattle.plain_tree.proofs.Vocabulary.{Act, Belongs, act_of, cases_Bool, filter, is_empty, name_len, replicate, ◌^◌}
 unfoldable pub use Rattle.plain_tree.proofs.Vocabulary.{AllBelong, pieces}
 pub use Rattle.inodes_on_blocks.proofs.Vocabulary.{All-cons, All-head, All-nil, All-tail, MatchOption, get_or_past, length-append, length-map, min, mounted, resting_log}
-pub use Rattle.fs_machine.proofs.Vocabulary.{OpenFile, part_of}
+pub use Rattle.fs_machine.proofs.Vocabulary.{part_of}
 pub use Rattle.inode_machine.proofs.Vocabulary.{HasOneHistory, first_wrong, has_zero, path_limit, path_wrong}
 pub use Rattle.syscalls.proofs.Vocabulary.{HasOne, IsCall, IsPath}
 pub use Rattle.hart_core.specs.Harts.{AreHarts, HartFits, HartsOf, busy_in, children_in, outcome_of, programs_of, shared_of}
@@ -49,3 +49,4 @@ pub use Rattle.syscalls.proofs.HasOnes.{has_running}
 pub use Rattle.syscalls.proofs.Staying.{stays}
 pub use Rattle.syscalls.specs.Places.{HasBegun, StepsAt}
 pub use Rattle.whole_calls.specs.Calls.{most_listed}
+pub use Rattle.fs_machine.specs.declared.files.OpenFile.{OpenFile}

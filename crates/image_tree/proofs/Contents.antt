@@ -1,23 +1,7 @@
 -- What an inode in use holds is seen in its own blocks alone.
-use Rattle.image_tree.proofs.Vocabulary.{◌≡◌, ◌≢◌, ◌⊎◌, inl, inr, ℕ, zero, suc, ◌+◌, ◌/◌, ◌%◌, ◌<◌, ◌≤◌, ◌==◌, nat_lt, ◌&&◌, not, ℤ, pos, negsuc, Bool, true, false, if◌then◌else◌, List, [], ◌∷◌, ◌++◌, length, slice_index, slice_index_or, take, Option, map, refl, sym, ◌∙◌, ap, subst, arith, length-append, All, cases_eq, cases_lt, and_parts, eqb-true, ltb-true, get_or_append_left, get_or_past, Super, Dinode, Dirent, numbers_in, dirent_at, dirents_per_block, dirent_len, recovered, sizes_of, inode_of, is_number, is_free, is_directory, is_live, is_node, is_live_directory, direct, numbers_of, block_number, content_block, numbers_by, front_blocks, content_of, blocks_for, slot_at, first_slots, slots_of, IsData, HasGoodNumbers, Directory, File, Device, slot_of, is_file, kind_of}
-
-pub pick : (t : Bool) (P : Bool → Type 0) → (t ≡ true → P true) → (t ≡ false → P false) → P t
-pick true P yes_ no_ = yes_ refl
-pick false P yes_ no_ = no_ refl
-
--- each number of a list is 0 or passes; so does what lies past it
-number_at : (P : ℕ → Type 0) (xs : List ℕ) → All (λ b. b ≢ 0 → P b) xs → P 0 → (k : ℕ) → P (slice_index xs k)
-number_at P xs all none k = elim (cases_lt k (length xs)) [
-  | inl lt ↦ elim (cases_eq (slice_index xs k) 0) [ inl e ↦ subst P (sym e) none | inr ne ↦ all k 0 lt ne ]
-  | inr le ↦ subst P (sym (get_or_past xs k 0 le)) none
-]
-
-All-front : {A : Type 0} (P : A → Type 0) (xs ys : List A) → All P (xs ++ ys) → All P xs
-All-front P xs ys h = λ k d l. subst P (get_or_append_left xs ys d k l) (h k d (omega (arith, length-append xs ys)))
-
-kind_used : (k : ℤ) → is_number 1 k ≡ true → is_number 0 k ≡ false
-kind_used (pos m) is = ap (λ (n : ℕ). n == 0) (eqb-true m 1 is)
-kind_used (negsuc m) is = refl
+use Rattle.image_tree.proofs.Vocabulary.{◌≡◌, ◌≢◌, ◌⊎◌, inl, inr, ℕ, zero, suc, ◌+◌, ◌/◌, ◌%◌, ◌<◌, ◌≤◌, ◌==◌, nat_lt, ◌&&◌, not, Bool, true, false, if◌then◌else◌, List, [], ◌∷◌, ◌++◌, slice_index, slice_index_or, take, Option, map, refl, ◌∙◌, ap, subst, All, and_parts, Super, Dinode, Dirent, numbers_in, dirent_at, dirents_per_block, dirent_len, recovered, sizes_of, inode_of, is_free, is_directory, is_live, is_node, is_live_directory, direct, numbers_of, block_number, content_block, numbers_by, front_blocks, content_of, blocks_for, slot_at, first_slots, slots_of, IsData, HasGoodNumbers, Directory, File, Device, slot_of, is_file, kind_of}
+use Rattle.image_tree.proofs.Views.{number_at, All-front, kind_used}
+pub use Rattle.image_tree.proofs.Views.{pick, ranged}
 
 pub not_free : (t : Bool) → not t ≡ true → t ≡ false
 not_free true e = absurd (cc e)
@@ -27,12 +11,6 @@ not_free false e = refl
 pub record InRange (s : Super) (i : ℕ) : Type 0 where
   pub low : 1 ≤ i
   pub high : i < s.ninodes
-
-pub ranged : (s : Super) (i : ℕ) (t : Bool) → ((nat_lt 0 i && nat_lt i s.ninodes) && t) ≡ true → InRange s i × (t ≡ true)
-ranged s i t is =
-    let outer = and_parts (nat_lt 0 i && nat_lt i s.ninodes) t is in
-    let inner = and_parts (nat_lt 0 i) (nat_lt i s.ninodes) outer.0 in
-    (record { low = (let a = ltb-true 0 i inner.0 in omega (arith, a)); high = ltb-true i s.ninodes inner.1 }, outer.1)
 
 -- the numbers of an inode in use are good
 pub Good : List (List ℕ) → Dinode → Type 0

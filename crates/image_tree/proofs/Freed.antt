@@ -26,10 +26,10 @@ a_node k x = record { count = count_of x.nlink; kind = k }
 kept_block : (b : ℕ) → b ≢ 0 → is_block b ≡ true
 kept_block b ne = ap not (ne_eqb b 0 ne)
 
-filter_keeps : (p : ℕ → Bool) (x : ℕ) (xs : List ℕ) → p x ≡ true → filter p (x ∷ xs) ≡ x ∷ filter p xs
+pub filter_keeps : (p : ℕ → Bool) (x : ℕ) (xs : List ℕ) → p x ≡ true → filter p (x ∷ xs) ≡ x ∷ filter p xs
 filter_keeps p x xs h = rw h refl
 
-filter_drops : (p : ℕ → Bool) (x : ℕ) (xs : List ℕ) → p x ≡ false → filter p (x ∷ xs) ≡ filter p xs
+pub filter_drops : (p : ℕ → Bool) (x : ℕ) (xs : List ℕ) → p x ≡ false → filter p (x ∷ xs) ≡ filter p xs
 filter_drops p x xs h = rw h refl
 
 -- what stands in a list, and is no 0, stands among its blocks

@@ -2,7 +2,7 @@
 use Rattle.image_tree.proofs.Vocabulary.{◌≡◌, ℕ, ◌+◌, ◌/◌, ◌%◌, ◌<◌, ◌≤◌, true, false, List, [], ◌∷◌, ◌++◌, refl, sym, ap, ◌∙◌, add-one, Option, ℤ, pos, negsuc, eqb, ◌&&◌, false≢true, false_from_ne_true, eqb-true, Dinode, Dirent, dirent_at, recovered, inode_of, is_directory, is_live, is_live_directory, is_free, is_number, numbers_by, numbers_of, block_number, content_block, slot_at, first_slots, slots_of, slots_in, Layout, IsLayout}
 use Rattle.image_tree.proofs.Nodes.{both, both_from, directory_is, directory_from, numbers_by_node}
 
-directory_kind : (z : ℤ) → is_number 1 z ≡ true → is_number 0 z ≡ false
+pub directory_kind : (z : ℤ) → is_number 1 z ≡ true → is_number 0 z ≡ false
 directory_kind (pos n) h = ap (λ (k : ℕ). eqb k 0) (eqb-true n 1 h)
 directory_kind (negsuc n) h = refl
 

@@ -1,7 +1,7 @@
 -- What a superblock and a log's head that were read say.
 use Rattle.image_tree.proofs.Vocabulary.{◌≡◌, ℕ, ◌≤◌, Bool, true, false, cond, eqb, leb, List, Some, None, refl, sym, ap, ◌∙◌, arith, eqb-true, nat_tests, Super, LogHead, u32_at, u32s_at, super_of, super_fields, log_head_of, block_at, sizes_of, logged, log_count, HasGoodLog}
 
-some_from : {T : Type 0} (b : Bool) (x y : T) → cond b (Some x) None ≡ Some y → (b ≡ true) × (x ≡ y)
+pub some_from : {T : Type 0} (b : Bool) (x y : T) → cond b (Some x) None ≡ Some y → (b ≡ true) × (x ≡ y)
 some_from true x y h = (refl, let e = h in cc)
 some_from false x y h = cc
 

@@ -9,7 +9,7 @@ use Rattle.image_tree.proofs.Contents.{pick}
 abbrev hits : ℕ → ℕ → ℕ
 hits i x = if x == i then 1 else 0
 
-times_more : (i : ℕ) (f : ℕ → List ℕ) (n : ℕ) → times i (gathered f (suc n)) ≡ times i (gathered f n) + times i (f (suc n))
+pub times_more : (i : ℕ) (f : ℕ → List ℕ) (n : ℕ) → times i (gathered f (suc n)) ≡ times i (gathered f n) + times i (f (suc n))
 unfolding gathered
 times_more i f n = sum_by-append (hits i) (gathered f n) (f (suc n))
 

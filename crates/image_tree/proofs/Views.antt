@@ -1,18 +1,18 @@
 -- The checks see the recovered blocks outside the log alone.
 use Rattle.image_tree.proofs.Vocabulary.{◌≡◌, ◌≢◌, inl, inr, ℕ, zero, suc, ◌+◌, ◌-◌, ◌/◌, ◌%◌, ◌<◌, ◌≤◌, ◌==◌, nat_lt, ◌&&◌, not, ℤ, pos, negsuc, ◌<ℤ◌, Bool, true, false, if◌then◌else◌, List, [], ◌∷◌, ◌++◌, length, slice_index, slice_index_or, take, drop, filter, Option, Some, None, map, refl, sym, ◌∙◌, ap, subst, arith, length-append, All, cases_eq, cases_lt, and_parts, eqb-true, ltb-true, get_or_append_left, get_or_past, Super, Dinode, Dirent, bit_of, numbers_in, dinode_at, dirent_at, inodes_per_block, dirents_per_block, dirent_len, recovered, sizes_of, IsOutsideLog, IsOnce, gathered, times, inode_of, is_number, is_free, is_directory, is_live, is_node, is_live_directory, direct, numbers_of, block_number, content_block, numbers_by, named_by, is_block, front_blocks, content_of, blocks_for, slot_at, first_slots, slots_of, slots_in, slot_numbers, number_in, up, names_of, further_names_of, proper_names_of, children_of, Reaches, IsGoodType, IsData, is_marked, IsGoodSize, AreGoodSlots, IsOneTree, IsGoodCount, HasMarks, HasGoodTypes, HasRoot, HasGoodNumbers, NamesOnce, HasGoodSizes, HasGoodSlots, HasGoodCounts, IsWellFormed, UpToLog, IsViewOf, ChecksSeeRecovered, TreesSeeRecovered, Kind, Directory, File, Device, Node, at_rest, slot_of, is_file, kind_of, count_of, node_of, first_nodes, tree_in}
 
-pick : (t : Bool) (P : Bool → Type 0) → (t ≡ true → P true) → (t ≡ false → P false) → P t
+pub pick : (t : Bool) (P : Bool → Type 0) → (t ≡ true → P true) → (t ≡ false → P false) → P t
 pick true P yes_ no_ = yes_ refl
 pick false P yes_ no_ = no_ refl
 
 -- each number of a list is 0 or passes; so does what lies past it
-number_at : (P : ℕ → Type 0) (xs : List ℕ) → All (λ b. b ≢ 0 → P b) xs → P 0 → (k : ℕ) → P (slice_index xs k)
+pub number_at : (P : ℕ → Type 0) (xs : List ℕ) → All (λ b. b ≢ 0 → P b) xs → P 0 → (k : ℕ) → P (slice_index xs k)
 number_at P xs all none k = elim (cases_lt k (length xs)) [
   | inl lt ↦ elim (cases_eq (slice_index xs k) 0) [ inl e ↦ subst P (sym e) none | inr ne ↦ all k 0 lt ne ]
   | inr le ↦ subst P (sym (get_or_past xs k 0 le)) none
 ]
 
-All-front : {A : Type 0} (P : A → Type 0) (xs ys : List A) → All P (xs ++ ys) → All P xs
+pub All-front : {A : Type 0} (P : A → Type 0) (xs ys : List A) → All P (xs ++ ys) → All P xs
 All-front P xs ys h = λ k d l. subst P (get_or_append_left xs ys d k l) (h k d (omega (arith, length-append xs ys)))
 
 gathered_same : (f g : ℕ → List ℕ) (n : ℕ) → ((i : ℕ) → 1 ≤ i → i ≤ n → f i ≡ g i) → gathered f n ≡ gathered g n
@@ -22,7 +22,7 @@ gathered_same f g (suc n) same =
     ap (λ (l : List ℕ). l ++ f (suc n)) (gathered_same f g n (λ i lo hi. same i lo (omega (arith, hi))))
     ∙ ap (λ (l : List ℕ). gathered g n ++ l) (same (suc n) (omega arith) (omega arith))
 
-kind_used : (k : ℤ) → is_number 1 k ≡ true → is_number 0 k ≡ false
+pub kind_used : (k : ℤ) → is_number 1 k ≡ true → is_number 0 k ≡ false
 kind_used (pos m) is = ap (λ (n : ℕ). n == 0) (eqb-true m 1 is)
 kind_used (negsuc m) is = refl
 
@@ -35,7 +35,7 @@ pub record InRange (s : Super) (i : ℕ) : Type 0 where
   pub low : 1 ≤ i
   pub high : i < s.ninodes
 
-ranged : (s : Super) (i : ℕ) (t : Bool) → ((nat_lt 0 i && nat_lt i s.ninodes) && t) ≡ true → InRange s i × (t ≡ true)
+pub ranged : (s : Super) (i : ℕ) (t : Bool) → ((nat_lt 0 i && nat_lt i s.ninodes) && t) ≡ true → InRange s i × (t ≡ true)
 ranged s i t is =
     let outer = and_parts (nat_lt 0 i && nat_lt i s.ninodes) t is in
     let inner = and_parts (nat_lt 0 i) (nat_lt i s.ninodes) outer.0 in

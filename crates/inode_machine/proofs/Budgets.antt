@@ -44,7 +44,7 @@ missing_one (k ∷ ns) ks n (inr at) none = let more = missing_one ns ks n at no
   | inr isnt ↦ rw isnt (omega (arith, more))
 ]
 
-one_bit : (t : Bool) → one_if t ≤ 1
+pub one_bit : (t : Bool) → one_if t ≤ 1
 unfolding one_if
 one_bit true = let z : 1 ≤ 1 = omega arith in z
 one_bit false = let z : 0 ≤ 1 = omega arith in z

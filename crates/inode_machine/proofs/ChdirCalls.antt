@@ -38,7 +38,7 @@ chdir_missing t h path par = refl
 
 -- Types.
 
-sort_directory : (o : Option Node) → is_directory (node_or o).kind ≡ true → sort_of o ≡ Some OfDirectory
+pub sort_directory : (o : Option Node) → is_directory (node_or o).kind ≡ true → sort_of o ≡ Some OfDirectory
 sort_directory None e = absurd cc
 sort_directory (Some v) e = at v.kind e
   where

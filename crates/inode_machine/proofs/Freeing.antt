@@ -1,9 +1,10 @@
 -- Inodes that one hart keeps alone: locked, freed, and anybody's again.
-use Rattle.inode_machine.proofs.Vocabulary.{◌≡◌, ◌≢◌, ◌⊎◌, inl, inr, ℕ, ◌+◌, ◌-◌, ◌<◌, Bool, true, false, ◌==◌, List, [], Option, Some, None, refl, sym, ◌∙◌, ap, subst, arith, Do, unmarked, P, Good, Fine, Safe, Wp, Node, hart_count, Tree, put, is_live, is_named, settle, row_of, settle_nodes, sum_below, folder, links_of, folders_of, links_in, raises, Folders, IsForest, IsWellFormed, either, same_or, put_same, put_other, none_any, folder_dead, dead_links, no_node, cwd_named, hold_named, file_named, folders_put, put_self, map_put, look_live, Step, Walk, Mine, World, Entry, with_mark, lock_if, blank, counted_down, file_count, locked, unlocked, Frees, Take, Give, Free, Forget, shop_of, own_names, Held, view, is_hart, if_kept, own_of, IsReferredTo, IsReached, IsAlone, Inv, IsOut, machine, looking_cost, number_is, Sought, sum_part, one_yes, one_if, eq_self, Own, Query, Sight, seen_in, sort_of}
+use Rattle.inode_machine.proofs.Vocabulary.{◌≡◌, ◌≢◌, ◌⊎◌, inl, inr, ℕ, ◌+◌, ◌-◌, ◌<◌, Bool, true, false, ◌==◌, List, [], Option, Some, None, refl, sym, ◌∙◌, ap, subst, arith, Do, unmarked, P, Good, Fine, Safe, Wp, Node, hart_count, put, is_live, is_named, settle, row_of, settle_nodes, sum_below, either, same_or, put_same, put_other, none_any, look_live, Step, Walk, Mine, World, Entry, with_mark, lock_if, blank, counted_down, file_count, locked, unlocked, Frees, Take, Give, Free, Forget, shop_of, own_names, Held, view, is_hart, if_kept, own_of, IsReferredTo, IsReached, IsAlone, Inv, IsOut, machine, looking_cost, number_is, Sought, sum_part, one_yes, one_if, eq_self, Own, Query, Sight, seen_in, sort_of}
 use Rattle.inode_machine.proofs.Frame.{child_directory, shop_same, put_elim, ours_none, ours_some, kept_here, Did, Fair, fair, fair_then, own_inodes, has_inode, found_more, one_refs, two_refs, stands_in, directory_named, refers_put, resting_names, type_on}
 use Rattle.inode_machine.proofs.Rules.{s-owned, quiet, each_refs, here_refs, walks_refs, total_same, total_changed, my_refs, is_me, has_disk, has_node, locks_it}
 use Rattle.inode_machine.proofs.Counting.{Writes, writes, spares, not_home}
 use Rattle.inode_machine.proofs.Rows.{hart_not}
+use Rattle.tree_laws.proofs.Nodes.{well_gone}
 
 -- The lock of an inode that the hart keeps already is free.
 pub record LockingKept (h i : ℕ) (x : Held) (v : World) (O : Own) : Type 0 where
@@ -108,35 +109,6 @@ lone_file h i k e v inv lt lone kept is q =
 
 abbrev without_one : (ℕ → Option Node) → ℕ → ℕ → Option Node
 without_one ns i = put ns i None
-
-well_gone : (t : Tree) (i : ℕ) → IsWellFormed t → is_live (t.nodes i) ≡ false → is_named t i ≡ false → IsWellFormed (record t { nodes = put t.nodes i None })
-well_gone t i k dead unnamed = record {
-  range = λ n v is. k.range n v (sym (stays n v is) ∙ is);
-  depth = k.depth;
-  forest = subst (λ (F : Folders). IsForest F (links_in (put t.nodes i None)) (raises t.holds) t.ninodes k.depth) (sym folders)
-      (subst (λ (C : ℕ → ℕ). IsForest (folders_of t.nodes) C (raises t.holds) t.ninodes k.depth) (sym links) k.forest);
-  holds = λ h o lt is. let th = k.holds h o lt is in record { node = th.node; is = other o.number (λ q. named o.number q (hold_named t h o lt is)) ∙ th.is; sort = th.sort };
-  descriptors = λ h j id lh lj is. let th = k.descriptors h j id lh lj is in record { file = th.file; is = th.is; node = th.node; there = other th.file.number (λ q. named th.file.number q (file_named t h j id th.file lh lj is th.is)) ∙ th.there };
-  directories = λ h lt. let th = k.directories h lt in record { node = th.node; is = other (t.cwd h) (λ q. named (t.cwd h) q (cwd_named t h lt)) ∙ th.is; sort = th.sort };
-}
-  where
-    folders : folders_of (put t.nodes i None) ≡ folders_of t.nodes
-    folders = folders_put t.nodes i None ∙ put_self (folders_of t.nodes) i (folder None) (folder_dead (t.nodes i) (no_node (t.nodes i) dead))
-
-    links : links_in (put t.nodes i None) ≡ links_in t.nodes
-    links = map_put (λ (o : Option Node). links_of o) t.nodes i None ∙ put_self (links_in t.nodes) i 0 (dead_links (t.nodes i) dead)
-
-    other : (n : ℕ) → n ≢ i → put t.nodes i None n ≡ t.nodes n
-    other n ne = put_other t.nodes i None n ne
-
-    named : (n : ℕ) → n ≡ i → is_named t n ≡ true → ⊥
-    named n q is = let a = subst (λ (z : ℕ). is_named t z ≡ true) q is in absurd (cc (a, unnamed))
-
-    stays : (n : ℕ) (v : Node) → put t.nodes i None n ≡ Some v → put t.nodes i None n ≡ t.nodes n
-    stays n v is = elim (same_or n i) [
-      | inl q ↦ absurd (let a : put t.nodes i None n ≡ None = ap (put t.nodes i None) q ∙ put_same t.nodes i None in cc (a, is))
-      | inr ne ↦ other n ne
-    ]
 
 -- nobody names an inode that one hart keeps alone, and doesn't name itself
 pub unnamed : (h i : ℕ) (v : World) → Inv v → h < hart_count → v.alone i ≡ true → v.keeper i ≡ Some h → own_names (row_of v.all h) (v.desks h) i ≡ false → is_named v.all i ≡ false

@@ -1,5 +1,4 @@
 pub mod Basics
-pub mod Lemmas
 pub mod Vocabulary
 pub mod Frame
 pub mod Rules

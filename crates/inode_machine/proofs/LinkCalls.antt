@@ -9,6 +9,7 @@ use Rattle.inode_machine.proofs.Endings.{Follows}
 use Rattle.inode_machine.proofs.Finds.{find_finder, find_made, find_missing, find_place, find_refused, find_refused_step, find_step, mends_held}
 use Rattle.inode_machine.proofs.Raises.{Plain, bump_stopped, done_step, s-store-move}
 use Rattle.inode_machine.proofs.LinkNames.{bumped, enter_follows, follows, found, more_base, names_but, names_fewer}
+use Rattle.inode_machine.proofs.ChdirCalls.{sort_directory}
 
 -- What the call is told.
 
@@ -46,15 +47,6 @@ sort_is : (k : Kind) → is_directory_sort (sort_of_kind k) ≡ is_directory k
 sort_is (Directory slots) = refl
 sort_is (File bytes) = refl
 sort_is (Device major minor size) = refl
-
-sort_directory : (o : Option Node) → is_directory (node_or o).kind ≡ true → sort_of o ≡ Some OfDirectory
-sort_directory None e = absurd cc
-sort_directory (Some v) e = at v.kind e
-  where
-    at : (k : Kind) → is_directory k ≡ true → Some (sort_of_kind k) ≡ Some OfDirectory
-    at (Directory slots) q = refl
-    at (File bytes) q = absurd cc
-    at (Device major minor size) q = absurd cc
 
 -- what the call has once its hold stands, which isn't raised
 abbrev low_own : ℕ → Own → Own

@@ -45,7 +45,7 @@ pieces_text f (b ∷ bs) tf tp = elim (either (b == 47)) [
 name_of : (b : ℕ) (bs : List ℕ) → IsText (b ∷ bs) → IsName (take name_len (b ∷ bs))
 name_of b bs t = record { some = omega arith; fits = (let a = length-take name_len (b ∷ bs) in omega (arith, a)); text = text_take name_len (b ∷ bs) t }
 
-names_of : (es : List (List ℕ)) → AllTexts es → AllNames (map (λ e. take name_len e) (filter (λ e. not (is_empty e)) es))
+pub names_of : (es : List (List ℕ)) → AllTexts es → AllNames (map (λ e. take name_len e) (filter (λ e. not (is_empty e)) es))
 names_of [] t = tt
 names_of ([] ∷ es) t = names_of es t.1
 names_of ((b ∷ bs) ∷ es) t = (name_of b bs t.0, names_of es t.1)

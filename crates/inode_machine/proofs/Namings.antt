@@ -1,5 +1,5 @@
 -- A call follows its path to the last name's directory, or loses its walk, or has no elements to follow.
-use Rattle.inode_machine.proofs.Vocabulary.{◌≡◌, inl, inr, ℕ, ◌+◌, ◌*◌, ◌<◌, ◌≤◌, true, false, List, [], ◌∷◌, ◌++◌, length, Option, Some, None, refl, sym, ◌∙◌, ap, subst, arith, Do, own, onto, Fine, Safe, Wp, Begun, Ends, NoEntry, Reply, Call, Action, Inherit, Failed, hart_count, Name, Tree, elements, start_of, settle, path_of, follows_path, refusal_with, refused, IsInPlace, Act, row_of, settled_row, Stage, Step, MayEnd, fail, Begin, Look, Note, World, stage_of, Join, with_joined, with_walk, begun, found_by, new_id, Held, Own, own_of, nothing, Idle, Inv, machine, ThisP as P, Stop, NotThere, NoMemory, makes, failed, stopped, start, tail, walk_parent, in_parent, covered_calls}
+use Rattle.inode_machine.proofs.Vocabulary.{◌≡◌, inl, inr, ℕ, ◌+◌, ◌*◌, ◌<◌, ◌≤◌, true, false, List, [], ◌∷◌, ◌++◌, length, Option, Some, None, refl, sym, ◌∙◌, ap, subst, arith, Do, own, Fine, Safe, Begun, Ends, NoEntry, Reply, Call, Action, Inherit, Failed, hart_count, Name, Tree, elements, start_of, settle, path_of, follows_path, refusal_with, refused, IsInPlace, Act, row_of, settled_row, Stage, Step, MayEnd, fail, Begin, Look, Note, World, stage_of, Join, with_joined, with_walk, begun, found_by, new_id, Held, Own, own_of, nothing, Idle, Inv, machine, ThisP as P, Stop, NotThere, NoMemory, makes, failed, stopped, start, tail, walk_parent, in_parent, covered_calls}
 use Rattle.atomic_programs.specs.Logic as logic
 use Rattle.tree_laws.specs.Moves.{Begins}
 use Rattle.inode_machine.proofs.Basics.{AllNames, fair, s-owned, fine_after, locks_none, UnlocksAll, walk_did, own_walk, stage_walk, moves_good, s-join, flagging, MoveFine, On, Gone, Ready, Lost, s-walk-parent, Follows, walking_begun, walking_on, walking_told, walking_quit, begun_refused, begun_walking, written_by, quit_step, told_step, Walked, gone_at, home, joined_own, may_rest, ready_at, Joins, Told, s-end}

@@ -1,21 +1,10 @@
 -- What a hart names, through its own row and through its descriptors.
-use Rattle.inode_machine.proofs.Vocabulary.{◌≡◌, inl, inr, ℕ, ◌<◌, true, false, ◌==◌, ◌||◌, nat_lt, Option, Some, None, refl, sym, ◌∙◌, ap, arith, nat_tests, Node, OpenFile, hart_count, descriptor_count, Tree, any_below, hold_names, fd_names, file_names, is_live, key_of, key_at, key_names, row_of, eq_is, either, or_none, none_any, is_at, World, own_names, key_in, id_at, Inv}
+use Rattle.inode_machine.proofs.Vocabulary.{◌≡◌, inl, inr, ℕ, ◌<◌, true, false, ◌==◌, ◌||◌, nat_lt, Option, Some, None, refl, sym, ◌∙◌, ap, arith, nat_tests, Node, OpenFile, hart_count, descriptor_count, any_below, hold_names, fd_names, file_names, is_live, key_names, row_of, eq_is, either, or_none, none_any, is_at, World, own_names, key_in, id_at, Inv}
 use Rattle.inode_machine.proofs.Rules.{opens_slots}
-
--- a key names what the descriptor does
-key_fd : (t : Tree) (o : Option ℕ) (n : ℕ) → key_names (key_at t.files o) n ≡ fd_names t o n
-key_fd t None n = refl
-key_fd t (Some id) n = at (t.files id)
-  where
-    at : (f : Option OpenFile) → key_names (key_of f) n ≡ file_names f n
-    at None = refl
-    at (Some f) = refl
+pub use Rattle.plain_tree.proofs.RowLemmas.{row_key}
 
 pub below_is : (a b : ℕ) → a < b → nat_lt a b ≡ true
 below_is a b lt = grind (arith, nat_tests)
-
-pub row_key : (t : Tree) (h j n : ℕ) → h < hart_count → j < descriptor_count → key_names ((row_of t h).keys j) n ≡ fd_names t (t.fds h j) n
-row_key t h j n lt lj = rw (below_is h hart_count lt, below_is j descriptor_count lj) (key_fd t (t.fds h j) n)
 
 pub unlive : (o : Option Node) → o ≡ None → is_live o ≡ false
 unlive o e = ap (λ (z : Option Node). is_live z) e

@@ -2,7 +2,7 @@
 use Rattle.inode_machine.proofs.Vocabulary.{◌≡◌, ◌≢◌, ◌⊎◌, inl, inr, ℕ, ◌+◌, ◌<◌, Bool, true, false, ◌==◌, not, List, Option, Some, None, refl, sym, ◌∙◌, ap, subst, arith, Do, Came, P, own, onto, Good, Fine, Safe, Wp, OpenFile, hart_count, descriptor_count, put, any_below, has_room, row_of, sum_below, one_if, and_true, any_none, eq_self, same_or, put_same, put_other, sum_same, Step, Desk, Mark, World, Slot, Install, Mends, Sort, file_count, first_from, install_if, is_at, is_empty_slot, is_nothing, slot_if, marked, mended, places, with_mark, id_at, own_names, own_of, shop_of, users, Own, Inv, IsTied, machine}
 use Rattle.inode_machine.proofs.Basics.{bond_of, put_elim, stands_on, Fair, fair, refers_on, s-owned, fine_after, quiet, with_new, spoilt, Mending, FirstOf, first_is}
 
-nothing_is : {A : Type 0} (o : Option A) → is_nothing o ≡ true → o ≡ None
+pub nothing_is : {A : Type 0} (o : Option A) → is_nothing o ≡ true → o ≡ None
 nothing_is None e = refl
 nothing_is (Some x) e = absurd cc
 

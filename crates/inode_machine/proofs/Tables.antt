@@ -1,7 +1,8 @@
 -- The open-file table beside the tree's open files, where one descriptor changes.
-use Rattle.inode_machine.proofs.Vocabulary.{◌≡◌, ◌≢◌, inl, inr, ℕ, zero, suc, ◌+◌, ◌<◌, true, false, ◌==◌, nat_lt, Option, Some, None, refl, sym, ◌∙◌, ap, subst, arith, nat_tests, OpenFile, hart_count, descriptor_count, Tree, put, any_below, lowest, lowest_from, has_room, has_fd, closed, sum_below, one_if, eq_self, either, same_or, put_same, put_other, any_at, sum_changed, sum_part, one_yes, one_no, is_at, file_count, Entry, Desk, id_at, number_is, uses, users, Shop, IsTied}
+use Rattle.inode_machine.proofs.Vocabulary.{◌≡◌, ◌≢◌, inl, inr, ℕ, zero, suc, ◌+◌, ◌<◌, true, false, ◌==◌, nat_lt, Option, Some, None, refl, sym, ◌∙◌, ap, subst, arith, nat_tests, OpenFile, hart_count, descriptor_count, Tree, put, lowest, lowest_from, has_room, closed, sum_below, one_if, eq_self, either, same_or, put_same, put_other, sum_changed, sum_part, one_yes, one_no, is_at, file_count, Entry, Desk, id_at, number_is, uses, users, Shop, IsTied}
 use Rattle.inode_machine.proofs.Frame.{put_elim}
 use Rattle.inode_machine.proofs.Rows.{is_at_some}
+use Rattle.tree_laws.proofs.Opened.{has_it}
 
 -- How often a slot is used.
 
@@ -200,11 +201,6 @@ changes s h fd y x F S tied c =
     ]
 
 -- An open file of the tree without a descriptor goes; the table has none.
-
-has_it : (t : Tree) (h i id : ℕ) → h < hart_count → i < descriptor_count → t.fds h i ≡ Some id → has_fd t id ≡ true
-unfolding has_fd
-has_it t h i id lh li is = any_at hart_count (λ h. any_below descriptor_count (λ i. elim (t.fds h i) [ None ↦ false | Some j ↦ j == id ])) h lh
-    (any_at descriptor_count (λ i. elim (t.fds h i) [ None ↦ false | Some j ↦ j == id ]) i li (rw is (eq_self id)))
 
 pub kept_open : (t : Tree) (h i id : ℕ) → h < hart_count → i < descriptor_count → t.fds h i ≡ Some id → (closed t).files id ≡ t.files id
 kept_open t h i id lh li is = rw (has_it t h i id lh li is) refl

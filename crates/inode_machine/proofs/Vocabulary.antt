@@ -1,7 +1,7 @@
 -- What this crate's proofs speak of: its own definitions, and what the crates below and the library call things.
-pub use Rattle.tree_laws.proofs.Vocabulary.{Act, Action, Acts, Begin, BeginsNext, Bool, Bump, Busy, Bytes, Call, Cause, Chdir, Close, Deed, Device, Directory, Done, DotName, Dup, Enter as EnterStep, Event as Turn, Explains, Failed, File, Find, Folders, Fstat, Happens, History, Hold, Inherit, IsForest, IsInPlace, IsLeastUnused, IsNewNode, IsNext, IsPlayed, IsStartBy, IsThere, IsWellFormed, Kind, List, Look, Looks, MayChoose, MayEnd, Mkdir, Move, MoveStep as Step, Name, NewFd, NoEntry, NoRoom, Node, None, Nothing, Open, OpenFile, Opened, Option, Own as OwnMove, Placed, PlaysAny, Quit, Read, Reply, Shown, Some, Stage, Starts, Status, StepAnswer, StepWith, Steps, Tells, Tree, TreeData, Truncate, Unbump, Unlink, Walk, World as Told, WritePart, [], after, all_slots, and_then, ap, append_assoc, arith, at_hold, before, begins, climbing, closed, creates, descriptor_count, dot, dotdot, drop_hold, elements, emptied, empty_it, enter_hold, fail, false, fd_names, file_at, file_names, finishes, folder, folders_of, follows_path, hart_count, has, has_room, hold_names, holds_raised, if◌then◌else◌, inl, inr, is_absent, is_absolute, is_directory, is_file, is_live, is_nothing as no_fd, length, links_in, links_of, live_directory, lowered, lowest, makes_node, map, moves_on, name_taken, nat_lt, nat_tests, new_directory, new_file, next_piece, node_at, node_or, not, not_empty, opened, opens_one, or_else, parent, passes, path_of, piece, piece_count, raise_hold, raised, raised_at, refl, refused, resolve, root, shown_of, slots_of, start_of, starts, stepped, subst, suc, sym, told_by, trace_of, tree_of, true, walks_at, with_nodes, written, written_kind, wrote, zero, ℕ, ◌&&◌, ◌*◌, ◌++◌, ◌+◌, ◌-◌, ◌<◌, ◌==◌, ◌||◌, ◌∙◌, ◌∷◌, ◌≡◌, ◌≢◌, ◌≤◌, ◌⊎◌}
+pub use Rattle.tree_laws.proofs.Vocabulary.{Act, Acts, Begin, BeginsNext, Bool, Busy, Deed, Event as Turn, Explains, Folders, Happens, History, IsForest, IsInPlace, IsLeastUnused, IsNewNode, IsNext, IsPlayed, IsStartBy, IsThere, IsWellFormed, List, Look, Looks, MayChoose, MayEnd, Move, MoveStep as Step, Name, None, Nothing, Option, Own as OwnMove, PlaysAny, Quit, Shown, Some, Stage, Starts, StepWith, Steps, Tells, Tree, TreeData, Walk, World as Told, [], after, all_slots, and_then, ap, append_assoc, arith, at_hold, before, begins, climbing, closed, creates, descriptor_count, dot, dotdot, drop_hold, elements, emptied, empty_it, enter_hold, fail, false, fd_names, file_at, file_names, finishes, folder, folders_of, follows_path, hart_count, has, has_room, hold_names, holds_raised, if◌then◌else◌, inl, inr, is_absent, is_absolute, is_directory, is_file, is_live, is_nothing as no_fd, length, links_in, links_of, live_directory, lowered, lowest, makes_node, map, moves_on, name_taken, nat_lt, nat_tests, new_directory, new_file, next_piece, node_at, node_or, not, not_empty, opened, opens_one, or_else, parent, passes, path_of, piece, piece_count, raise_hold, raised, raised_at, refl, refused, resolve, root, shown_of, slots_of, start_of, starts, stepped, subst, suc, sym, told_by, trace_of, tree_of, true, walks_at, with_nodes, written, written_kind, wrote, zero, ℕ, ◌&&◌, ◌*◌, ◌++◌, ◌+◌, ◌-◌, ◌<◌, ◌==◌, ◌||◌, ◌∙◌, ◌∷◌, ◌≡◌, ◌≢◌, ◌≤◌, ◌⊎◌}
 unfoldable pub use Rattle.tree_laws.proofs.Vocabulary.{Alone as Lone, Chain, NoneClimbs as Calm, Runs as Goings, answer_with, any_below, any_used, cleared, effect_with, entries, file_in, first_cause, first_free, first_slot, follow, had_room, has_fd, is_named, last_cause, look, lowest_from, next_of, one_if, parent_from, parent_of, pieces, place_of, put, raises, refusal_with, reply_of, same_name, settle, sum_below}
-pub use Rattle.plain_tree.proofs.Vocabulary.{AsksForWhatStays, BadDescriptor, BadMode, Descriptors, IsDirectory, Key, NotDirectory, TooManyLinks, bump_refusal, cause_of, content, count_limit, filter, is_empty, key_at, key_is, key_names, key_of, name_len, no_driver, open_kind, part, row_of, stat_of, take, take-append-drop, write_kind, ◌^◌}
+pub use Rattle.plain_tree.proofs.Vocabulary.{AsksForWhatStays, Key, bump_refusal, cause_of, content, count_limit, filter, is_empty, key_at, key_is, key_names, key_of, name_len, no_driver, open_kind, part, row_of, stat_of, take, take-append-drop, write_kind, ◌^◌}
 pub use Rattle.inode_machine.specs.Vocabulary.{AllHonest, Began, Begins, Blocks, Came as CameOf, Did as Came, DirectorySlots as DirectoryFull, DiskInodes, Do, Event, Exists, Full, IsWholeCall, Lawful, MemInodes, NotEmpty, OpenFiles, Prog, Ran, Refuses, Ret, Row, Run, Start, State, Step as StepOf, Stops, Takes, Theory, Waits, fresh, next, piece_len, run, unmarked}
 pub use Rattle.atomic_programs.proofs.Vocabulary.{Begun, Ends, Fine, Goes, Good, Grown, HonestStep, IsBeginning, IsHonest, Laws, OfNext, OpWithAnswer, P, PlacesOne, Right, Safe, Sound, Wp, all_told, asks, busy_in, moved, oldest_first, onto, own, start_run, step_prog, step_run, step_unless, told, tried, unchanged, ◌/◌}
 pub use Rattle.inode_machine.specs.World.{Answer, ClaimResult, Desk, Entry, EntryResult, InPlace, JoinResult, Joined, Lent, LoanResult, LockResult, LocksIt, Mark, Mine, Moved, New, NoBlock, NoInode, NoPlace, NoSlot, NotJoined, NotLocked, Note, Op, Outside, Picks, Refused, Room, RoomFor, Short, Whole, World, Wrote, stage_of}
@@ -52,9 +52,23 @@ pub use Rattle.plain_tree.proofs.MarkLemmas.{same_is}
 pub use Rattle.plain_tree.specs.Calls.{counted}
 pub use Rattle.plain_tree.specs.Steps.{part_refusal}
 pub use Rattle.plain_tree.specs.Widths.{largest_size}
-pub use Rattle.plain_tree.specs.declared.answer.Cause.TheVariants.{BadOffset, TooBig}
+pub use Rattle.plain_tree.specs.declared.answer.Cause.TheVariants.{BadDescriptor, BadMode, BadOffset, DotName, IsDirectory, NoEntry, NotDirectory, TooBig, TooManyLinks}
 pub use Rattle.std.proofs.Common.{IsSome, length-append}
 pub use Rattle.std.proofs.Math.Nat.{le-div_iff_mul-le}
 pub use Rattle.std.proofs.Math.Numerals.{add-one}
 pub use Rattle.tree_laws.proofs.Cut.{grows}
 pub use Rattle.tree_laws.proofs.Placed.{can_go}
+pub use Rattle.plain_tree.specs.declared.answer.Cause.{Cause}
+pub use Rattle.plain_tree.specs.declared.answer.Full.TheVariants.{Descriptors}
+pub use Rattle.plain_tree.specs.declared.answer.Reply.{Reply}
+pub use Rattle.plain_tree.specs.declared.call.Call.{Call}
+pub use Rattle.plain_tree.specs.declared.node.Kind.{Kind}
+pub use Rattle.plain_tree.specs.declared.node.Kind.TheVariants.{Device, Directory, File}
+pub use Rattle.plain_tree.specs.declared.node.Node.{Node}
+pub use Rattle.plain_tree.specs.declared.step.Action.{Action}
+pub use Rattle.plain_tree.specs.declared.step.Action.TheVariants.{Bump, Chdir, Close, Dup, Enter as EnterStep, Find, Fstat, Inherit, Mkdir, Open, Read, Truncate, Unbump, Unlink, WritePart}
+pub use Rattle.plain_tree.specs.declared.step.StepAnswer.{StepAnswer}
+pub use Rattle.plain_tree.specs.declared.step.StepAnswer.TheVariants.{Bytes, Done, Failed, Fd as NewFd, Full as NoRoom, Opened, Stat as Status}
+pub use Rattle.plain_tree.specs.declared.trace.Placed.{Placed}
+pub use Rattle.plain_tree.specs.declared.tree.Hold.{Hold}
+pub use Rattle.plain_tree.specs.declared.tree.OpenFile.{OpenFile}

@@ -1,5 +1,5 @@
 -- What the crates below call things: the words that this crate's definitions and contracts use.
-pub use Rattle.tree_laws.specs.Vocabulary.{Action, Bump, Bytes, Call, Chdir as ChdirStep, ChdirCall as Chdir, Close as CloseStep, CloseCall as Close, Done, Dup as DupStep, DupCall as Dup, Enter, Explains, Failed, Find, Fstat as FstatStep, FstatCall as Fstat, Hold, Inherit as InheritStep, InheritCall as Inherit, Link, Mkdir as MkdirStep, MkdirCall as Mkdir, Name, NewFd, NoEntry, Node, Open as OpenStep, OpenCall as Open, OpenFile, Opened, Other, Placed, Read as ReadStep, ReadCall as Read, Replied, Reply, Shown, Slot as DirectorySlot, Started as Begun, Status, StepAnswer, Tree, TreeData, Truncate, Unbump, Unlink as UnlinkStep, UnlinkCall as Unlink, Write, WritePart, all_slots, call_climbs, closed, creates, descriptor_count, dot, dotdot, drop_hold, elements, fresh as fresh_tree, hart_count, is_directory, is_live, lowest, makes_node, no_calls, parent, path_of, resolve, root, start_of, trace_of, tree_of}
+pub use Rattle.tree_laws.specs.Vocabulary.{Explains, Name, Other, Replied, Shown, Started as Begun, Tree, TreeData, all_slots, call_climbs, closed, creates, descriptor_count, dot, dotdot, drop_hold, elements, fresh as fresh_tree, hart_count, is_directory, is_live, lowest, makes_node, no_calls, parent, path_of, resolve, root, start_of, trace_of, tree_of}
 unfoldable pub use Rattle.tree_laws.specs.Vocabulary.{Chain, answer_with, any_used, effect_with, look, put, refusal_with}
 pub use Rattle.plain_tree.specs.declared.answer.Cause.{Cause}
 pub use Rattle.atomic_programs.specs.Calls.{AllHonest, Began, Begins, Came, DidEnd, DidRun, DidStop, DidWait, Event, FinishedCall, Lawful, Outcome, Refused, Refuses, Run, Start, Started, State, Step, Theory, WasIdle, WasStopped, fresh, makes, next, outcomes, run}
@@ -13,7 +13,7 @@ pub use Rattle.tree_laws.specs.Moves.Move.{Begin, Look, Own, Quit}
 pub use Rattle.plain_tree.specs.Tree.{hold_names, is_absolute, slots_of}
 unfoldable pub use Rattle.plain_tree.specs.Tree.{any_below, same_name, settle}
 pub use Rattle.plain_tree.specs.Widths.{count_limit, name_len, piece_len, root_device}
-pub use Rattle.plain_tree.specs.declared.answer.Cause.TheVariants.{BadDescriptor, BadMode, DotName, Exists, IsDirectory, NoDriver, NotDirectory, NotEmpty, TooManyLinks}
+pub use Rattle.plain_tree.specs.declared.answer.Cause.TheVariants.{BadDescriptor, BadMode, DotName, Exists, IsDirectory, NoDriver, NoEntry, NotDirectory, NotEmpty, TooManyLinks}
 pub use Rattle.atomic_programs.specs.Logic.{Machine}
 pub use Rattle.plain_tree.specs.Calls.{piece, piece_count}
 pub use Rattle.plain_tree.specs.Steps.{content, emptied, empty_it, has, has_driver, has_room, holds_raised, is_file, is_used, new_directory, no_driver, node_or, opens_one, read_write, refusal, size_of, with_nodes, write_kind, write_only, written_kind}
@@ -24,7 +24,18 @@ pub use Rattle.atomic_programs.specs.Explained.{IsExplained}
 pub use Rattle.plain_tree.specs.HartRow.{Key, Row, key_names, row_of}
 pub use Rattle.plain_tree.specs.declared.answer.Full.{Full}
 pub use Rattle.plain_tree.specs.declared.answer.Stat.{Stat}
-pub use Rattle.plain_tree.specs.declared.step.StepAnswer.TheVariants.{Full as NoRoom}
+pub use Rattle.plain_tree.specs.declared.step.StepAnswer.TheVariants.{Bytes, Done, Failed, Fd as NewFd, Full as NoRoom, Opened, Stat as Status}
 pub use Rattle.tree_laws.specs.History.{History, passes, starts}
 pub use Rattle.tree_laws.specs.History.HartStanding.{Free}
 pub use Rattle.tree_laws.specs.Runs.{finishes, moves_on}
+pub use Rattle.plain_tree.specs.declared.answer.Reply.{Reply}
+pub use Rattle.plain_tree.specs.declared.call.Call.{Call}
+pub use Rattle.plain_tree.specs.declared.call.Call.TheVariants.{Chdir, Close, Dup, Fstat, Inherit, Link, Mkdir, Open, Read, Unlink, Write}
+pub use Rattle.plain_tree.specs.declared.node.Node.{Node}
+pub use Rattle.plain_tree.specs.declared.node.Slot.{Slot as DirectorySlot}
+pub use Rattle.plain_tree.specs.declared.step.Action.{Action}
+pub use Rattle.plain_tree.specs.declared.step.Action.TheVariants.{Bump, Chdir as ChdirStep, Close as CloseStep, Dup as DupStep, Enter, Find, Fstat as FstatStep, Inherit as InheritStep, Mkdir as MkdirStep, Open as OpenStep, Read as ReadStep, Truncate, Unbump, Unlink as UnlinkStep, WritePart}
+pub use Rattle.plain_tree.specs.declared.step.StepAnswer.{StepAnswer}
+pub use Rattle.plain_tree.specs.declared.trace.Placed.{Placed}
+pub use Rattle.plain_tree.specs.declared.tree.Hold.{Hold}
+pub use Rattle.plain_tree.specs.declared.tree.OpenFile.{OpenFile}

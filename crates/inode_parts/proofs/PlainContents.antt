@@ -14,7 +14,7 @@ then_plain p q f g same each = plain-bind p f ∙ (λ i. bind (same i) (λ a. ea
 pub after_plain : {A B C : Type 0} (p : P A) (q : code.P A) (f : A → P B) (h : B → P C) (g : A → code.P C) → plain p ≡ q → ((a : A) → plain (bind (f a) h) ≡ g a) → plain (bind (bind p f) h) ≡ bind q g
 after_plain p q f h g same each = ap plain (bind-assoc p f h) ∙ then_plain p q (λ a. bind (f a) h) g same each
 
-plain_or_next : {A : Type 0} (o : Option A) (p : P (Option A)) (q : code.P (Option A)) → plain p ≡ q → plain (or_next o p) ≡ or_next o q
+pub plain_or_next : {A : Type 0} (o : Option A) (p : P (Option A)) (q : code.P (Option A)) → plain p ≡ q → plain (or_next o p) ≡ or_next o q
 plain_or_next (Some a) p q same = refl
 plain_or_next None p q same = same
 

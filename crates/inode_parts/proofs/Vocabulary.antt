@@ -1,14 +1,13 @@
 -- What this crate's proofs speak of: its own definitions, and what the crates below and the library call things.
 pub use Rattle.inode_parts.specs.Vocabulary.{Apart, Ask, AtEntries, AtName, AtNothing, Call, Carry, Claim, Claimed, Dinode, Do, Element, Emptied, EnteredState, Entry, Face, Filled, FilledMemory, Finds, First, Found, Given, Goes, GuardState, Had, Hand, Handover, Has, HasNoBuffer, HasRoomFor, Heard, Inode, IsAfter, IsEmpty, IsEmptying, IsLoadedAt, LockedState, Locks, Made, MatchOption, Name, Named, NothingMore, One, OpAbove as Op, OpenFile, P, Query, ReadReady, Refuses, Reply, Ret, Room, SearchReady, Seat, Second, Sight, Super, Take, Two, Whole, WholeFits, WritePart, WriteReady, WriteResult, Written, Wrote, above_op as op_in, answer_to, bare, below, beside_lock, beside_new, bind, call_in, cause_if, cause_of, clear_left, descriptor_count, doubled_by, doubled_to, emptying_of, enter_left, entries, file_left, file_seat, fill_left, filled_to, finish_left, first_listed, freeing_left, freeing_of, given_by, handlers, inode_at, inode_block, inode_blocks, inode_in, is_dying, is_free, is_listed, is_number, joined_by, kind_of, left_after, lock_left, lock_loaded, lock_seat, lookup, machine, name_in, new_file, new_left, new_value, no_inode, nothing, number_at, number_by, number_found, number_in, old_directory, open_left, open_seat, option_map, option_map_or, piece, program, query_in, read_count, read_left, read_of, record_in, record_left, record_of, record_place, reference_at, refused_by, refused_in, root, search_left, second_in, shut_by, shut_to, sight_in, sort_of, text_in, truncate_left, unloaded, unmarked, whole_of, with_aside, with_buffer, with_dying, with_first, with_inode, with_listed, with_record, with_reference, with_seated, with_txn, write_left, yes_in}
 unfoldable pub use Rattle.inode_parts.specs.Vocabulary.{answer_in, put}
-pub use Rattle.inodes_on_blocks.proofs.Vocabulary.{Acts, Address, Aim, BlockInHand as FetchedBlock, Bool, Cause, Commits, Direct, Free, IfSome, InTable, IsSome, Knowledge, Left, List, LocksIt, None, OfDevice, OfDirectory, OfFile, Option, Prog, Refused, Some, Sort, Unused, Used, [], acts, address, after_leave, ap, append-nil, append_assoc, arith, bind-assoc, block_count, block_len, blocks_between, cast_unsigned, claim_at, claim_in, clear_bit, clear_in, clear_slot, commit_unless, commits, direct, dirents_per_block, drop, drop-drop, end_of, entered_to, eq_is, eq_self, face_in, false, fetch, fetch_at, fetch_block, fetch_named, fetch_number, file_locked, filled_with, free_block, free_in, free_in_table, free_indirect, free_numbers, free_table, freed, front_of, give_back, give_content, give_fetched, give_read, give_written, give_zeros, grown, holding, if◌then◌else◌, inl, inr, is_some, joining_to, learned, length, length-append, lent_to, load_unless, locate, locate_at, locate_in_table, located, look_at, look_last, look_up, marked_by, most_writes, name_direct, name_in_table, nat_lt, nat_tests, next_block, not, numbers_in, open_locked, or_next, overwrite, part_of, put_grown, put_inode, put_named, put_part, put_record, read_from, read_part, read_unless, record_had, refl, same_self, search, search_entries, seen_record, slice_index, slot_count, slot_for, slot_found, sort_at, spell_dirent, stat_loaded, stat_locked, store_inode, store_written, subst, suc, sym, table_of, take, take_first, take_one, true, unwrap_or, with_address, with_slot, with_table, write_in, write_located, write_unless, zero, zero_found, ℕ, ℤ, ◌%◌, ◌*◌, ◌++◌, ◌+◌, ◌-◌, ◌/◌, ◌<◌, ◌==◌, ◌^◌, ◌∙◌, ◌∷◌, ◌≡◌, ◌≢◌, ◌≤◌, ◌⊎◌}
+pub use Rattle.inodes_on_blocks.proofs.Vocabulary.{Acts, Aim, BlockInHand as FetchedBlock, Bool, IfSome, IsSome, Knowledge, List, LocksIt, None, OfDevice, OfDirectory, OfFile, Option, Prog, Some, Sort, Unused, [], acts, address, after_leave, ap, append-nil, append_assoc, arith, bind-assoc, block_count, block_len, blocks_between, cast_unsigned, claim_at, claim_in, clear_bit, clear_in, clear_slot, commit_unless, commits, direct, dirents_per_block, drop, drop-drop, end_of, entered_to, eq_is, eq_self, face_in, false, fetch, fetch_at, fetch_block, fetch_named, fetch_number, file_locked, filled_with, free_block, free_in, free_in_table, free_indirect, free_numbers, free_table, freed, front_of, give_back, give_content, give_fetched, give_read, give_written, give_zeros, grown, holding, if◌then◌else◌, inl, inr, is_some, joining_to, learned, length, length-append, lent_to, load_unless, locate, locate_at, locate_in_table, located, look_at, look_last, look_up, marked_by, most_writes, name_direct, name_in_table, nat_lt, nat_tests, next_block, not, numbers_in, open_locked, or_next, overwrite, part_of, put_grown, put_inode, put_named, put_part, put_record, read_from, read_part, read_unless, record_had, refl, same_self, search, search_entries, seen_record, slice_index, slot_count, slot_for, slot_found, sort_at, spell_dirent, stat_loaded, stat_locked, store_inode, store_written, subst, suc, sym, table_of, take, take_first, take_one, true, unwrap_or, with_address, with_slot, with_table, write_in, write_located, write_unless, zero, zero_found, ℕ, ℤ, ◌%◌, ◌*◌, ◌++◌, ◌+◌, ◌-◌, ◌/◌, ◌<◌, ◌==◌, ◌^◌, ◌∙◌, ◌∷◌, ◌≡◌, ◌≢◌, ◌≤◌, ◌⊎◌}
 unfoldable pub use Rattle.inodes_on_blocks.proofs.Vocabulary.{claim_from, first_clear_below, found_in, read_blocks, search_from, search_full, with_dinode, with_dirent, write_blocks}
-pub use Rattle.inode_data.proofs.Vocabulary.{Emptying, FreeInode, HasOne, ReadPart, beside_emptying, first, record_has, without_content, write_part}
-pub use Rattle.fs_machine.proofs.Vocabulary.{Answer, Finish, NewFile, Place, without_record}
-pub use Rattle.inode_table.proofs.Vocabulary.{LockInode, NewInode, recorded}
-pub use Rattle.inode_machine.proofs.Vocabulary.{Descriptors, dup_on, full, read_on, read_reply, say}
-pub use Rattle.directory.proofs.Vocabulary.{Search, write_has}
-pub use Rattle.file_table.proofs.Vocabulary.{LockFile, LockOpen}
+pub use Rattle.inode_data.proofs.Vocabulary.{HasOne, beside_emptying, first, record_has, without_content, write_part}
+pub use Rattle.fs_machine.proofs.Vocabulary.{without_record}
+pub use Rattle.inode_table.proofs.Vocabulary.{recorded}
+pub use Rattle.inode_machine.proofs.Vocabulary.{dup_on, full, read_on, read_reply, say}
+pub use Rattle.directory.proofs.Vocabulary.{write_has}
 pub use Rattle.whole_calls.proofs.Vocabulary.{IsNamed, IsNamedInTwo, drop-append-add}
 pub use Rattle.inode_parts.specs.declared.note.Notes.{Notes}
 pub use Rattle.inode_parts.specs.Carries.{carry_in, had_at, had_of, handed, note_at, with_note}
@@ -103,3 +102,23 @@ pub use Rattle.path_walk.specs.declared.asks.Loan.{Loan}
 pub use Rattle.std.proofs.Math.ListN.{drop_of_length-le}
 pub use Rattle.std.specs.Int.{cast_signed, w16}
 pub use Rattle.whole_calls.proofs.Shifted.{in_two, named_front}
+pub use Rattle.directory.specs.declared.search.Search.{Search}
+pub use Rattle.file_table.specs.declared.lock_file.LockFile.{LockFile}
+pub use Rattle.file_table.specs.declared.lock_open.LockOpen.{LockOpen}
+pub use Rattle.fs_layout.specs.declared.entry.Dirent.TheVariants.{Free, Used}
+pub use Rattle.fs_machine.specs.declared.files.NewFile.{NewFile}
+pub use Rattle.fs_machine.specs.declared.files.Refused.{Refused}
+pub use Rattle.fs_machine.specs.declared.finish.Finish.{Finish}
+pub use Rattle.fs_machine.specs.declared.hand.Place.{Place}
+pub use Rattle.fs_machine.specs.declared.op.Answer.{Answer}
+pub use Rattle.group_log.specs.declared.log.Left.{Left}
+pub use Rattle.group_log.specs.declared.log.Left.TheVariants.{Commits}
+pub use Rattle.inode_data.specs.declared.addresses.Address.{Address}
+pub use Rattle.inode_data.specs.declared.addresses.Address.TheVariants.{Direct, InTable}
+pub use Rattle.inode_data.specs.declared.free_inode.FreeInode.{FreeInode}
+pub use Rattle.inode_data.specs.declared.read_part.ReadPart.{ReadPart}
+pub use Rattle.inode_data.specs.declared.truncate.Emptying.{Emptying}
+pub use Rattle.inode_table.specs.declared.lock_inode.LockInode.{LockInode}
+pub use Rattle.inode_table.specs.declared.new_inode.NewInode.{NewInode}
+pub use Rattle.plain_tree.specs.declared.answer.Cause.{Cause}
+pub use Rattle.plain_tree.specs.declared.answer.Full.TheVariants.{Descriptors}

@@ -1,11 +1,11 @@
 -- What the crates below call things: the words that this crate's definitions and contracts use.
-pub use Rattle.inodes_on_blocks.specs.Vocabulary.{AtEntries, AtName, AtNothing, Claim, Dinode, Do, Empty, FilledMemory, Found, Given, Handover, Inode, LockFile, LockOpen, LockedState, Locks, Name, Named, Query, ReadFile as Reads, Refuses, Ret, Sight, StatFile as Stats, Store, Super, Take, WriteFile as Writes, WriteResult, bind, descriptor_count, inode_block, inode_blocks, is_free, is_number, lookup, most_bytes, most_slots, option_map, root, unmarked}
+pub use Rattle.inodes_on_blocks.specs.Vocabulary.{AtEntries, AtName, AtNothing, Claim, Do, Empty, FilledMemory, Handover, LockFile, LockOpen, LockedState, Locks, Name, Named, Query, ReadFile as Reads, Refuses, Ret, Sight, StatFile as Stats, Store, Take, WriteFile as Writes, WriteResult, bind, descriptor_count, inode_block, inode_blocks, is_free, is_number, lookup, most_bytes, most_slots, option_map, root, unmarked}
 unfoldable pub use Rattle.inodes_on_blocks.specs.Vocabulary.{put, same_name}
-pub use Rattle.inode_data.specs.Vocabulary.{CanDo, First, Goes, GuardState, HandState as Hand, IsAfter, IsLoadedAt, MatchOption, Op, P, Prepared, RecordReady, Seat, Second, asks, bare, bits_per_block, inode_at, inode_in, left_after, number_in, op_in, option_map_or, record_asked, record_in, record_left, record_of, record_place, record_seat, unloaded, with_buffer}
+pub use Rattle.inode_data.specs.Vocabulary.{CanDo, Goes, GuardState, IsAfter, IsLoadedAt, MatchOption, P, Prepared, RecordReady, asks, bare, bits_per_block, inode_at, inode_in, left_after, number_in, op_in, option_map_or, record_asked, record_in, record_left, record_of, record_place, record_seat, unloaded, with_buffer}
 unfoldable pub use Rattle.inode_data.specs.Vocabulary.{answer_in}
-pub use Rattle.whole_calls.specs.Vocabulary.{Ask, Call, Element, Heard, IsElement, Reply, count_in, file_for, has, name_in, op_in as above_op, piece, piece_len, program, reply_to, sort_of}
-pub use Rattle.directory.specs.Vocabulary.{Begun, IfBegun, IsName, WriteReady, Written, begun_of, write_asked, write_left}
-pub use Rattle.file_table.specs.Vocabulary.{OpenFile, beside_lock}
+pub use Rattle.whole_calls.specs.Vocabulary.{IsElement, count_in, file_for, has, name_in, op_in as above_op, piece, piece_len, program, reply_to, sort_of}
+pub use Rattle.directory.specs.Vocabulary.{IfBegun, IsName, WriteReady, begun_of, write_asked, write_left}
+pub use Rattle.file_table.specs.Vocabulary.{beside_lock}
 pub use Rattle.inode_data.specs.Emptying.{HasNoBuffer, IsEmptying, TruncateReady, emptying_of, truncate_asked, truncate_left}
 pub use Rattle.inodes_on_blocks.specs.Lowering.{Apart, Carry, Emptied, Finds, Had, Has, NothingMore, Opened, below, nothing}
 pub use Rattle.fs_machine.specs.Hands.{first_listed, no_inode, number_at, reference_at, with_aside, with_first, with_inode, with_listed, with_record, with_reference, with_seated, with_txn}
@@ -47,3 +47,20 @@ pub use Rattle.path_walk.specs.declared.asks.Sort.{Sort}
 pub use Rattle.path_walk.specs.declared.asks.Wrote.{Wrote}
 pub use Rattle.whole_calls.specs.Reads.{read_of}
 pub use Rattle.whole_calls.specs.declared.whole.Whole.{Whole}
+pub use Rattle.directory.specs.declared.found.Found.{Found}
+pub use Rattle.fs_layout.specs.declared.inode.Dinode.{Dinode}
+pub use Rattle.fs_layout.specs.declared.superblock.Super.{Super}
+pub use Rattle.fs_machine.specs.declared.entries.Inode.{Inode}
+pub use Rattle.fs_machine.specs.declared.files.OpenFile.{OpenFile}
+pub use Rattle.fs_machine.specs.declared.hand.Hand.{Hand}
+pub use Rattle.fs_machine.specs.declared.hand.Place.TheVariants.{First, Second}
+pub use Rattle.fs_machine.specs.declared.hand.Seat.{Seat}
+pub use Rattle.fs_machine.specs.declared.op.Op.{Op}
+pub use Rattle.fs_machine.specs.declared.slots.Given.{Given}
+pub use Rattle.inode_data.specs.declared.begun.Begun.{Begun}
+pub use Rattle.inode_data.specs.declared.write_part.Written.{Written}
+pub use Rattle.path_walk.specs.declared.asks.Ask.{Ask}
+pub use Rattle.path_walk.specs.declared.asks.Heard.{Heard}
+pub use Rattle.path_walk.specs.declared.elements.Element.{Element}
+pub use Rattle.plain_tree.specs.declared.answer.Reply.{Reply}
+pub use Rattle.plain_tree.specs.declared.call.Call.{Call}

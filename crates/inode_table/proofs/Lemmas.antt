@@ -1,5 +1,5 @@
 -- What the proofs of this crate's functions use: its lemmas, and what they speak of.
-pub use Rattle.fs_machine.proofs.Vocabulary.{Bool, BufferState, Dinode, Do, Goes, GuardState, Hand, Inode, Is, IsSome, List, None, Option, P, Ret, Some, [], ap, arith, bind, block_at, cond, false, fetch_block, fetch_left, inode_in, length, number_at, reference_at, refl, set, subst, sym, true, unmarked, ℕ, ◌++◌, ◌+◌, ◌-◌, ◌<◌, ◌∙◌, ◌∷◌, ◌≡◌, ◌≤◌}
+pub use Rattle.fs_machine.proofs.Vocabulary.{Bool, BufferState, Do, Goes, GuardState, IsSome, List, None, Option, P, Ret, Some, [], ap, arith, bind, block_at, cond, false, fetch_block, fetch_left, inode_in, length, number_at, reference_at, refl, set, subst, sym, true, unmarked, ℕ, ◌++◌, ◌+◌, ◌-◌, ◌<◌, ◌∙◌, ◌∷◌, ◌≡◌, ◌≤◌}
 unfoldable pub use Rattle.fs_machine.proofs.Vocabulary.{answer_in}
 pub use Rattle.fs_layout.proofs.Vocabulary.{append-nil, cast_signed, dinode_at, take, ◌%◌, ◌*◌}
 unfoldable pub use Rattle.fs_layout.proofs.Vocabulary.{u16_at}
@@ -20,3 +20,7 @@ pub use Rattle.inode_table.specs.declared.new_inode.Made.{Made}
 pub use Rattle.std.proofs.Common.{add-one, rules, w16}
 pub use Rattle.std.proofs.Math.Seq.{take-suc-set}
 pub use Rattle.std.proofs.lemmas.List.{length-set}
+pub use Rattle.fs_layout.specs.declared.inode.Dinode.{Dinode}
+pub use Rattle.fs_machine.specs.declared.entries.Inode.{Inode}
+pub use Rattle.fs_machine.specs.declared.hand.Hand.{Hand}
+pub use Rattle.fs_machine.specs.declared.op.Answer.TheVariants.{Is}

@@ -1,5 +1,5 @@
 -- What this crate's proofs speak of: its own definitions, and what the crates below and the library call things.
-pub use Rattle.fs_machine.proofs.Vocabulary.{Dinode, GuardState, Hand, Inode, IsSome, MatchOption, None, One, Option, P, Seat, Some, Two, ap, arith, false, fetch_left, inode_in, is_some, no_inode, option_map, option_map_or, refl, ℕ, ◌∙◌, ◌≡◌}
+pub use Rattle.fs_machine.proofs.Vocabulary.{GuardState, IsSome, MatchOption, None, Option, P, Some, ap, arith, false, fetch_left, inode_in, is_some, no_inode, option_map, option_map_or, refl, ℕ, ◌∙◌, ◌≡◌}
 pub use Rattle.fs_layout.proofs.Vocabulary.{dinode_of, spell_dinode, ◌*◌}
 pub use Rattle.fs_layout.proofs.Inodes.{dinode_of-spell, length-spell_dinode}
 pub use Rattle.fs_layout.proofs.Overwrites.{part-overwrite, record_at-overwrite}
@@ -19,3 +19,8 @@ pub use Rattle.inode_table.specs.declared.lock_inode.LockInode.{LockInode}
 pub use Rattle.inode_table.specs.declared.new_inode.NewInode.{NewInode}
 pub use Rattle.inode_table.specs.declared.store_inode.StoreInode.{StoreInode}
 pub use Rattle.inode_table.specs.declared.store_record.StoreRecord.{StoreRecord}
+pub use Rattle.fs_layout.specs.declared.inode.Dinode.{Dinode}
+pub use Rattle.fs_machine.specs.declared.entries.Inode.{Inode}
+pub use Rattle.fs_machine.specs.declared.hand.Hand.{Hand}
+pub use Rattle.fs_machine.specs.declared.hand.Seat.{Seat}
+pub use Rattle.fs_machine.specs.declared.hand.Seat.TheVariants.{One, Two}

@@ -1,5 +1,5 @@
 -- What the crates below call things: the words that this crate's definitions and contracts use.
-pub use Rattle.fs_machine.specs.Vocabulary.{Dinode, Do, GuardState, MatchOption, Prog, Ret, Super, option_map, option_map_or, unmarked, unwrap_or}
+pub use Rattle.fs_machine.specs.Vocabulary.{Do, GuardState, MatchOption, Prog, Ret, option_map, option_map_or, unmarked, unwrap_or}
 pub use Rattle.group_log.specs.Vocabulary.{block_len, overwrite}
 pub use Rattle.fs_machine.specs.declared.hand.Hand.{Hand}
 pub use Rattle.fs_machine.specs.declared.hand.Seat.{Seat}
@@ -20,3 +20,5 @@ pub use Rattle.fs_machine.specs.Steps.{Answer, Claim, ClaimResult, Claims, NoIno
 pub use Rattle.fs_machine.specs.Tied.{bytes_of}
 pub use Rattle.fs_machine.specs.declared.entries.Inode.{Inode}
 pub use Rattle.fs_layout.specs.Bytes.{i16_at}
+pub use Rattle.fs_layout.specs.declared.inode.Dinode.{Dinode}
+pub use Rattle.fs_layout.specs.declared.superblock.Super.{Super}

@@ -1,8 +1,9 @@
 -- A transaction has room for what its call's program may spend.
-use Rattle.inodes_on_blocks.proofs.Vocabulary.{◌≡◌, inl, inr, ℕ, zero, suc, ◌+◌, ◌<◌, ◌≤◌, ◌==◌, ◌&&◌, ◌||◌, List, [], ◌∷◌, ◌++◌, length, Bool, true, false, Option, Some, None, refl, sym, ◌∙◌, ap, subst, arith, if◌then◌else◌, slice_get, slice_set, Super, one_if, either, eq_is, has, one_more, HasRoom, IsMember, inode_block, Spent, unspent, size, with_number, with_inode as with_record, with_bitmap, with_contents, LogPart, put_block, recorded_in, used, Accounts, IsSpent, RoomLaws, TransactionsHaveRoom}
+use Rattle.inodes_on_blocks.proofs.Vocabulary.{◌≡◌, inl, inr, ℕ, zero, suc, ◌+◌, ◌<◌, ◌≤◌, ◌==◌, ◌&&◌, ◌||◌, List, [], ◌∷◌, ◌++◌, length, Bool, true, false, Option, Some, None, refl, sym, ◌∙◌, ap, subst, arith, if◌then◌else◌, slice_get, slice_set, Super, one_if, either, eq_is, has, one_more, HasRoom, IsMember, inode_block, Spent, size, with_contents, LogPart, put_block, recorded_in, used, Accounts, IsSpent, RoomLaws, TransactionsHaveRoom}
 use Rattle.inode_machine.specs.Budget as budget
 use Rattle.inodes_on_blocks.proofs.Groups.{has_more, has_last, has_members, member_at}
 use Rattle.inodes_on_blocks.proofs.Rooms.{room_of}
+use Rattle.inode_machine.proofs.Budgets.{one_bit}
 
 -- ---- members
 
@@ -22,11 +23,6 @@ one_less : (t u : Bool) → (t ≡ true → u ≡ true) → one_if t ≤ one_if 
 unfolding one_if
 one_less true u up = subst (λ (z : Bool). 1 ≤ one_if z) (sym (up refl)) (let z : 1 ≤ 1 = omega arith in z)
 one_less false u up = omega arith
-
-one_bit : (t : Bool) → one_if t ≤ 1
-unfolding one_if
-one_bit true = let z : 1 ≤ 1 = omega arith in z
-one_bit false = let z : 0 ≤ 1 = omega arith in z
 
 one_yes : (t : Bool) → t ≡ true → one_if t ≡ 1
 unfolding one_if

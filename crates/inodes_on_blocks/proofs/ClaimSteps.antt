@@ -1,5 +1,5 @@
 -- The operation that takes a new inode acts where a block of the table is looked through; its record is put in a step of its own.
-use Rattle.inodes_on_blocks.proofs.Vocabulary.{◌≡◌, ◌≢◌, inl, inr, ℕ, zero, suc, ℤ, pos, negsuc, ◌+◌, ◌*◌, ◌/◌, ◌<◌, ◌≤◌, ◌||◌, ◌&&◌, Bool, true, false, List, Option, Some, None, is_some, refl, sym, ◌∙◌, ap, subst, arith, if◌then◌else◌, [], IsSome, nat_lt, is_none, nat_tests, Super, dinode_at, IsOutsideLog, SeatState, kept, given_back, holder_of, has, HasRoom, is_free, is_number, hart_count, and_true, put_same, put_other, Do, unmarked, Did, Ran, Machine, Laws, P, Wp, Both, joined, Below, Handover, Lasts, Here, Silent, ToAct, to_act, acted, s-silent, Wp-more, TablesState, references_in, lock_holder, up_inode, first_free, is_unreferenced, Outside, Passes, seen_of, keeps_whole, leaves_own, shows_its_puts, free_in, inode_blocks, new_record, inode_block, with_dinode, Spent, size, most_recorded, Sort, Claim, claimed, counted_up, has_place, place_count, referenced, blank, marked, with_mark, Idle, Inv, more, loaded, kind_of, World, log_of, tables_of, inode_in, came_to, exec, alone, Answers, IsDone, in_hand, HasBuffer, SameBut, Carry, IsThrough, Keeps, Kept, Labels, Same, Stands, below, labelled, IsMade, answers, claim, claim_at, claim_from, claim_in, claim_mark, HasInodes, Owners, GivesRoom, HasSpent, Shows, ActsWithin, DoesItWithin}
+use Rattle.inodes_on_blocks.proofs.Vocabulary.{◌≡◌, ◌≢◌, inl, inr, ℕ, zero, suc, ℤ, pos, negsuc, ◌+◌, ◌*◌, ◌/◌, ◌<◌, ◌≤◌, ◌||◌, ◌&&◌, Bool, true, false, List, Option, Some, None, is_some, refl, sym, ◌∙◌, ap, subst, arith, if◌then◌else◌, [], IsSome, nat_lt, is_none, nat_tests, Super, dinode_at, IsOutsideLog, SeatState, kept, given_back, holder_of, has, HasRoom, is_free, is_number, hart_count, and_true, put_same, put_other, Do, unmarked, Did, Ran, Machine, Laws, P, Wp, Both, joined, Below, Handover, Lasts, Here, Silent, ToAct, to_act, acted, s-silent, Wp-more, TablesState, references_in, up_inode, first_free, is_unreferenced, Outside, Passes, seen_of, keeps_whole, leaves_own, shows_its_puts, free_in, inode_blocks, new_record, inode_block, with_dinode, Spent, size, most_recorded, Sort, Claim, claimed, counted_up, has_place, place_count, referenced, blank, marked, with_mark, Idle, Inv, more, loaded, kind_of, World, log_of, tables_of, inode_in, came_to, exec, alone, Answers, IsDone, in_hand, HasBuffer, SameBut, Carry, IsThrough, Keeps, Kept, Labels, Same, Stands, below, labelled, IsMade, answers, claim, claim_at, claim_from, claim_in, claim_mark, HasInodes, Owners, GivesRoom, HasSpent, Shows, ActsWithin, DoesItWithin}
 use Rattle.std.specs.Prelude.{Contains}
 use Rattle.fs_machine.specs.Tables as places
 use Rattle.fs_machine.specs.Premises as premises

@@ -7,17 +7,13 @@ use Rattle.inode_machine.specs.World as above
 use Rattle.inode_machine.specs.Rules as rules
 use Rattle.inodes_on_blocks.proofs.ContentGiven.{Between, content_steps, named_kept, s-content}
 use Rattle.inodes_on_blocks.proofs.StoreSteps.{PutsRecord, record_acts}
+use Rattle.inodes_on_blocks.proofs.NewInodes.{all_zero}
 
 -- ---- a record without content
 
 zero_addrs : (k : ℕ) → AllByRecursion (λ b. b < 2 ^ 32) (replicate k 0)
 zero_addrs zero = tt
 zero_addrs (suc k) = (omega arith, zero_addrs k)
-
-all_zero : (n : ℕ) → All {X = ℕ} (λ b. b ≡ 0) (replicate n 0)
-all_zero zero k z l = absurd (omega (arith, l))
-all_zero (suc n) zero z l = refl
-all_zero (suc n) (suc k) z l = all_zero n k z (omega (arith, l))
 
 emptied_fits : (d : Dinode) → IsDinode d → IsDinode (without_content d)
 emptied_fits d is = record { kind = is.kind; major = is.major; minor = is.minor; nlink = is.nlink; size = omega arith; thirteen = refl; addrs = zero_addrs 13 }

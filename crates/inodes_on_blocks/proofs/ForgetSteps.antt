@@ -1,5 +1,5 @@
 -- The reference that is left to a freed inode goes in one step.
-use Rattle.inodes_on_blocks.proofs.Vocabulary.{◌≡◌, ℕ, ◌<◌, ◌==◌, ◌&&◌, Bool, false, true, Option, Some, None, refl, sym, ◌∙◌, ap, subst, if◌then◌else◌, slice_get, Dinode, SlotState, pick, Node, hart_count, Did, Waits, Ran, Stops, did_in, Laws, Both, Inode, TablesState, place_of, DroppedState, Counts, Dies, dead_in, dying, drop_inode, drop_at, drop_dying, drop_freed, uncounted_freed as freed_at, Freed, Forget, is_last, down_if, counted_down, Inv, Held as AboveHeld, above_own as own_of, view, more, load_after, BothCame, loaded, loaded_at, loaded_of, World, tables_of, Shows, Carry, Base, Labels, labelled, Keeps, forget, ActsOnce}
+use Rattle.inodes_on_blocks.proofs.Vocabulary.{◌≡◌, ℕ, ◌<◌, ◌==◌, ◌&&◌, Bool, false, true, Option, Some, None, refl, sym, ◌∙◌, ap, subst, if◌then◌else◌, slice_get, Dinode, SlotState, pick, Node, hart_count, Did, Waits, Ran, Stops, did_in, Laws, Both, Inode, TablesState, place_of, DroppedState, Counts, Dies, dead_in, dying, drop_inode, drop_at, drop_dying, drop_freed, uncounted_freed as freed_at, Freed, Forget, is_last, down_if, counted_down, Inv, load_after, BothCame, loaded, loaded_at, loaded_of, World, tables_of, Shows, Carry, Base, Labels, labelled, Keeps, forget, ActsOnce}
 use Rattle.fs_machine.specs.declared.entries.Entry.{Entry}
 use Rattle.fs_machine.specs.Steps as steps
 use Rattle.fs_machine.specs.Premises as premises

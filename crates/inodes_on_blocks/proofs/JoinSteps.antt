@@ -1,5 +1,5 @@
 -- A transaction is joined in one step, which may wait below.
-use Rattle.inodes_on_blocks.proofs.Vocabulary.{◌≡◌, inl, inr, ℕ, ◌<◌, Bool, true, false, length, get_or, get_or-set_other, is_some, Option, Some, None, refl, sym, ◌∙◌, ap, subst, if◌then◌else◌, slice_get, slice_set, slice_get-get_or, slice_get-set_other, put, hart_count, same_or, put_same, put_other, joined_count as joined, limit_of, join_waits, Ran, Laws, Both, join_if, IsWholeLog, After, keeps_whole, Desk, Join, is_at, Inv, LocksNone, loaded, is_joined, Ghost, AreOnBlocks, World, log_of, tables_of, disk_of, came_to, Shows, if_joined, ghost_of, on_blocks, Carry, Base, Labels, labelled, Keeps, join, ActsOnce}
+use Rattle.inodes_on_blocks.proofs.Vocabulary.{◌≡◌, inl, inr, ℕ, ◌<◌, Bool, true, false, length, get_or, get_or-set_other, is_some, Option, Some, None, refl, sym, ◌∙◌, ap, subst, if◌then◌else◌, slice_get, slice_set, slice_get-get_or, slice_get-set_other, put, hart_count, same_or, put_same, put_other, joined_count as joined, limit_of, join_waits, Ran, Laws, Both, join_if, IsWholeLog, After, keeps_whole, Desk, Join, LocksNone, loaded, is_joined, Ghost, AreOnBlocks, World, log_of, tables_of, disk_of, came_to, Shows, if_joined, ghost_of, on_blocks, Carry, Base, Labels, labelled, Keeps, join, ActsOnce}
 use Rattle.std.proofs.lemmas.List.{get_or-set_same}
 use Rattle.fs_machine.specs.Steps as steps
 use Rattle.fs_machine.specs.Premises as premises

@@ -1,5 +1,7 @@
 -- How often a number stands in what is gathered from inodes, as a sum over them.
-use Rattle.inodes_on_blocks.proofs.Vocabulary.{◌≡◌, ◌≢◌, ℕ, zero, suc, ◌+◌, ◌≤◌, Bool, true, false, eqb, cond, inl, inr, refl, sym, ◌∙◌, ap, arith, List, [], ◌∷◌, filter, sum_by-cons, sum_by-append, gathered, times, sum_below, one_if, either, eq_not, same_or}
+use Rattle.inodes_on_blocks.proofs.Vocabulary.{◌≡◌, ◌≢◌, ℕ, zero, suc, ◌+◌, ◌≤◌, Bool, true, false, eqb, cond, inl, inr, refl, sym, ◌∙◌, ap, arith, List, [], ◌∷◌, filter, sum_by-cons, gathered, times, sum_below, one_if, either, eq_not, same_or}
+pub use Rattle.image_tree.proofs.Freed.{filter_keeps, filter_drops}
+pub use Rattle.image_tree.proofs.Unnamed.{times_more}
 
 -- how much one number adds to how often i stands in a list
 abbrev hits : ℕ → ℕ → ℕ
@@ -18,10 +20,6 @@ times_cons i x xs = elim (either (eqb x i)) [
 pub no_hit : (x i : ℕ) → x ≢ i → one_if (eqb x i) ≡ 0
 unfolding one_if
 no_hit x i ne = rw (eq_not x i ne) refl
-
-pub times_more : (i : ℕ) (f : ℕ → List ℕ) (n : ℕ) → times i (gathered f (suc n)) ≡ times i (gathered f n) + times i (f (suc n))
-unfolding gathered
-times_more i f n = sum_by-append (hits i) (gathered f n) (f (suc n))
 
 pub times_start : (i : ℕ) (f : ℕ → List ℕ) → times i (gathered f 0) ≡ 0
 unfolding gathered
@@ -66,12 +64,6 @@ gathered_only f i (suc n) k low high none = elim (same_or k (suc n)) [
 ]
 
 -- ---- what a test leaves of a list
-
-pub filter_keeps : (p : ℕ → Bool) (x : ℕ) (xs : List ℕ) → p x ≡ true → filter p (x ∷ xs) ≡ x ∷ filter p xs
-filter_keeps p x xs h = rw h refl
-
-pub filter_drops : (p : ℕ → Bool) (x : ℕ) (xs : List ℕ) → p x ≡ false → filter p (x ∷ xs) ≡ filter p xs
-filter_drops p x xs h = rw h refl
 
 pub times_filtered : (p : ℕ → Bool) (i : ℕ) (xs : List ℕ) → p i ≡ true → times i (filter p xs) ≡ times i xs
 times_filtered p i [] h = refl

@@ -37,7 +37,7 @@ among_free ninodes first block (suc k) n has = elim (Contains-append_cases (free
 
 -- ---- what it holds
 
-all_zero : (n : ℕ) → All {X = ℕ} (λ b. b ≡ 0) (replicate n 0)
+pub all_zero : (n : ℕ) → All {X = ℕ} (λ b. b ≡ 0) (replicate n 0)
 all_zero zero k z l = absurd (omega (arith, l))
 all_zero (suc n) zero z l = refl
 all_zero (suc n) (suc k) z l = all_zero n k z (omega (arith, l))

@@ -1,9 +1,10 @@
 -- The nodes of the tree that an image holds, and their slots.
-use Rattle.inodes_on_blocks.proofs.Vocabulary.{◌≡◌, ⊎_elim, ℕ, zero, suc, ◌<◌, ◌≤◌, true, false, ℤ, pos, negsuc, eqb, inl, inr, refl, sym, ◌∙◌, ap, arith, List, [], ◌∷◌, length, length-append, drop, get_or, Option, Some, None, nat_lt, false≢true, false_from_ne_true, cases_lt, eqb-true, get_or_past, get_or_append_left, get_or_at, Dinode, sizes_of, Node, Kind, Directory, tree_of, live_directory, times, inode_of, is_number, is_positive, is_live, is_node, is_live_directory, slots_in, slot_numbers, further_in, is_file, count_of, node_of, first_nodes, tree_in, node_is, node_from, directory_is, directory_from, Slots, folder, past, count_in, either, folder_dead, count_nil}
+use Rattle.inodes_on_blocks.proofs.Vocabulary.{◌≡◌, ⊎_elim, ℕ, zero, suc, ◌<◌, ◌≤◌, true, false, ℤ, pos, negsuc, inl, inr, refl, sym, ◌∙◌, ap, arith, List, [], ◌∷◌, length, length-append, drop, get_or, Option, Some, None, nat_lt, false≢true, false_from_ne_true, cases_lt, get_or_past, get_or_append_left, get_or_at, Dinode, sizes_of, Node, Kind, Directory, tree_of, live_directory, times, inode_of, is_positive, is_live, is_node, is_live_directory, slots_in, slot_numbers, further_in, is_file, count_of, node_of, first_nodes, tree_in, node_is, node_from, directory_is, directory_from, Slots, folder, past, count_in, either, folder_dead, count_nil}
 use Rattle.plain_tree.specs.Tree.{is_directory}
 use Rattle.image_tree.specs.Inodes as inodes
 use Rattle.image_tree.specs.Trees.{kind_of}
 use Rattle.inodes_on_blocks.proofs.ImageSlots.{Entries, in_tree, past_in_tree, counts_same}
+pub use Rattle.image_tree.proofs.SlotLemmas.{directory_kind}
 
 -- ---- the nodes by number
 
@@ -55,10 +56,6 @@ nodes_at disk i =
     (cases_lt i n)
 
 -- ---- live directories
-
-pub directory_kind : (z : ℤ) → is_number 1 z ≡ true → is_number 0 z ≡ false
-directory_kind (pos n) h = ap (λ (k : ℕ). eqb k 0) (eqb-true n 1 h)
-directory_kind (negsuc n) h = refl
 
 -- a live directory is a node
 pub directory_node : (disk : List (List ℕ)) (i : ℕ) → is_live_directory disk i ≡ true → is_node disk i ≡ true

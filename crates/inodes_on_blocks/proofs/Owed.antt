@@ -7,12 +7,12 @@ use Rattle.inodes_on_blocks.specs.ShownTables as tables
 -- ---- sums
 
 -- the first term first
-sum_front : (n : ℕ) (f : ℕ → ℕ) → sum_below (suc n) f ≡ f 0 + sum_below n (λ k. f (suc k))
+pub sum_front : (n : ℕ) (f : ℕ → ℕ) → sum_below (suc n) f ≡ f 0 + sum_below n (λ k. f (suc k))
 unfolding sum_below
 sum_front zero f = omega arith
 sum_front (suc n) f = let ih = sum_front n f in omega (arith, ih)
 
-one_cond : (b : Bool) → cond b 1 0 ≡ one_if b
+pub one_cond : (b : Bool) → cond b 1 0 ≡ one_if b
 one_cond true = sym (one_yes true refl)
 one_cond false = sym (one_no false refl)
 

@@ -1,5 +1,5 @@
 -- A block recorded for an inode that the hart is changing: the others have theirs, and what is shown stays.
-use Rattle.inodes_on_blocks.proofs.Vocabulary.{◌≡◌, ◌≢◌, ℕ, ◌<◌, ◌≤◌, Bool, true, List, length, Option, Some, None, refl, sym, ◌∙◌, ap, subst, inl, inr, if◌then◌else◌, false, slice_get, none-some, same_Some, Super, Dinode, sizes_of, same_or, is_free, IsRunning, TablesState, place_of, lock_holder, holder_in, holder_at, references_in, references_at, found, InsideFits, PlaceFits, Inode, SlotState, LogPart, put_block, Own, seen_of, Desk, is_hart, loaded, loaded_in, loaded_at, loaded_of, is_joined, AreOnBlocks, Owners, World, log_of, tables_of, disk_of, inode_in, untyped, Shows, if_joined, ghost_of, on_blocks, Same, commit_in, undertaken, CanPut, PutLeaves}
+use Rattle.inodes_on_blocks.proofs.Vocabulary.{◌≡◌, ◌≢◌, ℕ, ◌<◌, ◌≤◌, Bool, true, List, length, Option, Some, None, refl, sym, ◌∙◌, ap, subst, inl, inr, if◌then◌else◌, false, slice_get, none-some, same_Some, Super, Dinode, sizes_of, same_or, is_free, IsRunning, TablesState, place_of, lock_holder, holder_in, holder_at, references_in, references_at, found, InsideFits, PlaceFits, Inode, SlotState, LogPart, put_block, Own, seen_of, is_hart, loaded, loaded_in, loaded_at, loaded_of, is_joined, AreOnBlocks, Owners, World, log_of, tables_of, disk_of, inode_in, untyped, Shows, if_joined, ghost_of, on_blocks, Same, commit_in, undertaken, CanPut, PutLeaves}
 use Rattle.inodes_on_blocks.proofs.SeenDisks.{good_seen}
 use Rattle.inodes_on_blocks.proofs.HeldFrames.{untouched}
 use Rattle.fs_machine.proofs.Places.{Found}

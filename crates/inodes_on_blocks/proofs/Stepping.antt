@@ -1,5 +1,5 @@
 -- A program of one step on the tables acts at it.
-use Rattle.inodes_on_blocks.proofs.Vocabulary.{◌≡◌, ◌≢◌, ℕ, suc, List, Option, None, ap, ◌∙◌, arith, Super, Ret, once, Did, Waits, Ran, Stops, Laws, Wp, Both, joined, Below, Lasts, Acting, s-act, Outside, Own, own_of, IsWholeLog, After, leaves_own, Desk, marked, with_mark, Inv, Idle, more, World, log_of, owners_after, commits_after, came_to, exec, new_after, Shows, Same, Kept, Carry, Base, Stands, below, Labels, labelled, Keeps, one, ActsOnce}
+use Rattle.inodes_on_blocks.proofs.Vocabulary.{◌≡◌, ◌≢◌, ℕ, suc, List, Option, None, ap, ◌∙◌, arith, Super, Ret, once, Did, Waits, Ran, Stops, Laws, Wp, Both, joined, Below, Lasts, Acting, s-act, Outside, Own, own_of, IsWholeLog, After, leaves_own, marked, with_mark, Inv, more, World, log_of, owners_after, commits_after, came_to, exec, new_after, Shows, Same, Kept, Carry, Base, Stands, below, Labels, labelled, Keeps, one, ActsOnce}
 use Rattle.fs_machine.specs.Steps as steps
 use Rattle.fs_machine.specs.Premises as premises
 use Rattle.inode_machine.specs.World as above

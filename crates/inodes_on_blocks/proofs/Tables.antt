@@ -1,5 +1,5 @@
 -- The steps on the tables, each as an operation above.
-use Rattle.inodes_on_blocks.proofs.Vocabulary.{◌≡◌, ◌⊎◌, inl, inr, ℕ, ◌<◌, ◌≤◌, Bool, true, false, Option, Some, None, refl, sym, ◌∙◌, ap, subst, if◌then◌else◌, IsSome, none-some, same_Some, Dinode, Super, sizes_of, seen_in, Node, hart_count, HoldsAt, IsRunning, TablesState, Desk, loaded, is_joined, World, log_of, disk_of, inode_in, tables_of, Shows, LoadsShow, OffsetsShow, if_joined, on_blocks, unless_new, Had, Carry, IsLoaded, InHand, Base, IsOpened}
+use Rattle.inodes_on_blocks.proofs.Vocabulary.{◌≡◌, ◌⊎◌, inl, inr, ℕ, ◌<◌, ◌≤◌, Bool, true, false, Option, Some, None, refl, sym, ◌∙◌, ap, subst, if◌then◌else◌, IsSome, none-some, same_Some, Dinode, Super, sizes_of, seen_in, Node, hart_count, HoldsAt, IsRunning, TablesState, loaded, is_joined, World, log_of, disk_of, inode_in, tables_of, Shows, LoadsShow, OffsetsShow, if_joined, on_blocks, unless_new, Had, Carry, IsLoaded, InHand, Base, IsOpened}
 use Rattle.inodes_on_blocks.proofs.SeenDisks.{good_seen}
 use Rattle.inode_machine.specs.World as above
 use Rattle.inodes_on_blocks.specs.ShownTables as tables

@@ -1,9 +1,9 @@
 -- What the crates below call things: the words that this crate's definitions and contracts use.
-pub use Rattle.image_tree.specs.Vocabulary.{Device, Dinode, Directory, Dirent, File, IsOutsideLog, Kind, Node, Slot as DirectorySlot, Super, Used, bit_of, block_at, block_len, dinode_at, dirent_len, dirents_per_block, inodes_per_block, magic, numbers_in, super_block, super_magic_at}
+pub use Rattle.image_tree.specs.Vocabulary.{IsOutsideLog, bit_of, block_at, block_len, dinode_at, dirent_len, dirents_per_block, inodes_per_block, magic, numbers_in, super_block, super_magic_at}
 unfoldable pub use Rattle.image_tree.specs.Vocabulary.{logged, recovered, sizes_of, u32_at}
-pub use Rattle.fs_machine.specs.Vocabulary.{Commits, Did, Do, Halted, HasRoom, IsHome, IsMember, Open, Phase, Prog, Ran, Ret, SeatState, SlotState, Stops, Waits, count_of, has, holder_of, is_held_by, joined as joined_count, kept, once, option_map, seen_in, unmarked, unwrap_or}
-pub use Rattle.inode_data.specs.Vocabulary.{Answer, Counts, Dies, DroppedState, Freed, Held, Inode, Keeps, Put, bind, fetch, free_block, inode_block, numbers_per_block, overwrite, store as store_inode, take_block}
-pub use Rattle.inode_machine.specs.Vocabulary.{Cause, Hold, Machine, Name, OpenFile, Tree, all_slots, descriptor_count, dot, dotdot, hart_count, is_live, root, tree_of}
+pub use Rattle.fs_machine.specs.Vocabulary.{Did, Do, HasRoom, IsHome, IsMember, Prog, Ran, Ret, SeatState, SlotState, Stops, Waits, count_of, has, holder_of, is_held_by, joined as joined_count, kept, once, option_map, seen_in, unmarked, unwrap_or}
+pub use Rattle.inode_data.specs.Vocabulary.{Answer, Counts, Dies, DroppedState, Freed, Held, Keeps, Put, bind, fetch, free_block, inode_block, numbers_per_block, overwrite, store as store_inode, take_block}
+pub use Rattle.inode_machine.specs.Vocabulary.{Machine, Name, Tree, all_slots, descriptor_count, dot, dotdot, hart_count, is_live, root, tree_of}
 unfoldable pub use Rattle.inode_machine.specs.Vocabulary.{any_below, one_if, put, same_name, settle}
 pub use Rattle.directory.specs.Vocabulary.{FetchedBlock, IsDirent, WriteResult, fetch_block, most_blocks, spell_dirent, write_part}
 pub use Rattle.inode_table.specs.Vocabulary.{Claims, IsDinode}
@@ -67,3 +67,18 @@ unfoldable pub use Rattle.inode_data.specs.Writing.{write_blocks}
 pub use Rattle.inode_machine.specs.Marks.{go}
 pub use Rattle.inode_table.specs.NewInodes.{free_in, inode_blocks, new_record}
 unfoldable pub use Rattle.tree_laws.specs.WellFormed.{raises}
+pub use Rattle.fs_layout.specs.declared.entry.Dirent.{Dirent}
+pub use Rattle.fs_layout.specs.declared.entry.Dirent.TheVariants.{Used}
+pub use Rattle.fs_layout.specs.declared.inode.Dinode.{Dinode}
+pub use Rattle.fs_layout.specs.declared.superblock.Super.{Super}
+pub use Rattle.fs_machine.specs.declared.entries.Inode.{Inode}
+pub use Rattle.group_log.specs.declared.log.Left.TheVariants.{Commits}
+pub use Rattle.group_log.specs.declared.phase.Phase.{Phase}
+pub use Rattle.group_log.specs.declared.phase.Phase.TheVariants.{Halted, Open}
+pub use Rattle.plain_tree.specs.declared.answer.Cause.{Cause}
+pub use Rattle.plain_tree.specs.declared.node.Kind.{Kind}
+pub use Rattle.plain_tree.specs.declared.node.Kind.TheVariants.{Device, Directory, File}
+pub use Rattle.plain_tree.specs.declared.node.Node.{Node}
+pub use Rattle.plain_tree.specs.declared.node.Slot.{Slot as DirectorySlot}
+pub use Rattle.plain_tree.specs.declared.tree.Hold.{Hold}
+pub use Rattle.plain_tree.specs.declared.tree.OpenFile.{OpenFile}

@@ -1,6 +1,6 @@
 //! Buffers: which are taken anew, what a fault leaves, and that there always is a buffer.
 ghost use Rattle.std.specs.Prelude.{◌≡◌};
-ghost use Rattle.layer_tests.specs.Vocabulary.{unused_from};
+ghost use Rattle.buffer_cache.specs.Seats.{unused_from};
 
 use crate::images::fresh;
 use block_device::{BLOCK_LEN, Device, Fused, MemoryDisk};

@@ -1,6 +1,6 @@
 //! Disks in memory: what a write leaves of the other bytes, and how many calls a fuse passes.
 ghost use Rattle.std.specs.Prelude.{◌≡◌, ◌<◌, length, IfOk};
-ghost use Rattle.layer_tests.specs.Vocabulary.{faults_after};
+ghost use Rattle.group_log.specs.Vocabulary.{faults_after};
 
 use crate::told::holds;
 use block_device::{BLOCK_LEN, Device, Fault, Fused, MemoryDisk};

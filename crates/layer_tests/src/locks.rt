@@ -1,6 +1,6 @@
 //! Sleep locks: what a slot gives, and a row that ends while some are out.
 ghost use Rattle.std.specs.Prelude.{◌≡◌, length, IfOk};
-ghost use Rattle.layer_tests.specs.Vocabulary.{IsNumbered};
+ghost use Rattle.sleep_lock.specs.Row.{IsNumbered};
 
 use sleep_lock::{Slot, Slots};
 use std::alloc::{AllocError, Global};

@@ -1,6 +1,10 @@
 //! A log over disks in memory: who waits, what a commit writes, and what a recovery makes of a fault.
 ghost use Rattle.std.specs.Prelude.{◌≡◌, [], IfOk};
-ghost use Rattle.layer_tests.specs.Vocabulary.{logged, IsPlaced, blocks_of, blocks_of-whole, IsFusedCall};
+ghost use Rattle.group_log.specs.Vocabulary.{logged};
+ghost use Rattle.group_log.specs.Soundness.{IsPlaced};
+ghost use Rattle.mkfs.specs.Vocabulary.{blocks_of};
+ghost use Rattle.block_device.specs.BlockLaws.{blocks_of-whole};
+ghost use Rattle.block_device.specs.Fuse.{IsFusedCall};
 
 use crate::images::fresh;
 use crate::told::holds;

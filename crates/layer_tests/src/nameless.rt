@@ -1,6 +1,7 @@
 //! Nodes without a name that are freed, also by a call that is stopped at each call of the device in turn.
 ghost use Rattle.std.specs.Prelude.{◌≡◌, IfOk};
-ghost use Rattle.layer_tests.specs.Vocabulary.{sizes_of, IsWellFormed};
+ghost use Rattle.group_log.specs.Vocabulary.{sizes_of};
+ghost use Rattle.mkfs.specs.Vocabulary.{IsWellFormed};
 
 use crate::by_hand::{Change, fresh, with};
 use crate::made_images::examine;

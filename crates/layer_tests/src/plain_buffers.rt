@@ -1,6 +1,8 @@
 //! Buffers beside a plain list of them, in order of giving back.
 ghost use Rattle.std.specs.Prelude.{◌≡◌, ◌<◌, ℕ, length, IfSome};
-ghost use Rattle.layer_tests.specs.Vocabulary.{seen, KeepsOthers, blocks_of};
+ghost use Rattle.group_log.specs.Vocabulary.{seen};
+ghost use Rattle.buffer_cache.specs.Seats.{KeepsOthers};
+ghost use Rattle.mkfs.specs.Vocabulary.{blocks_of};
 
 use crate::buffers::{BLOCKS, buffers, numbered};
 use block_device::{Device, MemoryDisk};

@@ -1,6 +1,6 @@
 //! The tables of inodes, open files and descriptors: who waits, what is full, and what a child is given.
 ghost use Rattle.std.specs.Prelude.{◌≡◌, Some};
-ghost use Rattle.layer_tests.specs.Vocabulary.{IsLocked};
+ghost use Rattle.fs_machine.specs.Locks.{IsLocked};
 
 use buffer_cache::HARTS;
 use directory::Search;

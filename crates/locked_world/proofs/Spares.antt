@@ -1,5 +1,5 @@
 -- A copy of each call that is under way is laid by: events keep that.
-use Rattle.locked_world.proofs.Vocabulary.{◌≡◌, ℕ, Bool, true, false, Option, Some, None, if◌then◌else◌, nat_eq, inl, inr, refl, sym, ◌∙◌, subst, eqb_tells, Super, Reply, Call, Ret, Do, Did, Waits, Ran, Stops, EventOf as Event, Start, Step, OutcomeOf as Outcome, Started, Refused, WasIdle, DidWait, DidRun, DidEnd, DidStop, WasStopped, Began, Refuses, Begins, changed, Plain, PlainMade, MayOf, plain_step, plain_unless, plain_prog, plain_tried, plain_moved, plain_start, plain_begun, Kind, Outside, P, Op, Answer, May, Refusal, SharedState, exec_shared, block_calls, block_code, HandsBack, FitsBlock, EndsWith, SpareFits}
+use Rattle.locked_world.proofs.Vocabulary.{◌≡◌, ℕ, Bool, true, false, Option, Some, None, if◌then◌else◌, nat_eq, inl, inr, refl, sym, ◌∙◌, subst, eqb_tells, Super, Reply, Call, Ret, Do, Did, Waits, Ran, Stops, Refused, DidWait, DidEnd, Began, Refuses, Begins, changed, Plain, PlainMade, MayOf, plain_step, plain_unless, plain_prog, plain_tried, plain_moved, plain_start, plain_begun, Kind, Outside, P, Op, Answer, May, Refusal, SharedState, exec_shared, block_calls, block_code, HandsBack, FitsBlock, EndsWith, SpareFits}
 
 -- In this state, where the device answers x, every block that hart h is answered fits, where it may ask.
 abbrev pub AnswersFit : ℕ → Outside → SharedState → Type 0

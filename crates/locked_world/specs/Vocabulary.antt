@@ -1,5 +1,5 @@
 -- What the crates below call things: the words that this crate's definitions and contracts use.
-pub use Rattle.hart_core.specs.Vocabulary.{Answer, Call, CallsOnce, Chdir, Close, ComesByCalls, Dup, Fstat, Inherit, Link, Mkdir, Op, OpenCall as Open, Other, P, Read, Replied, Reply, Shown, StartOf, Started, StepOf, Unlink, Write, tree_in}
+pub use Rattle.hart_core.specs.Vocabulary.{Answer, CallsOnce, ComesByCalls, Op, Other, P, Replied, Shown, StartOf, Started, StepOf, tree_in}
 pub use Rattle.inode_table.specs.Vocabulary.{Do, Ret, block_len}
 pub use Rattle.hart_core.specs.declared.events.Came.{Came}
 pub use Rattle.hart_core.specs.declared.events.Event.{Event}
@@ -12,3 +12,6 @@ pub use Rattle.hart_core.specs.Runs.{FoundRoom, HasHistory, IsExplained, IsMount
 pub use Rattle.hart_core.specs.declared.events.Event.TheVariants.{Start, Step}
 pub use Rattle.hart_core.specs.declared.outcome.Outcome.{Outcome}
 pub use Rattle.hart_core.specs.declared.outcome.Stop.{Stop}
+pub use Rattle.plain_tree.specs.declared.answer.Reply.{Reply}
+pub use Rattle.plain_tree.specs.declared.call.Call.{Call}
+pub use Rattle.plain_tree.specs.declared.call.Call.TheVariants.{Chdir, Close, Dup, Fstat, Inherit, Link, Mkdir, Open, Read, Unlink, Write}

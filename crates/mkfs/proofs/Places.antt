@@ -1,7 +1,8 @@
 -- What stands where in an image.
-use Rattle.mkfs.proofs.Vocabulary.{◌≡◌, ℕ, ◌-◌, ◌*◌, ◌<◌, ◌≤◌, Bool, true, false, cond, eqb, Some, None, List, [], ◌++◌, length, take, drop, replicate, ap, ◌∙◌, sym, refl, arith, append_assoc, length-append, eqb-true, take_at, drop_at, take-append-le, take-replicate, blocks_of, block_at, get_or-blocks_of, length-blocks_of, Super, u32_at, u32s_at, super_fields, spell_super, IsSuper, sizes_of, log_head_at, log_count, logged, recovered, super_of-spell, data_start, super_for, Node, padded, front, inode_table, bitmap, data_from, used_by, image_with}
+use Rattle.mkfs.proofs.Vocabulary.{◌≡◌, ℕ, ◌-◌, ◌*◌, ◌<◌, ◌≤◌, true, eqb, List, [], ◌++◌, length, take, drop, replicate, ap, ◌∙◌, sym, refl, arith, append_assoc, length-append, eqb-true, take_at, drop_at, take-append-le, take-replicate, blocks_of, block_at, get_or-blocks_of, length-blocks_of, Super, u32_at, u32s_at, super_fields, spell_super, IsSuper, sizes_of, log_head_at, log_count, logged, recovered, super_of-spell, data_start, super_for, Node, padded, front, inode_table, bitmap, data_from, used_by, image_with}
 use Rattle.mkfs.proofs.Padding.{length-padded}
 use Rattle.mkfs.proofs.Lengths.{Fits, length-image, length-zeros, length-super}
+use Rattle.image_tree.proofs.SuperAndLog.{some_from}
 
 -- the disk of an image
 abbrev pub disk_of : ℕ → ℕ → List Node → List (List ℕ)
@@ -48,10 +49,6 @@ block-one size ninodes nodes h =
     ∙ ap (λ (xs : List ℕ). take 1024 (drop 1024 xs)) (split size ninodes nodes)
     ∙ ap (take 1024) (drop_at (replicate 1024 0) (super_block size ninodes ++ rest) 1024 (length-zeros 1024))
     ∙ take_at (super_block size ninodes) rest 1024 (length-super_block size ninodes)
-
-some_from : {T : Type 0} (b : Bool) (x y : T) → cond b (Some x) None ≡ Some y → (b ≡ true) × (x ≡ y)
-some_from true x y h = (refl, let e = h in cc)
-some_from false x y h = cc
 
 -- it can be read back
 super-read : (size ninodes : ℕ) → size ≤ 8191 → ninodes ≤ 65535

@@ -1,5 +1,5 @@
 -- What this crate's proofs speak of: its own definitions, and what the crates below and the library call things.
-pub use Rattle.image_tree.proofs.Vocabulary.{All, All-append, AllByRecursion, AllPairs, AreGoodSlots, Bool, Dinode, Directory, Dirent, Err, File, Free, HasGoodCounts, HasGoodLog, HasGoodNumbers, HasGoodSizes, HasGoodSlots, HasGoodTypes, HasMarks, HasRoot, IsData, IsFittingSize, IsGoodCount, IsGoodSize, IsGoodSuper, IsGoodType, IsName, IsOnce, IsOneTree, IsWellFormed, List, NamesOnce, None, Ok, OnOk, Option, Result, Slot, Some, Super, UpToLog, Used, [], ap, append-nil, append_assoc, arith, at_rest, bit_of, block_at, block_number, blocks_for, cases_eq, cases_lt, children_of, cond, content_of, dinode_at, dirent_at, drop, drop_more, eq-eqb, eqb, eqb-true, false, false_from_ne_true, false≢true, filter, filter-append, flat_map, flat_map-append, further_in, further_names_of, get_or, get_or-map, get_or-replicate, get_or_append_left, get_or_at, get_or_default, if◌then◌else◌, inl, inr, is_block, is_directory, is_file, is_free, is_live, is_marked, is_number, is_positive, last, length, length-append, length-map, length-replicate, list_any, log_count, log_head_at, lt-ltb, map, min, named_by, named_in, nat_lt, ne_eqb, not, numbers_in, overwrite, parent_of, pos, refl, replicate, set, slot_numbers, slot_of, slots_of, subst, suc, sum_by-append, sum_by-cons, super_fields, sym, take, take-append-drop, take_more, times, tree_in, true, up, zero, ℕ, ⊎_elim, ◌%◌, ◌&&◌, ◌*◌, ◌++◌, ◌+◌, ◌-◌, ◌/◌, ◌<ℤ◌, ◌<◌, ◌==◌, ◌^◌, ◌∙◌, ◌∷◌, ◌≡◌, ◌≢◌, ◌≤◌, ◌⊎◌}
+pub use Rattle.image_tree.proofs.Vocabulary.{All, All-append, AllByRecursion, AllPairs, AreGoodSlots, Bool, Err, HasGoodCounts, HasGoodLog, HasGoodNumbers, HasGoodSizes, HasGoodSlots, HasGoodTypes, HasMarks, HasRoot, IsData, IsFittingSize, IsGoodCount, IsGoodSize, IsGoodSuper, IsGoodType, IsName, IsOnce, IsOneTree, IsWellFormed, List, NamesOnce, None, Ok, OnOk, Option, Result, Some, UpToLog, [], ap, append-nil, append_assoc, arith, at_rest, bit_of, block_at, block_number, blocks_for, cases_eq, cases_lt, children_of, cond, content_of, dinode_at, dirent_at, drop, drop_more, eq-eqb, eqb, eqb-true, false, false_from_ne_true, false≢true, filter, filter-append, flat_map, flat_map-append, further_in, further_names_of, get_or, get_or-map, get_or-replicate, get_or_append_left, get_or_at, get_or_default, if◌then◌else◌, inl, inr, is_block, is_directory, is_file, is_free, is_live, is_marked, is_number, is_positive, last, length, length-append, length-map, length-replicate, list_any, log_count, log_head_at, lt-ltb, map, min, named_by, named_in, nat_lt, ne_eqb, not, numbers_in, overwrite, parent_of, pos, refl, replicate, set, slot_numbers, slot_of, slots_of, subst, suc, sum_by-append, sum_by-cons, super_fields, sym, take, take-append-drop, take_more, times, tree_in, true, up, zero, ℕ, ⊎_elim, ◌%◌, ◌&&◌, ◌*◌, ◌++◌, ◌+◌, ◌-◌, ◌/◌, ◌<ℤ◌, ◌<◌, ◌==◌, ◌^◌, ◌∙◌, ◌∷◌, ◌≡◌, ◌≢◌, ◌≤◌, ◌⊎◌}
 unfoldable pub use Rattle.image_tree.proofs.Vocabulary.{climb, content_block, first_nodes, first_slots, front_blocks, gathered, inode_of, is_live_directory, is_node, kind_of, logged, node_of, numbers_by, numbers_of, recovered, sizes_of, slot_at, slots_in, u32_at, u32s_at}
 pub use Rattle.mkfs.specs.Vocabulary.{ArgMatches, IsNumeral, Set, Signed, digits_value, dot, dotdot, matches_of, range_with_len, rows_of, spell_dinode, spell_dirent, spell_numbers, spell_super, without_leading_plus}
 unfoldable pub use Rattle.mkfs.specs.Vocabulary.{blocks_of}
@@ -75,3 +75,9 @@ pub use Rattle.std.specs.Str.Parse.{ExplainsUnsignedError, HasUnsignedDigitsIfOk
 pub use Rattle.std.specs.declared.cmp.Ordering.{Ordering}
 pub use Rattle.std.specs.declared.cmp.Ordering.TheVariants.{Equal, Greater, Less}
 pub use Rattle.std.specs.declared.num.ParseIntError.{ParseIntError}
+pub use Rattle.fs_layout.specs.declared.entry.Dirent.{Dirent}
+pub use Rattle.fs_layout.specs.declared.entry.Dirent.TheVariants.{Free, Used}
+pub use Rattle.fs_layout.specs.declared.inode.Dinode.{Dinode}
+pub use Rattle.fs_layout.specs.declared.superblock.Super.{Super}
+pub use Rattle.plain_tree.specs.declared.node.Kind.TheVariants.{Directory, File}
+pub use Rattle.plain_tree.specs.declared.node.Slot.{Slot}

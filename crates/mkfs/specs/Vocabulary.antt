@@ -1,5 +1,5 @@
 -- What the crates below call things: the words that this crate's definitions and contracts use.
-pub use Rattle.image_tree.specs.Vocabulary.{Dinode, Directory, Dirent, File, Node, Slot, Super, TreeData, Used, at_rest, block_at, block_len, dinode_at, dirent_len, dirents_per_block, flat_map, inodes_per_block}
+pub use Rattle.image_tree.specs.Vocabulary.{TreeData, at_rest, block_at, block_len, dinode_at, dirent_len, dirents_per_block, flat_map, inodes_per_block}
 unfoldable pub use Rattle.image_tree.specs.Vocabulary.{logged, recovered, sizes_of}
 pub use Rattle.image_tree.specs.Checks.{largest_size}
 pub use Rattle.image_tree.specs.Inodes.{blocks_for, direct}
@@ -21,3 +21,10 @@ pub use Rattle.clap.specs.declared.parser.matches.ArgMatches.{ArgMatches}
 pub use Rattle.image_tree.specs.Damage.{IsWellFormed}
 pub use Rattle.image_tree.specs.Trees.{tree_in}
 pub use Rattle.std.specs.Str.Parse.{IsNumeral, digits_value, without_leading_plus}
+pub use Rattle.fs_layout.specs.declared.entry.Dirent.{Dirent}
+pub use Rattle.fs_layout.specs.declared.entry.Dirent.TheVariants.{Used}
+pub use Rattle.fs_layout.specs.declared.inode.Dinode.{Dinode}
+pub use Rattle.fs_layout.specs.declared.superblock.Super.{Super}
+pub use Rattle.plain_tree.specs.declared.node.Kind.TheVariants.{Directory, File}
+pub use Rattle.plain_tree.specs.declared.node.Node.{Node}
+pub use Rattle.plain_tree.specs.declared.node.Slot.{Slot}

@@ -1,4 +1,3 @@
-pub mod Lemmas
 pub mod Vocabulary
 pub mod ElementLemmas
 pub mod Onward

@@ -15,7 +15,7 @@ drop_at es i e lt is = drop-cons es i e lt ∙ (ap (λ x. x ∷ drop (suc i) es)
 
 -- Numbers that rise.
 
-rises_more : (low : ℕ) (e : Placed) (es : List Placed) → Rises low (e ∷ es) → (low ≤ e.event) × Rises e.event es
+pub rises_more : (low : ℕ) (e : Placed) (es : List Placed) → Rises low (e ∷ es) → (low ≤ e.event) × Rises e.event es
 unfolding Rises
 rises_more low e es h = h
 
@@ -42,7 +42,7 @@ rises_end es i low le inv = held (Rises 0 es) (inv.0 (subst (λ (x : List Placed
 
 -- Entries that belong.
 
-belong_more : (t : Trace) (e : Placed) (es : List Placed) → AllBelong t (e ∷ es) → Belongs t e × AllBelong t es
+pub belong_more : (t : Trace) (e : Placed) (es : List Placed) → AllBelong t (e ∷ es) → Belongs t e × AllBelong t es
 unfolding AllBelong
 belong_more t e es h = h
 

@@ -98,7 +98,7 @@ next_is (Fstat fd) acts = once_is _ acts
 next_is (Close fd) acts = once_is _ acts
 next_is (Inherit child) acts = once_is _ acts
 
-acts_append : (id : ℕ) (es fs : List Placed) → acts_of id (es ++ fs) ≡ acts_of id es ++ acts_of id fs
+pub acts_append : (id : ℕ) (es fs : List Placed) → acts_of id (es ++ fs) ≡ acts_of id es ++ acts_of id fs
 unfolding acts_of
 acts_append id [] fs = refl
 acts_append id (e ∷ es) fs = elim (cases_Bool (e.call == id)) [
@@ -112,7 +112,7 @@ acts_own id e es h =
     let y : (e.call == id) ≡ true = grind (arith, nat_tests) in
     rw y refl
 
-acts_other : (id : ℕ) (e : Placed) (es : List Placed) → e.call ≢ id → acts_of id (e ∷ es) ≡ acts_of id es
+pub acts_other : (id : ℕ) (e : Placed) (es : List Placed) → e.call ≢ id → acts_of id (e ∷ es) ≡ acts_of id es
 unfolding acts_of
 acts_other id e es h = rw (equal_not e.call id h) refl
 
@@ -159,13 +159,13 @@ pub follows_none : (c : Call) (id : ℕ) (list : List Placed) → Follows c [] (
 unfolding Follows
 follows_none c id list = rw (acts_none id) tt
 
-follows_push : (c : Call) (before acts : List Act) (a : Act) → Follows c before acts → next_of c (before ++ acts) ≡ Some a.step → Follows c before (acts ++ a ∷ [])
+pub follows_push : (c : Call) (before acts : List Act) (a : Act) → Follows c before acts → next_of c (before ++ acts) ≡ Some a.step → Follows c before (acts ++ a ∷ [])
 unfolding Follows
 follows_push c before [] a f n = (rw (append-nil before) at n, tt)
 follows_push c before (b ∷ bs) a f n = (f.0, follows_push c (before ++ b ∷ []) bs a f.1 (rw (append_assoc before (b ∷ []) bs) n))
 
 -- the step that stands there comes next of the ones before it
-follows_at : (c : Call) (before acts : List Act) (a : Act) (rest : List Act) → Follows c before (acts ++ a ∷ rest) → next_of c (before ++ acts) ≡ Some a.step
+pub follows_at : (c : Call) (before acts : List Act) (a : Act) (rest : List Act) → Follows c before (acts ++ a ∷ rest) → next_of c (before ++ acts) ≡ Some a.step
 unfolding Follows
 follows_at c before [] a rest f = rw (append-nil before) f.0
 follows_at c before (b ∷ bs) a rest f = rw (← append_assoc before (b ∷ []) bs) (follows_at c (before ++ b ∷ []) bs a rest f.1)

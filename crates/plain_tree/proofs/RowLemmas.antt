@@ -3,7 +3,7 @@ use Rattle.plain_tree.proofs.Vocabulary.{◌≡◌, ℕ, ◌<◌, Bool, true, fa
 use Rattle.plain_tree.proofs.Maps.{and_true, any_same}
 
 -- a key names what the descriptor does
-key_fd : (t : Tree) (o : Option ℕ) (n : ℕ) → key_names (key_at t.files o) n ≡ fd_names t o n
+pub key_fd : (t : Tree) (o : Option ℕ) (n : ℕ) → key_names (key_at t.files o) n ≡ fd_names t o n
 key_fd t None n = refl
 key_fd t (Some id) n = at (t.files id)
   where

@@ -140,7 +140,7 @@ changed t t1 t2 n f x w a b is e = set_again t t1 t2 n (Some w) None a b ∙ ap 
 pub stays : (t : Tree) (n : ℕ) (w : Node) → t.nodes n ≡ Some w → t ≡ with_nodes t (put t.nodes n (Some w))
 stays t n w h = ap (λ (f : ℕ → Option Node). with_nodes t f) (sym (put_back t.nodes n (Some w) (sym h)))
 
-set_twice : {A : Type 0} (xs : List A) (n : ℕ) (a b : A) → set (set xs n a) n b ≡ set xs n b
+pub set_twice : {A : Type 0} (xs : List A) (n : ℕ) (a b : A) → set (set xs n a) n b ≡ set xs n b
 set_twice [] n a b = refl
 set_twice (x ∷ xs) zero a b = refl
 set_twice (x ∷ xs) (suc n) a b = ap (λ ys. x ∷ ys) (set_twice xs n a b)

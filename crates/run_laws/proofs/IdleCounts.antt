@@ -1,19 +1,10 @@
 -- What the tables count of an inode: one for each open file, and what each hart has.
-use Rattle.run_laws.proofs.Vocabulary.{◌≡◌, ◌≢◌, ℕ, zero, suc, ◌+◌, ◌<◌, ◌==◌, Bool, true, false, cond, List, [], ◌∷◌, length, Option, Some, None, refl, sym, ◌∙◌, ap, subst, arith, slice_get, count_by, same_Some, slice_get_within, sum_by-cons, Dinode, hart_count, sum_below, one_if, none_any, one_yes, one_no, sum_same, FilePlace, Taken, TablesState, owed, references_of, is_file_of, is_directory_of, file_count, is_at, Entry, Inv, number_is, Shows, is_taken, place_with}
+use Rattle.run_laws.proofs.Vocabulary.{◌≡◌, ◌≢◌, ℕ, suc, ◌+◌, ◌<◌, ◌==◌, Bool, true, false, cond, List, [], ◌∷◌, length, Option, Some, None, refl, sym, ◌∙◌, ap, subst, arith, slice_get, count_by, same_Some, slice_get_within, sum_by-cons, Dinode, hart_count, sum_below, one_if, none_any, one_no, sum_same, FilePlace, Taken, TablesState, owed, references_of, is_file_of, is_directory_of, file_count, is_at, Entry, Inv, number_is, Shows, is_taken, place_with}
 use Rattle.fs_machine.specs.declared.desk.Desk as cards
 use Rattle.inode_machine.specs.World.{World}
+use Rattle.inodes_on_blocks.proofs.Owed.{sum_front, one_cond}
 
 -- ---- sums
-
--- the first term first
-sum_front : (n : ℕ) (f : ℕ → ℕ) → sum_below (suc n) f ≡ f 0 + sum_below n (λ k. f (suc k))
-unfolding sum_below
-sum_front zero f = omega arith
-sum_front (suc n) f = let ih = sum_front n f in omega (arith, ih)
-
-one_cond : (b : Bool) → cond b 1 0 ≡ one_if b
-one_cond true = sym (one_yes true refl)
-one_cond false = sym (one_no false refl)
 
 count_sum : {X : Type 0} (p : X → Bool) (xs : List X) (f : ℕ → ℕ) → ((k : ℕ) (x : X) → slice_get xs k ≡ Some x → one_if (p x) ≡ f k)
     → count_by p xs ≡ sum_below (length xs) f

@@ -1,4 +1,3 @@
-pub mod Lemmas
 pub mod Vocabulary
 pub mod IdleCounts
 pub mod IdleRuns

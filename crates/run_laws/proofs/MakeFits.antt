@@ -1,5 +1,5 @@
 -- What open with CREATE and mkdir ask for fits.
-use Rattle.run_laws.proofs.Vocabulary.{ℕ, ◌==◌, Bool, true, false, if◌then◌else◌, List, [], ◌∷◌, Option, Some, None, refl, Cause, NoEntry, Blocks, Descriptors, Directory, DiskInodes, MemInodes, OpenFiles, Reply, Name, elements, Do, unmarked, Sort, Face, face_or, is_live_face, in_parent, is_refused, mkdir_in, mkdir_on, mkdir_other, mkdir_program, mkdir_refused, mkdir_with, name_directory, create_found, create_in, entered_file, file_for, installs, installed_on, make_on, make_other, make_with, open_at, open_end, open_made, open_new, truncates, unmake, P, is_there, failed, full, done, give_up, tail, stopped, Orphans, Enter, Forget, Install}
+use Rattle.run_laws.proofs.Vocabulary.{ℕ, ◌==◌, Bool, true, false, if◌then◌else◌, List, [], ◌∷◌, Option, Some, None, refl, Cause, NoEntry, Blocks, Descriptors, Directory, DiskInodes, MemInodes, OpenFiles, Reply, Name, elements, Do, unmarked, Sort, Face, face_or, is_live_face, in_parent, is_refused, mkdir_in, mkdir_on, mkdir_other, mkdir_program, mkdir_refused, mkdir_with, name_directory, create_found, create_in, entered_file, file_for, installs, installed_on, make_on, make_other, make_with, open_at, open_end, open_made, open_new, truncates, unmake, P, is_there, failed, full, done, give_up, tail, stopped, Enter, Forget, Install}
 use Rattle.plain_tree.specs.declared.call.Call.TheVariants as calls
 use Rattle.plain_tree.specs.declared.step.Action.TheVariants as actions
 use Rattle.inode_machine.specs.World as above

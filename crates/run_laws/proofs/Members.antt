@@ -1,5 +1,5 @@
 -- A hart's steps open and end its transaction just as the log has it for a member.
-use Rattle.run_laws.proofs.Vocabulary.{◌≡◌, ℕ, zero, suc, Bool, true, false, List, [], ◌∷◌, length, is_some, Option, Some, None, refl, sym, ◌∙◌, ap, ◌↔◌, IsSome, if◌then◌else◌, replicate, slice_get, slice_set, option_map, get_of, SeatState, Got, IsMember, has, joined_count, one_more, with_block, limit_of, turn_is_out, join_waits, Did, Waits, Ran, Stops, RefusedState as Refused, TablesState, file_named, refusal_of, lock_inode, lock_file, settle_inode, up_inode, first_free, take_place, open_file, double_descriptor, shut_descriptor, give_next, LogPart, Outside, Passes, Fails, join_if, got_by, read_block, commit_if, AnswerBelow as Answer, ClaimedState as ClaimResult, JoinedState as JoinResult, Op, in_log, in_tables, joins, join_unless, lock_open, claims, claim_first, up_whom, drop_which, is_joined, has_members, member_at, after_join, recorded_after}
+use Rattle.run_laws.proofs.Vocabulary.{◌≡◌, ℕ, zero, suc, Bool, true, false, List, [], ◌∷◌, length, is_some, Option, Some, None, refl, sym, ◌∙◌, ap, ◌↔◌, IsSome, if◌then◌else◌, replicate, slice_get, slice_set, option_map, get_of, SeatState, Got, IsMember, has, joined_count, one_more, with_block, limit_of, turn_is_out, join_waits, Did, Waits, Ran, Stops, RefusedState as Refused, TablesState, file_named, refusal_of, lock_inode, lock_file, settle_inode, up_inode, first_free, take_place, open_file, double_descriptor, shut_descriptor, give_next, LogPart, Outside, Passes, Fails, join_if, got_by, read_block, commit_if, Op, in_log, in_tables, joins, join_unless, lock_open, claims, claim_first, up_whom, drop_which, is_joined, has_members, member_at, after_join, recorded_after}
 use Rattle.buffer_cache.specs.declared.got.Got.TheVariants as got
 use Rattle.fs_machine.specs.declared.files.OpenFile.{OpenFile}
 use Rattle.fs_machine.specs.declared.files.Want.TheVariants as want

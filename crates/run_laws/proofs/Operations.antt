@@ -1,6 +1,6 @@
 -- Each operation on whole inodes that fits acts at one moment below, within what its call's transactions may record: under the history that is the operations
 -- themselves.
-use Rattle.run_laws.proofs.Vocabulary.{◌<◌, ℕ, Option, Super, hart_count, Uses, Ret, Do, AtomicWithin, P, JoinResult, LoanResult, LockResult, Wrote, Take, Give, UpStart, Up, WalkDown, Down, Free, Forget, Claim, Store, Fill, Enter, Clear, Empty, Slot, Install, StatFile, LockFile, ReadFile, LockOpen, CheckFile, JoinFile, WriteFile, Double, Shut, Settle, Lend, LendDirectory, Release, Join, Leave, Say, ActsOnceAt, HasInodes, HasSpent, recorded_blocks, ActsWithin, ProgramsSpend, Spends, up_acts, up_start_acts, walk_down_acts, down_acts, forget_acts, join_file_acts, join_acts, leave_acts, lend_acts, lend_directory_acts, release_acts, claim_within, enter_within, fill_within, file_acts, open_acts, read_acts, slot_acts, install_acts, double_acts, close_acts, check_acts, say_acts, programs_spend, stat_acts, give_acts, settle_acts, take_acts, acts_within, store_within, clear_within, empty_within, free_within, write_within, handlers, layer, operations, whole_inodes}
+use Rattle.run_laws.proofs.Vocabulary.{◌<◌, ℕ, Option, Super, hart_count, Uses, Ret, Do, AtomicWithin, P, Take, Give, UpStart, Up, WalkDown, Down, Free, Forget, Claim, Store, Fill, Enter, Clear, Empty, Slot, Install, StatFile, LockFile, ReadFile, LockOpen, CheckFile, JoinFile, WriteFile, Double, Shut, Settle, Lend, LendDirectory, Release, Join, Leave, Say, ActsOnceAt, HasInodes, HasSpent, recorded_blocks, ActsWithin, ProgramsSpend, Spends, up_acts, up_start_acts, walk_down_acts, down_acts, forget_acts, join_file_acts, join_acts, leave_acts, lend_acts, lend_directory_acts, release_acts, claim_within, enter_within, fill_within, file_acts, open_acts, read_acts, slot_acts, install_acts, double_acts, close_acts, check_acts, say_acts, programs_spend, stat_acts, give_acts, settle_acts, take_acts, acts_within, store_within, clear_within, empty_within, free_within, write_within, handlers, layer, operations, whole_inodes}
 use Rattle.inode_machine.specs.World as above
 use Rattle.run_laws.proofs.Beside.{within_beside}
 use Rattle.run_laws.proofs.Fits.{AllFitUpTo, Fits}

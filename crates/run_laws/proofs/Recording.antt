@@ -2,6 +2,7 @@
 use Rattle.run_laws.proofs.Vocabulary.{◌≡◌, ◌≤◌, ◌&&◌, ℕ, Bool, true, false, List, [], ◌∷◌, ◌++◌, length, Option, Some, None, if◌then◌else◌, refl, sym, ap, subst, arith, length-append, slice_get, Super, one_if, Open, has, members_with, one_more, with_block, pick, Ret, Do, bind, LogPart, AnswerBelow as Answer, JoinToWrite, Op, Put, inode_block, Spent, size, with_contents, Accounts, IsSpent, recorded_in, used, Acts, NoMore, other_put, spent_put, has_last, put_grows, AreAtMostTen, recorded_after}
 use Rattle.fs_machine.specs.Steps.{Join}
 use Rattle.inodes_on_blocks.specs.Handlers.{P}
+use Rattle.inode_machine.proofs.Budgets.{one_bit}
 
 abbrev pub Recorded : Type 0
 Recorded = Option (List ℕ)
@@ -30,11 +31,6 @@ small_to (Ret a) Q R o stays to = to a o stays
 small_to (Do op m k) Q R o stays to = (stays.0, λ apart a. small_to (k a) Q R (recorded_after op a o) (stays.1 apart a) to)
 
 -- ---- amounts
-
-one_bit : (t : Bool) → one_if t ≤ 1
-unfolding one_if
-one_bit true = let z : 1 ≤ 1 = omega arith in z
-one_bit false = let z : 0 ≤ 1 = omega arith in z
 
 one_less : (t u : Bool) → one_if (t && u) ≤ one_if t
 unfolding one_if

@@ -1,5 +1,5 @@
 -- Each call's steps on the blocks are a run of its program; so a call that ends for want of a block or of an inode has looked everywhere.
-use Rattle.run_laws.proofs.Vocabulary.{◌≡◌, ◌≢◌, ◌⊎◌, inl, inr, ◌<◌, ◌≤◌, ℕ, suc, Bool, true, false, List, [], ◌∷◌, ◌++◌, Option, Some, None, IsSome, refl, sym, ◌∙◌, ap, subst, arith, Super, Full, Blocks, DiskInodes, MemInodes, Reply, Call, Theory, Began, Begins, Refuses, EventOf, FinishedCall, Run, Start, State, Step, all_told, begun, busy_in, fresh, moved, next, run, start_run, step_prog, step_run, step_unless as step_of, told, tried, unchanged, In, Both, Handover, both, lowered, OpWithAnswer, PartOf as P, onto, own, Ret, Do, Did, Ran, Stops, Waits, did_in, Some-inj, changed_tells, Outside, AnswerBelow as Answer, NoInode, Op, dinode_at, place_in_memory, is_zero, inode_block, place_of, program, machine, nothing, P as Above, Mark, Acts, came_to, Carry, handlers, first, World, layer, block_calls, WorldOf, AnsweredStep, ComesTo, SawInUse, SawNone, AreItsOwn, CallsLookEverywhere, IsInUse, IsReferredTo, MadeStep, SeesNoBlock, SeesNoInode, answered, if_ran, step_of_call, step_of_event, step_of_program, steps_made}
+use Rattle.run_laws.proofs.Vocabulary.{◌≡◌, ◌≢◌, ◌⊎◌, inl, inr, ◌<◌, ◌≤◌, ℕ, suc, Bool, true, false, List, [], ◌∷◌, ◌++◌, Option, Some, None, IsSome, refl, sym, ◌∙◌, ap, subst, arith, Super, Full, Blocks, DiskInodes, MemInodes, Reply, Call, Theory, Began, Begins, Refuses, EventOf, FinishedCall, Run, Start, State, Step, all_told, begun, busy_in, fresh, moved, next, run, start_run, step_prog, step_run, step_unless as step_of, told, tried, unchanged, In, Both, Handover, both, lowered, OpWithAnswer, PartOf as P, onto, own, Ret, Do, Did, Ran, Stops, Waits, did_in, Some-inj, changed_tells, Outside, AnswerBelow as Answer, NoInode, Op, dinode_at, place_in_memory, is_zero, inode_block, place_of, program, machine, nothing, P as Above, Acts, came_to, Carry, handlers, first, World, layer, block_calls, WorldOf, AnsweredStep, ComesTo, SawInUse, SawNone, AreItsOwn, CallsLookEverywhere, IsInUse, IsReferredTo, MadeStep, SeesNoBlock, SeesNoInode, answered, if_ran, step_of_call, step_of_event, step_of_program, steps_made}
 use Rattle.plain_tree.specs.declared.answer.Answer.TheVariants as answers
 use Rattle.fs_machine.specs.Steps as steps
 use Rattle.fs_machine.specs.Steps.{Claim}

@@ -1,46 +1,12 @@
 -- What a run's events show of calls is what those of its history do.
-use Rattle.run_laws.proofs.Vocabulary.{◌≡◌, ℕ, List, [], ◌∷◌, refl, ◌∙◌, Super, Reply, Call, Shown, Other, EventOf, Start, Step, OutcomeOf, Started, WasRefused as Refused, WasIdle, DidWait, DidRun, DidEnd, DidStop, WasStopped, Came as CameOf, all_asked, asked, all_by_kind, by_kind, Kind, Outside, shown_by, Refusal, block_calls, block_code, Event, Outcome, came_of, outcome_of, all_shown, events_of, outcomes_of, shown, shown_outcome}
+use Rattle.run_laws.proofs.Vocabulary.{◌≡◌, ℕ, List, [], ◌∷◌, refl, ◌∙◌, Super, Call, EventOf, Start, Step, Started, WasRefused as Refused, WasIdle, DidWait, DidRun, DidEnd, DidStop, WasStopped, Came as CameOf, all_asked, asked, all_by_kind, by_kind, Outside, shown_by, block_calls, block_code, Event, Outcome, all_shown, events_of, outcomes_of, shown}
 use Rattle.hart_core.specs.declared.events.Came.{Came}
 use Rattle.hart_core.specs.declared.events.Came.TheVariants as came
 use Rattle.hart_core.specs.declared.events.Event.TheVariants as event
 use Rattle.hart_core.specs.declared.outcome.Outcome.TheVariants as outcome
 use Rattle.hart_core.specs.declared.outcome.Stop.TheVariants as stop
-use Rattle.hart_core.specs.Events.{event_of}
 use Rattle.run_laws.proofs.Traced.{all_shown_by}
-
-abbrev zipped : List (EventOf Call (Unit {0})) → List (OutcomeOf Kind Reply Refusal) → List Shown
-zipped [] os = []
-zipped (e ∷ es) [] = []
-zipped (e ∷ es) (o ∷ os) = shown_by e o ∷ zipped es os
-
-same_start : (h : ℕ) (call : Call) (o : Outcome) → shown_by {Outside = Unit {0}} {Refusal = Refusal} (Start h call) (outcome_of o) ≡ Other
-same_start h call outcome.Idle = refl
-same_start h call outcome.Waits = refl
-same_start h call (outcome.Ran kind) = refl
-same_start h call (outcome.Done reply) = refl
-same_start h call (outcome.Stopped stop.DeviceFault) = refl
-same_start h call (outcome.Stopped stop.Halted) = refl
-
-same_step : (h : ℕ) (o : Outcome) → shown_by {Outside = Unit {0}} {Refusal = Refusal} (Step h tt) (outcome_of o) ≡ shown_outcome h o
-same_step h outcome.Idle = refl
-same_step h outcome.Waits = refl
-same_step h (outcome.Ran kind) = refl
-same_step h (outcome.Done reply) = refl
-same_step h (outcome.Stopped stop.DeviceFault) = refl
-same_step h (outcome.Stopped stop.Halted) = refl
-
-same_shown : (e : Event) (c : Came) → shown_by (event_of e) (came_of c) ≡ shown e c
-same_shown (event.Start h call) came.Started = refl
-same_shown (event.Start h call) (came.Refused why) = refl
-same_shown (event.Start h call) (came.Stepped o) = same_start h call o
-same_shown (event.Step h) came.Started = refl
-same_shown (event.Step h) (came.Refused why) = refl
-same_shown (event.Step h) (came.Stepped o) = same_step h o
-
-all_same : (es : List Event) (cs : List Came) → zipped (events_of es) (outcomes_of cs) ≡ all_shown es cs
-all_same [] cs = refl
-all_same (e ∷ es) [] = refl
-all_same (e ∷ es) (c ∷ cs) = λ i. same_shown e c i ∷ all_same es cs i
+use Rattle.hart_core.proofs.Histories.{zipped, all_same}
 
 module _ (sizes : Super) where
   -- of which kind an operation was isn't shown

@@ -1,6 +1,6 @@
 -- A call's program ends for want of a room only where one of its operations wanted it, or where a claim gave it an inode that it had
 -- locked; and each name that it enters fits.
-use Rattle.run_laws.proofs.Vocabulary.{◌≡◌, ◌≢◌, ◌⊎◌, inl, inr, ◌≤◌, ◌+◌, ◌-◌, ◌==◌, ◌||◌, ℕ, zero, suc, Bool, true, false, not, if◌then◌else◌, List, [], ◌∷◌, Option, Some, None, length, take, map, filter, refl, sym, ap, arith, length-take, Cause, Exists, NoDirectory, DotName, NoEntry, NotDirectory, NotEmpty, BadDescriptor, Full, Blocks, Descriptors, Directory, DiskInodes, MemInodes, OpenFiles, Reply, Call, Action, piece, piece_count, creates, Name, dot, dotdot, elements, is_absolute, is_empty, pieces, same_name, descriptor_count, eq_is, Ret, Do, unmarked, checked_reply, close_on, dup_on, joined_on, read_on, read_reply, stat_on, stat_reply, write_from, write_piece, write_program, write_reply, wrote_on, Face, OfDirectory, OfFile, Sort, face_or, is_directory_face, is_directory_sort, is_live_face, open_refusal, chdir_at, chdir_program, inherit_end, lend_from, lend_on, bump_refused, clear_name, in_parent, link_at, link_found, link_in, link_name, link_program, link_raise, lower, mkdir_in, mkdir_on, mkdir_other, mkdir_refused, mkdir_with, name_directory, named_on, or_missing, unlink_child, unlink_dots, unlink_found, unlink_in, unlink_named, unlink_other, create_found, create_in, empties, entered_file, file_for, installed_on, installs, make_on, make_other, make_with, open_at, open_end, open_face, open_made, open_new, open_old, opened_reply, take_descriptor, truncates, unmake, NoMemory, NotThere, P, Stop, done, drop, failed, free_all, full, give_up, leave_directory, own_step, say, see_parent, start, start_on, stopped, tail, walk, walk_parent, walk_step, with_last, program, Answer, JoinResult, Joined, Lent, LoanResult, LockResult, LocksIt, Moved, New, NotJoined, NotLocked, Refused, Short, Whole, Wrote, Claim, Double, Empty, Enter, Fill, Forget, Free, Give, Install, Join, Leave, Release, Settle, Store, Up, UpStart, WriteFile, Frees, NameFits, wanted}
+use Rattle.run_laws.proofs.Vocabulary.{◌≡◌, ◌≢◌, ◌⊎◌, inl, inr, ◌≤◌, ◌+◌, ◌-◌, ◌==◌, ◌||◌, ℕ, zero, suc, Bool, true, false, not, if◌then◌else◌, List, [], ◌∷◌, Option, Some, None, take, refl, sym, ap, Cause, Exists, NoDirectory, DotName, NoEntry, NotDirectory, NotEmpty, BadDescriptor, Full, Blocks, Descriptors, Directory, DiskInodes, MemInodes, OpenFiles, Reply, Call, Action, piece, piece_count, creates, Name, dot, dotdot, elements, is_absolute, same_name, descriptor_count, eq_is, Ret, Do, unmarked, checked_reply, close_on, dup_on, joined_on, read_on, read_reply, stat_on, stat_reply, write_from, write_piece, write_program, write_reply, wrote_on, Face, OfDirectory, OfFile, Sort, face_or, is_directory_face, is_directory_sort, is_live_face, open_refusal, chdir_at, chdir_program, inherit_end, lend_from, lend_on, bump_refused, clear_name, in_parent, link_at, link_found, link_in, link_name, link_program, link_raise, lower, mkdir_in, mkdir_on, mkdir_other, mkdir_refused, mkdir_with, name_directory, named_on, or_missing, unlink_child, unlink_dots, unlink_found, unlink_in, unlink_named, unlink_other, create_found, create_in, empties, entered_file, file_for, installed_on, installs, make_on, make_other, make_with, open_at, open_end, open_face, open_made, open_new, open_old, opened_reply, take_descriptor, truncates, unmake, NoMemory, NotThere, P, Stop, done, drop, failed, free_all, full, give_up, leave_directory, own_step, say, see_parent, start, start_on, stopped, tail, walk, walk_parent, walk_step, with_last, program, Answer, JoinResult, Joined, Lent, LoanResult, LockResult, LocksIt, Moved, New, NotJoined, NotLocked, Refused, Short, Whole, Wrote, Claim, Double, Empty, Enter, Fill, Forget, Free, Give, Install, Join, Leave, Release, Settle, Store, Up, UpStart, WriteFile, Frees, NameFits, wanted}
 use Rattle.plain_tree.specs.declared.answer.Answer.TheVariants as answers
 use Rattle.plain_tree.specs.declared.call.Call.TheVariants as calls
 use Rattle.plain_tree.specs.declared.step.Action.TheVariants as actions

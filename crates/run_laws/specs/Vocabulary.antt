@@ -1,11 +1,11 @@
 -- What the crates below call things: the words that this crate's definitions and contracts use.
-pub use Rattle.inodes_on_blocks.specs.Vocabulary.{Answer as AnswerBelow, Both, Claim, Clear, Desk, Did, Do, Double, Empty, Enter, Entry, Fill, Free, Handover, Install, Inv, IsMember, IsNamedPart, Lend, LendDirectory, LockFile, LockOpen, Lower, Machine, Name, Node, Outside, Prog, Put, Ran, ReadFile, Ret, Settle, Short, Shut, Slot, StatFile, Stopped as Refused, Stops, Store, Super, TablesState, Take, Taken, Tree, Up, UpStart, Waits, Whole, World, WriteFile, Wrote, all_slots, bit_of, descriptor_count, dinode_at, entry_of, file_count, go, hart_count, inode_block, joined, option_map, place_of as place_in_memory, tree_in, tree_of}
+pub use Rattle.inodes_on_blocks.specs.Vocabulary.{Answer as AnswerBelow, Both, Claim, Clear, Desk, Did, Do, Double, Empty, Enter, Entry, Fill, Free, Handover, Install, Inv, IsMember, IsNamedPart, Lend, LendDirectory, LockFile, LockOpen, Lower, Machine, Name, Outside, Prog, Put, Ran, ReadFile, Ret, Settle, Short, Shut, Slot, StatFile, Stopped as Refused, Stops, Store, TablesState, Take, Tree, Up, UpStart, Waits, Whole, World, WriteFile, Wrote, all_slots, bit_of, descriptor_count, dinode_at, entry_of, file_count, go, hart_count, inode_block, joined, option_map, place_of as place_in_memory, tree_in, tree_of}
 unfoldable pub use Rattle.inodes_on_blocks.specs.Vocabulary.{one_if, sizes_of}
-pub use Rattle.inode_machine.specs.Vocabulary.{AllHonest, Blocks, Bump, Call, Chdir, Deed, Descriptors, DidEnd, DidRun, DidStop, DidWait, DirectorySlots as Directory, DiskInodes, Dup, Event as EventOf, Explains, FinishedCall, Full, Link, MemInodes, Mkdir, Open, OpenFiles, Outcome, Own, Placed, Refused as WasRefused, Reply, Run, Start, Started, State, Step, Theory, TreeData, Unbump, Unlink, WasIdle, WasStopped, Write, creates, fresh, name_len, next, node_or, outcomes, run}
+pub use Rattle.inode_machine.specs.Vocabulary.{AllHonest, Deed, DidEnd, DidRun, DidStop, DidWait, Event as EventOf, Explains, FinishedCall, Outcome, Own, Refused as WasRefused, Run, Start, Started, State, Step, Theory, TreeData, WasIdle, WasStopped, creates, fresh, name_len, next, node_or, outcomes, run}
 unfoldable pub use Rattle.inode_machine.specs.Vocabulary.{look, sum_below}
 pub use Rattle.calls_on_blocks.specs.Vocabulary.{IsMarked, IsMountable, Leave, P, before, first_world, handlers, lowered_calls}
 unfoldable pub use Rattle.calls_on_blocks.specs.Vocabulary.{exec}
-pub use Rattle.hart_core.specs.Vocabulary.{TracedCall, block_calls, first}
+pub use Rattle.hart_core.specs.Vocabulary.{block_calls, first}
 pub use Rattle.syscalls.specs.Vocabulary.{nothing, program}
 pub use Rattle.hart_core.specs.Harts.{AreIdle, HartsOf, shared_of}
 pub use Rattle.hart_core.specs.Runs.{FoundRoom, HasHistory, IsHistory, IsMounted, NoneClimbs, OneHart, events_of, outcomes_of, trace_in}
@@ -39,3 +39,14 @@ pub use Rattle.inode_machine.specs.Programs.{limit}
 pub use Rattle.inode_machine.specs.Rules.{Honest, May, reference_limit}
 pub use Rattle.inodes_on_blocks.specs.Making.{HasInodes}
 pub use Rattle.inodes_on_blocks.specs.ShownTables.{Shows, loaded}
+pub use Rattle.fs_layout.specs.declared.superblock.Super.{Super}
+pub use Rattle.fs_machine.specs.declared.files.FilePlace.TheVariants.{Taken}
+pub use Rattle.plain_tree.specs.declared.answer.Full.{Full}
+pub use Rattle.plain_tree.specs.declared.answer.Full.TheVariants.{Blocks, Descriptors, Directory, DiskInodes, MemInodes, OpenFiles}
+pub use Rattle.plain_tree.specs.declared.answer.Reply.{Reply}
+pub use Rattle.plain_tree.specs.declared.call.Call.{Call}
+pub use Rattle.plain_tree.specs.declared.call.Call.TheVariants.{Chdir, Dup, Link, Mkdir, Open, Unlink, Write}
+pub use Rattle.plain_tree.specs.declared.node.Node.{Node}
+pub use Rattle.plain_tree.specs.declared.step.Action.TheVariants.{Bump, Unbump}
+pub use Rattle.plain_tree.specs.declared.trace.Placed.{Placed}
+pub use Rattle.plain_tree.specs.declared.trace.TracedCall.{TracedCall}

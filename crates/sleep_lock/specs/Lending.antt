@@ -1,4 +1,4 @@
-use Rattle.sleep_lock.specs.Vocabulary.{Lends, MutBor, Fml, RattleType}
+use Rattle.std.specs.Borrow.{Lends, MutBor, Fml, RattleType}
 use Rattle.sleep_lock.specs.SleepLock.{GuardState}
 use Rattle.sleep_lock.specs.contracts.slot.Guard.{the_row}
 

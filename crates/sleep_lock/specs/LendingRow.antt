@@ -1,5 +1,5 @@
 use Rattle.std.specs.Prelude.{ℕ, List, slice_set}
-use Rattle.sleep_lock.specs.Vocabulary.{Lends, MutBor, Fml, RattleType}
+use Rattle.std.specs.Borrow.{Lends, MutBor, Fml, RattleType}
 use Rattle.sleep_lock.specs.SleepLock.{SlotState}
 use Rattle.sleep_lock.specs.contracts.slot.Slot as slot
 use Rattle.sleep_lock.specs.contracts.row.Slots.{the_row}

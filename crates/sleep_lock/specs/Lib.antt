@@ -1,4 +1,3 @@
-pub mod Vocabulary
 pub mod SleepLock
 pub mod Lending
 pub mod Row

@@ -1,6 +1,6 @@
 -- A slot and its guard.
 use Rattle.std.specs.Prelude.{ℕ, Option, Some, None}
-use Rattle.sleep_lock.specs.Vocabulary.{option_map, option_map_or}
+use Rattle.std.specs.Option.{option_map, option_map_or}
 
 -- a slot: its number, the value where it is in, and the hart that has it where it is out
 pub record SlotState (T : Type 0) : Type 0 where

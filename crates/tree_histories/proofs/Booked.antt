@@ -1,8 +1,9 @@
 -- The list that code keeps goes on as the theory's history does.
-use Rattle.tree_histories.proofs.Vocabulary.{◌≡◌, ◌≢◌, ◌⊎◌, inl, inr, ℕ, zero, suc, ◌+◌, ◌-◌, ◌^◌, ◌<◌, ◌==◌, List, [], ◌∷◌, ◌++◌, replicate, get_or, length, Option, Some, None, refl, sym, ◌∙◌, ap, subst, arith, append_assoc, cases_eq, length_push, length-set, Hint, Reply, Call, Placed, Act, acts_of, ends_at, put, TreeData, hart_count, either, eq_self, eq_not, put_same, put_other, History, HartStanding, entry_of, replies, starts, tells, tells_any, writes, writes_any, Free, Busy, map_length, nothing_yet, IsBook, StandsAs, hint_of, hints_after, hints_of, HasStarted, KeptTree, Under, capped, counted, hart_in, hint_by, more_made, nothing_kept, passed, with_hart, written, written_by}
+use Rattle.tree_histories.proofs.Vocabulary.{◌≡◌, ◌≢◌, ◌⊎◌, inl, inr, ℕ, zero, suc, ◌+◌, ◌-◌, ◌^◌, ◌<◌, ◌==◌, List, [], ◌∷◌, ◌++◌, replicate, get_or, length, Option, Some, None, refl, sym, ◌∙◌, ap, subst, arith, append_assoc, cases_eq, length_push, length-set, Hint, Reply, Call, Placed, Act, acts_of, ends_at, put, TreeData, hart_count, either, eq_self, put_same, put_other, History, HartStanding, entry_of, replies, starts, tells, tells_any, writes, writes_any, Free, Busy, map_length, nothing_yet, IsBook, StandsAs, hint_of, hints_after, hints_of, HasStarted, KeptTree, Under, capped, counted, hart_in, hint_by, more_made, nothing_kept, passed, with_hart, written, written_by}
 use Rattle.std.proofs.Common.{append-nil}
 use Rattle.tree_laws.specs.Moves as moves
 use Rattle.tree_histories.proofs.Harts.{is_hart, other_hart, same_hart}
+use Rattle.tree_laws.proofs.Book.{acts_same}
 
 acts_more : (id : ℕ) (xs : List Placed) (e : Placed) → e.call ≡ id → length (acts_of id (xs ++ e ∷ [])) ≡ length (acts_of id xs) + 1
 unfolding acts_of
@@ -12,16 +13,6 @@ acts_more id (x ∷ xs) e is =
     elim (either (x.call == id)) [
       | inl y ↦ rw (y) (omega (arith, ih))
       | inr n ↦ rw (n) ih
-    ]
-
-acts_same : (id : ℕ) (xs : List Placed) (e : Placed) → e.call ≢ id → acts_of id (xs ++ e ∷ []) ≡ acts_of id xs
-unfolding acts_of
-acts_same id [] e ne = rw (eq_not e.call id ne) refl
-acts_same id (x ∷ xs) e ne =
-    let ih = acts_same id xs e ne in
-    elim (either (x.call == id)) [
-      | inl y ↦ rw (y, ih) refl
-      | inr n ↦ rw (n, ih) refl
     ]
 
 hints_more : (front xs : List Placed) (e : Placed) → hints_after front (xs ++ e ∷ []) ≡ hints_after front xs ++ hint_of (front ++ xs) e ∷ []

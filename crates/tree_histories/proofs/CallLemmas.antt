@@ -1,18 +1,9 @@
 -- What a list has of one call, with one step more or one less.
-use Rattle.tree_histories.proofs.Vocabulary.{◌≡◌, ◌≢◌, ℕ, ◌+◌, ◌-◌, ◌/◌, ◌<◌, nat_lt, true, false, List, [], ◌∷◌, ◌++◌, length, ◌==◌, refl, sym, ◌∙◌, ap, subst, append_assoc, inl, inr, arith, Option, Some, None, if◌then◌else◌, append-nil, cases_Bool, nat_tests, Reply, Call, Write, Link, Action, StepAnswer, Opened, Bytes, Status, NewFd, Done, Failed, NoRoom, TracedCall, is_nothing, is_full, Act, Follows, IsWhole, first_cause, had_room, last_cause, linked, next_of, piece_count, reply_of, IsWritten, Stand, after, is_told, next_from, reply_at, stand_from, stand_of, start, AgreesWith, Fits, IsOfCall, end_of, knows}
+use Rattle.tree_histories.proofs.Vocabulary.{◌≡◌, ◌≢◌, ℕ, ◌+◌, ◌-◌, ◌/◌, ◌<◌, nat_lt, true, false, List, [], ◌∷◌, ◌++◌, length, ◌==◌, refl, sym, ◌∙◌, ap, subst, append_assoc, inl, inr, arith, Option, Some, None, if◌then◌else◌, cases_Bool, nat_tests, Reply, Call, Write, Link, Action, StepAnswer, Opened, Bytes, Status, NewFd, Done, Failed, NoRoom, TracedCall, is_nothing, is_full, Act, Follows, IsWhole, first_cause, had_room, last_cause, linked, next_of, piece_count, reply_of, IsWritten, Stand, after, is_told, next_from, reply_at, stand_from, stand_of, start, AgreesWith, Fits, IsOfCall, end_of, knows}
 use Rattle.plain_tree.specs.Calls.{counted}
 use Rattle.tree_histories.proofs.StandLemmas.{equal_is, equal_not, next_is, stand_cause, stand_count, stand_push}
-
-pub follows_push : (c : Call) (before acts : List Act) (a : Act) → Follows c before acts → next_of c (before ++ acts) ≡ Some a.step → Follows c before (acts ++ a ∷ [])
-unfolding Follows
-follows_push c before [] a f n = (rw (append-nil before) at n, tt)
-follows_push c before (b ∷ bs) a f n = (f.0, follows_push c (before ++ b ∷ []) bs a f.1 (rw (append_assoc before (b ∷ []) bs) n))
-
--- the step that stands there comes next of the ones before it
-pub follows_at : (c : Call) (before acts : List Act) (a : Act) (rest : List Act) → Follows c before (acts ++ a ∷ rest) → next_of c (before ++ acts) ≡ Some a.step
-unfolding Follows
-follows_at c before [] a rest f = rw (append-nil before) f.0
-follows_at c before (b ∷ bs) a rest f = rw (← append_assoc before (b ∷ []) bs) (follows_at c (before ++ b ∷ []) bs a rest f.1)
+pub use Rattle.inode_machine.proofs.Slots.{nothing_is}
+pub use Rattle.plain_tree.proofs.ProgressLemmas.{follows_push, follows_at}
 
 pub follows_front : (c : Call) (before acts rest : List Act) → Follows c before (acts ++ rest) → Follows c before acts
 unfolding Follows
@@ -26,10 +17,6 @@ some_not o x e f = cc
 pub follows_end : (c : Call) (acts rest : List Act) → Follows c [] (acts ++ rest) → next_of c acts ≡ None → rest ≡ []
 follows_end c acts [] f n = refl
 follows_end c acts (a ∷ rest) f n = absurd (some_not (next_of c acts) a.step n (follows_at c [] acts a rest f))
-
-pub nothing_is : {A : Type 0} (o : Option A) → is_nothing o ≡ true → o ≡ None
-nothing_is None e = refl
-nothing_is (Some x) e = absurd cc
 
 pub nothing_was : {A : Type 0} (o : Option A) → o ≡ None → is_nothing o ≡ true
 nothing_was None e = refl

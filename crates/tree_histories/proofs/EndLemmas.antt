@@ -1,14 +1,7 @@
 -- What can still come after a list.
 use Rattle.tree_histories.proofs.Vocabulary.{◌≡◌, ◌≢◌, ℕ, ◌≤◌, true, List, [], ◌∷◌, ◌++◌, refl, sym, ◌∙◌, ap, subst, append_assoc, inl, inr, arith, Option, Some, None, slice_get, append-nil, cases_Bool, cases_eq, Reply, Placed, Trace, TracedCall, Tree, Step, is_nothing, Act, next_of, Leads, AllBelong, Belongs, Chain, IsInTime, IsWritten, Rises, act_of, acts_of, Stand, CanEnd, IsOfCall, end_of}
 use Rattle.tree_histories.proofs.StandLemmas.{acts_none, acts_other, acts_own, push_other, push_own}
-
-rises_more : (low : ℕ) (e : Placed) (es : List Placed) → Rises low (e ∷ es) → (low ≤ e.event) × Rises e.event es
-unfolding Rises
-rises_more low e es h = h
-
-belong_more : (t : Trace) (e : Placed) (es : List Placed) → AllBelong t (e ∷ es) → Belongs t e × AllBelong t es
-unfolding AllBelong
-belong_more t e es h = h
+use Rattle.plain_tree.proofs.CheckLemmas.{rises_more, belong_more}
 
 chain_more : (t u : Tree) (e : Placed) (es : List Placed) → Chain t (e ∷ es) u → (mid : Tree) × Step t e.step e.answer mid × Chain mid es u
 unfolding Chain

@@ -1,13 +1,9 @@
 -- One hart's call in what is kept is put, and what is then seen of all.
-use Rattle.tree_histories.proofs.Vocabulary.{◌≡◌, ◌≢◌, inl, inr, ℕ, zero, suc, ◌<◌, List, [], ◌∷◌, length, get_or, Option, Some, None, refl, sym, ◌∙◌, ap, option_map, get_or-eq_default, cases_lt, put, tree_of, TreeData, put_back, set_put, Stage, call_in, Walk, KeptTree, Under, hart_in, more_made, stage_of, walk_under, walking, with_hart, with_walk, written, written_by, walk_of}
+use Rattle.tree_histories.proofs.Vocabulary.{◌≡◌, ◌≢◌, inl, inr, ℕ, ◌<◌, List, [], ◌∷◌, length, get_or, Option, Some, None, refl, sym, ◌∙◌, ap, option_map, get_or-eq_default, cases_lt, put, tree_of, TreeData, put_back, set_put, Stage, call_in, Walk, KeptTree, Under, hart_in, more_made, stage_of, walk_under, walking, with_hart, with_walk, written, written_by, walk_of}
 use Rattle.std.proofs.Common.{get_or-set_other, get_or-set_same}
 use Rattle.std.proofs.Math.ListN.{set}
 use Rattle.tree_laws.specs.Moves as moves
-
-set_twice : {A : Type 0} (xs : List A) (n : ℕ) (a b : A) → set (set xs n a) n b ≡ set xs n b
-set_twice [] n a b = refl
-set_twice (x ∷ xs) zero a b = refl
-set_twice (x ∷ xs) (suc n) a b = ap (λ ys. x ∷ ys) (set_twice xs n a b)
+use Rattle.plain_tree.proofs.TreeLemmas.{set_twice}
 
 -- a call that was taken out is put back, changed or not
 pub put_twice : (k : KeptTree) (h : ℕ) (o p : Option Under) → with_hart (with_hart k h o) h p ≡ with_hart k h p

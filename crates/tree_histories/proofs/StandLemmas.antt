@@ -1,5 +1,6 @@
 -- How far a call has come, by its steps.
 use Rattle.tree_histories.proofs.Vocabulary.{◌≡◌, ◌≢◌, ℕ, ◌+◌, Bool, true, false, nat_lt, List, [], ◌∷◌, ◌++◌, length, ◌==◌, refl, sym, ◌∙◌, ap, not, inl, inr, arith, Option, Some, None, if◌then◌else◌, append-nil, cases_Bool, nat_tests, Cause, Call, Open, Read, Write, Link, Unlink, Mkdir, Chdir, Dup, Fstat, Close, Inherit, Action, Bump as BumpStep, Enter as EnterStep, Unbump as UnbumpStep, WritePart as WritePartStep, StepAnswer, Opened, Bytes, Status, NewFd, Done, Failed, NoRoom, Placed, act_of, acts_of, has, empty_it, is_nothing, next_where, Act, cause_of, first_cause, if_done, if_failed, last_cause, next_link, next_of, next_open, next_piece, once, piece, piece_count, to_truncate, Stand, after, first_of, link_from, next_from, open_from, opened_file, stand_from, stand_of, start, truncate_from, was_done, was_failed, write_from}
+pub use Rattle.plain_tree.proofs.ProgressLemmas.{acts_append, acts_other}
 
 pub equal_not : (m n : ℕ) → m ≢ n → (m == n) ≡ false
 equal_not m n ne = grind (arith, nat_tests)
@@ -9,21 +10,9 @@ equal_is m n e = grind (arith, nat_tests)
 
 -- What a list has of a call.
 
-pub acts_append : (id : ℕ) (es fs : List Placed) → acts_of id (es ++ fs) ≡ acts_of id es ++ acts_of id fs
-unfolding acts_of
-acts_append id [] fs = refl
-acts_append id (e ∷ es) fs = elim (cases_Bool (e.call == id)) [
-  | inl y ↦ rw (y, acts_append id es fs) refl
-  | inr y ↦ rw (y, acts_append id es fs) refl
-]
-
 pub acts_own : (id : ℕ) (e : Placed) (es : List Placed) → e.call ≡ id → acts_of id (e ∷ es) ≡ act_of e ∷ acts_of id es
 unfolding acts_of
 acts_own id e es h = rw (equal_is e.call id h) refl
-
-pub acts_other : (id : ℕ) (e : Placed) (es : List Placed) → e.call ≢ id → acts_of id (e ∷ es) ≡ acts_of id es
-unfolding acts_of
-acts_other id e es h = rw (equal_not e.call id h) refl
 
 pub acts_none : (id : ℕ) → acts_of id [] ≡ []
 unfolding acts_of

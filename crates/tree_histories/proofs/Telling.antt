@@ -1,5 +1,5 @@
 -- What is told where a call's mark is met: what the move tells.
-use Rattle.tree_histories.proofs.Vocabulary.{◌≡◌, ℕ, ◌<◌, ◌^◌, List, [], ◌∷◌, Option, Some, None, Result, Ok, Err, IfOk, if◌then◌else◌, refl, sym, ◌∙◌, ap, subst, option_map, Action, path_of, refused, Name, Tree, elements, is_absolute, look, put, settle, start_of, tree_of, root, NoMemory, Move, Stage, fail, Begin, Look, Quit, Own, Made, begun, looked, look_made, made_by, Makes, mark_in, Mark, action_in, call_in, Deed, Walk, KeptTree, Under, hart_in, stage_of, walk_under, with_walk, ActedOn, IsActed, MayBegin, MayLook, MayLookOn, MayMake, Tells, TellsOf, new_in, IsNextWalk, IsWalk, is_on_new, step_in, walk_of, walk_on}
+use Rattle.tree_histories.proofs.Vocabulary.{◌≡◌, ℕ, ◌<◌, ◌^◌, List, [], ◌∷◌, Option, Some, None, Result, Ok, Err, IfOk, if◌then◌else◌, refl, sym, ◌∙◌, ap, subst, option_map, Action, path_of, refused, Name, Tree, elements, is_absolute, look, put, settle, start_of, tree_of, root, NoMemory, Move, Stage, Begin, Look, Quit, Own, Made, begun, looked, look_made, made_by, Makes, mark_in, Mark, action_in, call_in, Deed, Walk, KeptTree, Under, hart_in, stage_of, walk_under, with_walk, ActedOn, IsActed, MayBegin, MayLook, MayLookOn, MayMake, Tells, TellsOf, new_in, IsNextWalk, IsWalk, is_on_new, step_in, walk_of, walk_on}
 use Rattle.tree_laws.specs.Moves as moves
 use Rattle.path_walk.specs.declared.asks.Mark.TheVariants as mark
 use Rattle.tree_histories.proofs.Acting.{EndsAs, ends_own, ends_so, refused_same}

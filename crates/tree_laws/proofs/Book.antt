@@ -52,7 +52,7 @@ acts_more id (x ∷ xs) e is =
       | inr n ↦ rw (n, ih) refl
     ]
 
-acts_same : (id : ℕ) (xs : List Placed) (e : Placed) → e.call ≢ id → acts_of id (xs ++ e ∷ []) ≡ acts_of id xs
+pub acts_same : (id : ℕ) (xs : List Placed) (e : Placed) → e.call ≢ id → acts_of id (xs ++ e ∷ []) ≡ acts_of id xs
 unfolding acts_of
 acts_same id [] e ne = rw (eq_not e.call id ne) refl
 acts_same id (x ∷ xs) e ne =

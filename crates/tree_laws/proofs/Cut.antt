@@ -62,7 +62,7 @@ pub finish_list : (r : Option Reply) (b : History) (h : ℕ) → (finishes r h b
 finish_list None b h = refl
 finish_list (Some r) b h = refl
 
-noted_events : (t : Trace) (s : Shown) → (noted t s).events ≡ t.events + 1
+pub noted_events : (t : Trace) (s : Shown) → (noted t s).events ≡ t.events + 1
 noted_events t (Started h c) = refl
 noted_events t (Replied h r) = refl
 noted_events t Other = refl

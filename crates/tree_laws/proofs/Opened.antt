@@ -76,7 +76,7 @@ well_dup t h fd f k lt is =
       ]
     ])
 
-has_it : (t : Tree) (h i id : ℕ) → h < hart_count → i < descriptor_count → t.fds h i ≡ Some id → has_fd t id ≡ true
+pub has_it : (t : Tree) (h i id : ℕ) → h < hart_count → i < descriptor_count → t.fds h i ≡ Some id → has_fd t id ≡ true
 unfolding has_fd
 has_it t h i id lh li is = any_at hart_count (λ h. any_below descriptor_count (λ i. elim (t.fds h i) [ None ↦ false | Some j ↦ j == id ])) h lh
     (any_at descriptor_count (λ i. elim (t.fds h i) [ None ↦ false | Some j ↦ j == id ]) i li (rw is (eq_self id)))

@@ -1,5 +1,5 @@
 -- What this crate's proofs speak of: its own definitions, and what the crates below and the library call things.
-pub use Rattle.plain_tree.proofs.Vocabulary.{Act, Action, Belongs, Bool, Bump, Bytes, Call, Cause, Chdir, ChdirCall, Close, CloseCall, Device, Directory, Done, DotName, Dup, DupCall, Enter, Failed, File, Find, Fstat, FstatCall, Hart, Hold, Inherit, InheritCall, IsInPlace, IsLeastUnused, IsNewNode, IsReached, Kind, Link as LinkCall, List, MayChoose, Mkdir, MkdirCall, Name, NewFd, NoRoom, Node, None, Open, OpenCall, OpenFile, Opened, Option, Placed, Read, ReadCall, Slot, Some, Status, Step, StepAnswer, StepWith, Trace, Tree, TreeData, Truncate, Unbump, Unlink, UnlinkCall, Write as WriteCall, WritePart, [], act_of as act_in, all_slots, and_then, ap, append-nil, append_assoc, arith, at_dir, at_hold, chdir_refusal, child_refusal, closed, creates, descriptor_count, dot, dotdot, drop, drop_hold, elements, emptied, empty_it, enter_hold, enter_refusal, entered, false, fd_names, fd_refusal, file_at, file_names, find_refusal, fresh_hart, hart_count, has, has_room, held, hold_names, if_done, if_failed, if◌then◌else◌, inl, inr, is_absent, is_directory, is_file, is_live, is_nothing, is_open_file, length, live_directory, lowered, lowest, made, makes_node, map, mkdir_refusal, moved, name_taken, nat_lt, nat_tests, new_directory, new_file, next_piece, node_at, node_or, not, not_empty, once, opened_at, opened_in, opened_new, opens_one, or_else, parent, path_of, piece, piece_count, raise_hold, raised, read_write, refl, refused, removed, removed_child, replicate, resolve, resting, root, slots_of, subst, suc, sym, to_truncate, tree_of, true, truncated, unlink_refusal, with_file, with_nodes, write_only, written, written_kind, wrote, zero, ℕ, ◌&&◌, ◌++◌, ◌+◌, ◌-◌, ◌<◌, ◌==◌, ◌||◌, ◌∙◌, ◌∷◌, ◌≡◌, ◌≢◌, ◌≤◌, ◌⊎◌}
+pub use Rattle.plain_tree.proofs.Vocabulary.{Act, Belongs, Bool, IsInPlace, IsLeastUnused, IsNewNode, IsReached, List, MayChoose, Name, None, Option, Some, Step, StepWith, Tree, TreeData, [], act_of as act_in, all_slots, and_then, ap, append-nil, append_assoc, arith, at_dir, at_hold, chdir_refusal, child_refusal, closed, creates, descriptor_count, dot, dotdot, drop, drop_hold, elements, emptied, empty_it, enter_hold, enter_refusal, entered, false, fd_names, fd_refusal, file_at, file_names, find_refusal, fresh_hart, hart_count, has, has_room, held, hold_names, if_done, if_failed, if◌then◌else◌, inl, inr, is_absent, is_directory, is_file, is_live, is_nothing, is_open_file, length, live_directory, lowered, lowest, made, makes_node, map, mkdir_refusal, moved, name_taken, nat_lt, nat_tests, new_directory, new_file, next_piece, node_at, node_or, not, not_empty, once, opened_at, opened_in, opened_new, opens_one, or_else, parent, path_of, piece, piece_count, raise_hold, raised, read_write, refl, refused, removed, removed_child, replicate, resolve, resting, root, slots_of, subst, suc, sym, to_truncate, tree_of, true, truncated, unlink_refusal, with_file, with_nodes, write_only, written, written_kind, wrote, zero, ℕ, ◌&&◌, ◌++◌, ◌+◌, ◌-◌, ◌<◌, ◌==◌, ◌||◌, ◌∙◌, ◌∷◌, ◌≡◌, ◌≢◌, ◌≤◌, ◌⊎◌}
 unfoldable pub use Rattle.plain_tree.proofs.Vocabulary.{AllBelong, Chain, Follows, Rises, acts_of, answer_with, any_below, any_used, cleared, effect_with, entries, file_in, first_cause, first_free, first_slot, follow, had_room, has_fd, is_named, last_cause, look, lowest_from, next_of, pieces, place_of, put, refusal_with, same_name, settle}
 pub use Rattle.tree_laws.specs.Vocabulary.{Explains, NoEntry, Other, Replied, Reply, Shown, Started, call_climbs, follows_path, fresh, noted, start_of, trace_of}
 unfoldable pub use Rattle.tree_laws.specs.Vocabulary.{climbs_in, reply_of}
@@ -26,3 +26,20 @@ pub use Rattle.tree_laws.specs.Actions.{ActionsAreTold}
 pub use Rattle.tree_laws.specs.Examples.{ChdirFinishes, CloseFinishes, DupFinishes, FstatFinishes, InheritFinishes, LinkFinishes, MkdirFinishes, OpenFinishes, ReadFinishes, UnlinkFinishes, WalkerFails, WalkerFailsAtAFile, WalkerStaysFailed, WriteFinishes, asks, changes, closes, doubles, inherits, links, made_again, makes, opens_a, opens_below_a, reads, removed_under, unlinks}
 pub use Rattle.tree_laws.specs.MoveLaws.{Tells, before, of_call}
 unfoldable pub use Rattle.tree_laws.specs.MoveLaws.{in_turn}
+pub use Rattle.plain_tree.specs.declared.answer.Cause.{Cause}
+pub use Rattle.plain_tree.specs.declared.answer.Cause.TheVariants.{DotName}
+pub use Rattle.plain_tree.specs.declared.call.Call.{Call}
+pub use Rattle.plain_tree.specs.declared.call.Call.TheVariants.{Chdir as ChdirCall, Close as CloseCall, Dup as DupCall, Fstat as FstatCall, Inherit as InheritCall, Link as LinkCall, Mkdir as MkdirCall, Open as OpenCall, Read as ReadCall, Unlink as UnlinkCall, Write as WriteCall}
+pub use Rattle.plain_tree.specs.declared.node.Kind.{Kind}
+pub use Rattle.plain_tree.specs.declared.node.Kind.TheVariants.{Device, Directory, File}
+pub use Rattle.plain_tree.specs.declared.node.Node.{Node}
+pub use Rattle.plain_tree.specs.declared.node.Slot.{Slot}
+pub use Rattle.plain_tree.specs.declared.step.Action.{Action}
+pub use Rattle.plain_tree.specs.declared.step.Action.TheVariants.{Bump, Chdir, Close, Dup, Enter, Find, Fstat, Inherit, Mkdir, Open, Read, Truncate, Unbump, Unlink, WritePart}
+pub use Rattle.plain_tree.specs.declared.step.StepAnswer.{StepAnswer}
+pub use Rattle.plain_tree.specs.declared.step.StepAnswer.TheVariants.{Bytes, Done, Failed, Fd as NewFd, Full as NoRoom, Opened, Stat as Status}
+pub use Rattle.plain_tree.specs.declared.trace.Placed.{Placed}
+pub use Rattle.plain_tree.specs.declared.trace.Trace.{Trace}
+pub use Rattle.plain_tree.specs.declared.tree.Hart.{Hart}
+pub use Rattle.plain_tree.specs.declared.tree.Hold.{Hold}
+pub use Rattle.plain_tree.specs.declared.tree.OpenFile.{OpenFile}

@@ -1,5 +1,5 @@
 -- What each action makes of a tree before it settles, and what it answers, where it isn't refused.
-use Rattle.std.specs.Prelude.{◌≡◌, ℕ, List, length, Option, Some, None, if◌then◌else◌}
+use Rattle.std.specs.Prelude.{◌≡◌, ℕ, List, length, Option, None, if◌then◌else◌}
 use Rattle.tree_laws.specs.Vocabulary.{Action, Open, Truncate, Read, WritePart, Find, Bump, Enter, Unbump, Unlink, Mkdir, Chdir, Dup, Close, Fstat, Inherit, StepAnswer, Bytes, NewFd, Done, Name, Tree, put, look, and_then, creates, file_at, part, moved, truncated, wrote, held, at_hold, raise_hold, enter_hold, drop_hold, raised, lowered, removed, made, at_dir, closed, lowest, opened_new, opened_at, opened, stat_answer, effect_with, answer_with}
 
 -- the step makes this tree and gives this answer, whatever its path leads to (res), and its parent with the last element (par)

@@ -1,6 +1,6 @@
 -- What the crates below call things: the words that this crate's definitions and contracts use.
-pub use Rattle.path_walk.specs.Vocabulary.{Action, Call, CallAnswer, Do, Give, Name, P, Reply, Ret, Take, elements, face_or, file_for, piece, stopped, unmarked}
-pub use Rattle.inode_machine.specs.Vocabulary.{Blocks, IsDirectory, MemInodes, NoEntry, creates, dot, dotdot, has, piece_count, piece_len}
+pub use Rattle.path_walk.specs.Vocabulary.{Do, Give, Name, P, Ret, Take, elements, face_or, file_for, piece, stopped, unmarked}
+pub use Rattle.inode_machine.specs.Vocabulary.{creates, dot, dotdot, has, piece_count, piece_len}
 unfoldable pub use Rattle.inode_machine.specs.Vocabulary.{same_name}
 pub use Rattle.path_walk.specs.Asks.{IsNamed, IsNamedInTwo, asks, checked_in, claimed_of, count_in, entered_of, face_of, hears, joined_of, loan_of, mark_at, marked_as, op_in, reply_to, sight_of, sort_of, stepped, turned, wrote_of}
 pub use Rattle.inode_machine.specs.Parts.{done, drop, failed, free_all, free_listed, full, give_up, mends_if_full, own_step, say, tail}
@@ -21,3 +21,9 @@ pub use Rattle.path_walk.specs.declared.walk.Walk.{Walk}
 pub use Rattle.inode_machine.specs.Programs.{program}
 pub use Rattle.inode_machine.specs.World.Mark.{Frees}
 pub use Rattle.path_walk.specs.declared.walk.Goal.{Goal}
+pub use Rattle.plain_tree.specs.declared.answer.Answer.{Answer as CallAnswer}
+pub use Rattle.plain_tree.specs.declared.answer.Cause.TheVariants.{IsDirectory, NoEntry}
+pub use Rattle.plain_tree.specs.declared.answer.Full.TheVariants.{Blocks, MemInodes}
+pub use Rattle.plain_tree.specs.declared.answer.Reply.{Reply}
+pub use Rattle.plain_tree.specs.declared.call.Call.{Call}
+pub use Rattle.plain_tree.specs.declared.step.Action.{Action}

@@ -1,4 +1,4 @@
-use Rattle.calls_on_blocks.proofs.Lemmas.{is_code}
+use Rattle.calls_on_blocks.proofs.Lawful.{is_code}
 use Rattle.calls_on_blocks.proofs.code_is_of_it.Goals as goal
 
 pub returns : goal.returns

@@ -1,5 +1,5 @@
 -- Computed runs in which two harts meet.
-use Rattle.inode_machine.proofs.Lemmas.{walk_fails, walk_fails_still, stays_in_the_removed, links_while_unlinked, raise_is_seen, offset_is_shared, climbs_across}
+use Rattle.inode_machine.proofs.Stories.{walk_fails, walk_fails_still, stays_in_the_removed, links_while_unlinked, raise_is_seen, offset_is_shared, climbs_across}
 use Rattle.inode_machine.proofs.harts_meet.Goals as goal
 
 pub returns-clause-on_the_way : goal.returns-clause-on_the_way

@@ -1,4 +1,6 @@
-use Rattle.inode_machine.proofs.Lemmas.{moving, covered, moves_history}
+use Rattle.inode_machine.proofs.Moving.{moving}
+use Rattle.inode_machine.specs.Histories.{covered}
+use Rattle.inode_machine.proofs.Kept.{moves_history}
 use Rattle.inode_machine.proofs.runs_have_the_history.Goals as goal
 
 pub returns : goal.returns

@@ -1,5 +1,5 @@
 -- A world at rest meets the invariant.
-use Rattle.inode_machine.proofs.Lemmas.{rests, idle_at_rest}
+use Rattle.inode_machine.proofs.Rest.{rests, idle_at_rest}
 use Rattle.inode_machine.proofs.worlds_rest.Goals as goal
 
 pub returns : goal.returns

@@ -1,4 +1,4 @@
-use Rattle.run_laws.proofs.Lemmas.{found_none}
+use Rattle.run_laws.proofs.Answered.{found_none}
 use Rattle.run_laws.proofs.calls_find_none_where_there_is_none.Goals as goal
 
 pub returns : goal.returns

@@ -1,4 +1,4 @@
-use Rattle.run_laws.proofs.Lemmas.{calls_go_on}
+use Rattle.run_laws.proofs.FaithfulRuns.{calls_go_on}
 use Rattle.run_laws.proofs.calls_go_on_as_they_acted.Goals as goal
 
 pub returns : goal.returns

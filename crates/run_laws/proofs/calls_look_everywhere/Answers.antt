@@ -1,4 +1,4 @@
-use Rattle.run_laws.proofs.Lemmas.{look_everywhere}
+use Rattle.run_laws.proofs.Seen.{look_everywhere}
 use Rattle.run_laws.proofs.calls_look_everywhere.Goals as goal
 
 pub returns : goal.returns

@@ -1,4 +1,4 @@
-use Rattle.run_laws.proofs.Lemmas.{calls_few}
+use Rattle.run_laws.proofs.Bounds.{calls_few}
 use Rattle.run_laws.proofs.calls_take_few_steps.Goals as goal
 
 pub returns : goal.returns

@@ -1,4 +1,6 @@
-use Rattle.run_laws.proofs.Lemmas.{take_back, untold, writes_made, writes_short}
+use Rattle.run_laws.proofs.Standing.{take_back}
+use Rattle.run_laws.proofs.Untold.{untold}
+use Rattle.run_laws.proofs.Written.{writes_made, writes_short}
 use Rattle.run_laws.proofs.calls_without_room_take_back.Goals as goal
 
 pub returns-clause-take_back : goal.returns-clause-take_back

@@ -1,4 +1,4 @@
-use Rattle.run_laws.proofs.Lemmas.{idle_harts_have_begun_nothing}
+use Rattle.run_laws.proofs.Idle.{idle_harts_have_begun_nothing}
 use Rattle.run_laws.proofs.idle_harts_have_begun_nothing.Goals as goal
 
 pub returns : goal.returns

@@ -1,4 +1,4 @@
-use Rattle.run_laws.proofs.Lemmas.{none_there}
+use Rattle.run_laws.proofs.Wants.{none_there}
 use Rattle.run_laws.proofs.no_room_only_where_there_is_none.Goals as goal
 
 pub returns : goal.returns

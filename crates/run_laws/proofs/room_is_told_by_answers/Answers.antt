@@ -1,4 +1,4 @@
-use Rattle.run_laws.proofs.Lemmas.{room_told}
+use Rattle.run_laws.proofs.RoomRuns.{room_told}
 use Rattle.run_laws.proofs.room_is_told_by_answers.Goals as goal
 
 pub returns : goal.returns

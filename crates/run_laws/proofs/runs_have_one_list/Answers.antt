@@ -1,4 +1,4 @@
-use Rattle.run_laws.proofs.Lemmas.{runs_have_one_list}
+use Rattle.run_laws.proofs.OneList.{runs_have_one_list}
 use Rattle.run_laws.proofs.runs_have_one_list.Goals as goal
 
 pub returns : goal.returns

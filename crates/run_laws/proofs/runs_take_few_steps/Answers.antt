@@ -1,4 +1,4 @@
-use Rattle.run_laws.proofs.Lemmas.{runs_few}
+use Rattle.run_laws.proofs.Runs.{runs_few}
 use Rattle.run_laws.proofs.runs_take_few_steps.Goals as goal
 
 pub returns : goal.returns

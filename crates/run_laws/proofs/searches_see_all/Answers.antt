@@ -1,4 +1,4 @@
-use Rattle.run_laws.proofs.Lemmas.{all_see, claims_find}
+use Rattle.run_laws.proofs.SearchEnds.{all_see, claims_find}
 use Rattle.run_laws.proofs.searches_see_all.Goals as goal
 
 pub returns-clause-sees_all : goal.returns-clause-sees_all

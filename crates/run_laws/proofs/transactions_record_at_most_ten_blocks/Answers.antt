@@ -1,4 +1,4 @@
-use Rattle.run_laws.proofs.Lemmas.{at_most_ten}
+use Rattle.run_laws.proofs.Transactions.{at_most_ten}
 use Rattle.run_laws.proofs.transactions_record_at_most_ten_blocks.Goals as goal
 
 pub returns : goal.returns

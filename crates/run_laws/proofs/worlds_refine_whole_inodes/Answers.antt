@@ -1,4 +1,4 @@
-use Rattle.run_laws.proofs.Lemmas.{worlds_refine}
+use Rattle.run_laws.proofs.Worlds.{worlds_refine}
 use Rattle.run_laws.proofs.worlds_refine_whole_inodes.Goals as goal
 
 pub returns : goal.returns

@@ -1,4 +1,4 @@
-use Rattle.tree_laws.proofs.Lemmas.{told}
+use Rattle.tree_laws.proofs.Actions.{told}
 use Rattle.tree_laws.proofs.actions_are_told.Goals as goal
 
 pub returns : goal.returns

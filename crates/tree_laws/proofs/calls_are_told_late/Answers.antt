@@ -1,4 +1,6 @@
-use Rattle.tree_laws.proofs.Lemmas.{tree_of, opened, run_ok, opened_ok, NeverClimbs, starts_calm, apart_calm, told_late}
+use Rattle.tree_laws.proofs.Vocabulary.{tree_of, opened}
+use Rattle.tree_laws.proofs.History.{run_ok, opened_ok, NeverClimbs, starts_calm, apart_calm}
+use Rattle.tree_laws.proofs.Told.{told_late}
 use Rattle.tree_laws.proofs.calls_are_told_late.Goals as goal
 
 pub returns : goal.returns

@@ -1,4 +1,4 @@
-use Rattle.tree_laws.proofs.Lemmas.{open_finishes, read_finishes, write_finishes, link_finishes, unlink_finishes, mkdir_finishes, chdir_finishes, dup_finishes, fstat_finishes, close_finishes, inherit_finishes}
+use Rattle.tree_laws.proofs.Finished.{open_finishes, read_finishes, write_finishes, link_finishes, unlink_finishes, mkdir_finishes, chdir_finishes, dup_finishes, fstat_finishes, close_finishes, inherit_finishes}
 use Rattle.tree_laws.proofs.each_call_finishes.Goals as goal
 
 pub returns-clause-open : goal.returns-clause-open

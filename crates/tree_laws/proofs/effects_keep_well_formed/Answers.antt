@@ -1,4 +1,4 @@
-use Rattle.tree_laws.proofs.Lemmas.{in_place, found_map, effect_well}
+use Rattle.tree_laws.proofs.Kept.{in_place, found_map, effect_well}
 use Rattle.tree_laws.proofs.effects_keep_well_formed.Goals as goal
 
 pub returns : goal.returns

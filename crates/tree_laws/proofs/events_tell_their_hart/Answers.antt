@@ -1,4 +1,4 @@
-use Rattle.tree_laws.proofs.Lemmas.{event_tells}
+use Rattle.tree_laws.proofs.Told.{event_tells}
 use Rattle.tree_laws.proofs.events_tell_their_hart.Goals as goal
 
 pub returns : goal.returns

@@ -1,4 +1,4 @@
-use Rattle.tree_laws.proofs.Lemmas.{run_explained, NeverClimbs, starts_calm, apart_calm}
+use Rattle.tree_laws.proofs.History.{run_explained, NeverClimbs, starts_calm, apart_calm}
 use Rattle.tree_laws.proofs.explained.Goals as goal
 
 pub returns : goal.returns

@@ -1,4 +1,4 @@
-use Rattle.tree_laws.proofs.Lemmas.{fresh_well}
+use Rattle.tree_laws.proofs.FreshTree.{fresh_well}
 use Rattle.tree_laws.proofs.fresh_trees_are_well_formed.Goals as goal
 
 pub returns : goal.returns

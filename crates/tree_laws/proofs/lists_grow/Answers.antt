@@ -1,4 +1,4 @@
-use Rattle.tree_laws.proofs.Lemmas.{grows}
+use Rattle.tree_laws.proofs.Cut.{grows}
 use Rattle.tree_laws.proofs.lists_grow.Goals as goal
 
 pub returns : goal.returns

@@ -1,4 +1,5 @@
-use Rattle.tree_laws.proofs.Lemmas.{tree_of, opened, run_ok, opened_ok, NeverClimbs, starts_calm, apart_calm}
+use Rattle.tree_laws.proofs.Vocabulary.{tree_of, opened}
+use Rattle.tree_laws.proofs.History.{run_ok, opened_ok, NeverClimbs, starts_calm, apart_calm}
 use Rattle.tree_laws.proofs.lists_lead_to_the_tree.Goals as goal
 
 pub returns : goal.returns

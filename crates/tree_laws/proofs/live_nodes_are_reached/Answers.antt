@@ -1,4 +1,4 @@
-use Rattle.tree_laws.proofs.Lemmas.{reached}
+use Rattle.tree_laws.proofs.Reached.{reached}
 use Rattle.tree_laws.proofs.live_nodes_are_reached.Goals as goal
 
 pub returns : goal.returns

@@ -1,4 +1,4 @@
-use Rattle.tree_laws.proofs.Lemmas.{new_is_nobodys}
+use Rattle.tree_laws.proofs.Frames.{new_is_nobodys}
 use Rattle.tree_laws.proofs.new_numbers_are_nobodys.Goals as goal
 
 pub returns : goal.returns

@@ -1,4 +1,5 @@
-use Rattle.tree_laws.proofs.Lemmas.{run_explained, IsHart, starts_alone, apart_alone, serial}
+use Rattle.tree_laws.proofs.History.{run_explained, IsHart, starts_alone, apart_alone}
+use Rattle.tree_laws.proofs.Serial.{serial}
 use Rattle.tree_laws.proofs.one_hart_is_explained.Goals as goal
 
 pub returns : goal.returns

@@ -1,4 +1,4 @@
-use Rattle.tree_laws.proofs.Lemmas.{runs_append}
+use Rattle.tree_laws.proofs.Appended.{runs_append}
 use Rattle.tree_laws.proofs.runs_go_on.Goals as goal
 
 pub returns : goal.returns

@@ -1,4 +1,4 @@
-use Rattle.tree_laws.proofs.Lemmas.{step_finds}
+use Rattle.tree_laws.proofs.Frames.{step_finds}
 use Rattle.tree_laws.proofs.steps_leave_finding.Goals as goal
 
 pub returns : goal.returns

@@ -1,4 +1,4 @@
-use Rattle.tree_laws.proofs.Lemmas.{step_frame}
+use Rattle.tree_laws.proofs.Frames.{step_frame}
 use Rattle.tree_laws.proofs.steps_leave_paths.Goals as goal
 
 pub returns : goal.returns

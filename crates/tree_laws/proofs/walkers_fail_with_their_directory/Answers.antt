@@ -1,4 +1,4 @@
-use Rattle.tree_laws.proofs.Lemmas.{walker_fails, walker_stays_failed, walker_fails_at_a_file}
+use Rattle.tree_laws.proofs.Removed.{walker_fails, walker_stays_failed, walker_fails_at_a_file}
 use Rattle.tree_laws.proofs.walkers_fail_with_their_directory.Goals as goal
 
 pub returns-clause-removed : goal.returns-clause-removed

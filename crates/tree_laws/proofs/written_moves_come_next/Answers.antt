@@ -1,4 +1,5 @@
-use Rattle.tree_laws.proofs.Lemmas.{[], played_next, played_end, told_more}
+use Rattle.tree_laws.proofs.Vocabulary.{[]}
+use Rattle.tree_laws.proofs.Told.{played_next, played_end, told_more}
 use Rattle.tree_laws.proofs.written_moves_come_next.Goals as goal
 
 pub returns-clause-next : goal.returns-clause-next

@@ -1,4 +1,4 @@
-use Rattle.bitmap_alloc.proofs.Lemmas.{clears_one}
+use Rattle.bitmap_alloc.proofs.OneBit.{clears_one}
 use Rattle.bitmap_alloc.proofs.laws.clears_one_bit.Goals as goal
 
 pub returns : goal.returns

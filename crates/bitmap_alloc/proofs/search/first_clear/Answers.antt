@@ -1,4 +1,5 @@
-use Rattle.bitmap_alloc.proofs.Lemmas.{arith, all_full, clear_past, clear_there}
+use Rattle.std.proofs.Common.{arith}
+use Rattle.bitmap_alloc.proofs.FirstClear.{all_full, clear_past, clear_there}
 use Rattle.bitmap_alloc.proofs.search.first_clear.Goals as goal
 
 pub returns-then-byte-eq-BLOCK_LEN-clause-first : goal.returns-then-byte-eq-BLOCK_LEN-clause-first

@@ -1,4 +1,4 @@
-use Rattle.bitmap_alloc.proofs.Lemmas.{◌≡◌, ℕ, ◌<◌, get_or}
+use Rattle.std.proofs.Common.{◌≡◌, ℕ, ◌<◌, get_or}
 use Rattle.bitmap_alloc.proofs.search.first_open.Given as goal
 
 abbrev pub invariant-loop-i : goal.invariant-loop-i

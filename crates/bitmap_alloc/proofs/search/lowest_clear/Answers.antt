@@ -1,4 +1,5 @@
-use Rattle.bitmap_alloc.proofs.Lemmas.{◌<◌, ◌+◌, w8, arith, bit_at-trailing_ones}
+use Rattle.std.proofs.Common.{◌<◌, ◌+◌, w8, arith}
+use Rattle.std.proofs.lemmas.Nat.Bits.{bit_at-trailing_ones}
 use Rattle.bitmap_alloc.proofs.search.lowest_clear.Goals as goal
 
 pub returns : goal.returns

@@ -1,4 +1,4 @@
-use Rattle.hart_runner.proofs.Lemmas.{All, take, map, kept_view, IsListed}
+use Rattle.hart_runner.proofs.Vocabulary.{All, take, map, kept_view, IsListed}
 use Rattle.hart_runner.proofs.kernel.first_strange.Given as goal
 
 abbrev pub invariant-loop-i : goal.invariant-loop-i

@@ -1,4 +1,4 @@
-use Rattle.hart_runner.proofs.Lemmas.{◌≡◌, ◌<◌}
+use Rattle.hart_runner.proofs.Vocabulary.{◌≡◌, ◌<◌}
 use Rattle.hart_runner.proofs.kernel.steps.Given as goal
 
 abbrev pub invariant-loop-i : goal.invariant-loop-i

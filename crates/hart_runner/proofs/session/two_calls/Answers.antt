@@ -1,7 +1,8 @@
 use denote.Exit.{no}
 use denote.Param.Send.{param_send, arg_send, shr_send}
 use Rattle.plain_tree.proofs.call.Call.TheSendSync as call
-use Rattle.hart_runner.proofs.Lemmas.{L-row, G-row, four_send, kernel_sync, seat_send}
+use Rattle.hart_runner.specs.contracts.session.two_calls.{L-row, G-row}
+use Rattle.hart_runner.proofs.Sent.{four_send, kernel_sync, seat_send}
 use Rattle.hart_runner.proofs.session.two_calls.Goals as goal
 
 pub join-one-requires-send-F : goal.join-one-requires-send-F

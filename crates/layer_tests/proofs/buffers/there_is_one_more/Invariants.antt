@@ -1,4 +1,4 @@
-use Rattle.layer_tests.proofs.Lemmas.{vec_len}
+use Rattle.std.proofs.Common.{vec_len}
 use Rattle.layer_tests.proofs.buffers.there_is_one_more.Given as goal
 
 abbrev pub decreases-loop-guard : goal.decreases-loop-guard

@@ -1,4 +1,4 @@
-use Rattle.layer_tests.proofs.Lemmas.{◌≡◌, Bool, true, false, Option, Some, None, IsSome, refl}
+use Rattle.fs_machine.proofs.Vocabulary.{◌≡◌, Bool, true, false, Option, Some, None, IsSome, refl}
 use Rattle.layer_tests.proofs.buffers.what_is_recorded_is_seen_and_comes_home.Goals as goal
 
 none_there : {T : Type 0} (o : Option T) (r : Bool) → (IsSome o → r ≡ true) → r ≡ false → o ≡ None

@@ -1,4 +1,4 @@
-use Rattle.layer_tests.proofs.Lemmas.{◌≡◌, length}
+use Rattle.fs_machine.proofs.Vocabulary.{◌≡◌, length}
 use Rattle.layer_tests.proofs.locks.fifty.Given as goal
 
 abbrev pub invariant-loop-number : goal.invariant-loop-number

@@ -1,4 +1,4 @@
-use Rattle.layer_tests.proofs.Lemmas.{◌≡◌, ◌+◌, length}
+use Rattle.fs_machine.proofs.Vocabulary.{◌≡◌, ◌+◌, length}
 use Rattle.layer_tests.proofs.tables.fifty_inodes_are_referred_to.Given as goal
 
 abbrev pub invariant-loop-number : goal.invariant-loop-number

@@ -1,4 +1,5 @@
-use Rattle.layer_tests.proofs.Lemmas.{◌∙◌, ap, sym, IsOut, Inode}
+use Rattle.fs_machine.proofs.Vocabulary.{◌∙◌, ap, sym, IsOut}
+use Rattle.fs_machine.specs.declared.entries.Inode.{Inode}
 use Rattle.layer_tests.proofs.tables.loaded.Goals as goal
 
 pub returns-clause-locked : goal.returns-clause-locked

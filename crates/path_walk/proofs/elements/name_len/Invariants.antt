@@ -1,4 +1,4 @@
-use Rattle.path_walk.proofs.Lemmas.{◌≡◌, ◌≢◌, ℕ, ◌<◌, [], take, drop, get_or, pieces}
+use Rattle.plain_tree.proofs.Vocabulary.{◌≡◌, ◌≢◌, ℕ, ◌<◌, [], take, drop, get_or, pieces}
 use Rattle.path_walk.proofs.elements.name_len.Given as goal
 
 abbrev pub invariant-loop-i : goal.invariant-loop-i

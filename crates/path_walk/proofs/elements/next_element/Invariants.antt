@@ -1,4 +1,4 @@
-use Rattle.path_walk.proofs.Lemmas.{◌≡◌, ◌≤◌, ◌-◌, length, drop, elements}
+use Rattle.plain_tree.proofs.Vocabulary.{◌≡◌, ◌≤◌, ◌-◌, length, drop, elements}
 use Rattle.path_walk.proofs.elements.next_element.Given as goal
 
 abbrev pub invariant-loop-at : goal.invariant-loop-at

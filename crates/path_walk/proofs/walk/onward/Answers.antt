@@ -1,4 +1,4 @@
-use Rattle.path_walk.proofs.Lemmas.{inside_is, parent_is}
+use Rattle.path_walk.proofs.Onward.{inside_is, parent_is}
 use Rattle.path_walk.proofs.walk.onward.Goals as goal
 
 pub returns-in-Inside-Some-clause-goes : goal.returns-in-Inside-Some-clause-goes

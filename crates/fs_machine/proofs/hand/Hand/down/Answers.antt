@@ -1,4 +1,4 @@
-use Rattle.fs_machine.proofs.Lemmas.{◌≡◌, ℕ, Some, None, refl, sym, ap, ◌∙◌, subst, inl, true, Ran, Counts, Dies, Passes, part_of, State, state_of, exec, Honest, HandFits, inode_at, inode_in, with_inode, with_reference, answer_in, dropped_by, inode-there, tables-stay, inode-taken, refers, reference-back, inode-in, number-there, dies_loaded, Inode}
+use Rattle.fs_machine.proofs.Lemmas.{◌≡◌, ℕ, Some, None, refl, sym, ap, ◌∙◌, subst, inl, true, Ran, Counts, Dies, Passes, part_of, state_of, exec, Honest, HandFits, inode_at, inode_in, with_inode, with_reference, answer_in, dropped_by, inode-there, tables-stay, inode-taken, refers, reference-back, inode-in, number-there, dies_loaded, Inode}
 use Rattle.fs_machine.specs.Steps as steps
 use Rattle.fs_machine.proofs.hand.Hand.down.Goals as goal
 

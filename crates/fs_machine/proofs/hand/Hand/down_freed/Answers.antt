@@ -1,4 +1,4 @@
-use Rattle.fs_machine.proofs.Lemmas.{◌≡◌, ℕ, None, refl, sym, ap, ◌∙◌, subst, inl, Ran, Counts, Passes, part_of, State, state_of, exec, Honest, HandFits, answer_in, tables-stay, refers, number-there}
+use Rattle.fs_machine.proofs.Lemmas.{◌≡◌, ℕ, None, refl, sym, ap, ◌∙◌, subst, inl, Ran, Counts, Passes, part_of, state_of, exec, Honest, HandFits, answer_in, tables-stay, refers, number-there}
 use Rattle.fs_machine.specs.Steps as steps
 use Rattle.fs_machine.proofs.hand.Hand.down_freed.Goals as goal
 

@@ -1,4 +1,4 @@
-use Rattle.fs_machine.proofs.Lemmas.{◌≡◌, ℕ, List, [], ◌∷◌, ◌++◌, None, refl, sym, ap, ◌∙◌, subst, inl, Ran, Counts, Keeps, Passes, part_of, State, state_of, exec, Honest, Hand, HandFits, number_at, with_listed, with_seated, answer_in, lists, number-there, seated-again, seated-beside, seats-aside, tables-stay}
+use Rattle.fs_machine.proofs.Lemmas.{◌≡◌, ℕ, List, [], ◌∷◌, ◌++◌, None, refl, sym, ap, ◌∙◌, subst, inl, Ran, Counts, Keeps, Passes, part_of, state_of, exec, Honest, Hand, HandFits, number_at, with_listed, with_seated, answer_in, lists, number-there, seated-again, seated-beside, seats-aside, tables-stay}
 use Rattle.fs_machine.specs.Steps as steps
 use Rattle.fs_machine.proofs.hand.Hand.down_walked.Goals as goal
 

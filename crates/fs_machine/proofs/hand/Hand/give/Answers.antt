@@ -1,4 +1,4 @@
-use Rattle.fs_machine.proofs.Lemmas.{◌≡◌, None, refl, sym, ◌∙◌, subst, inl, Ran, Passes, State, state_of, exec, Honest, HandFits, answer_in, buffer-given, block-there}
+use Rattle.fs_machine.proofs.Lemmas.{◌≡◌, None, refl, sym, ◌∙◌, subst, inl, Ran, Passes, state_of, exec, Honest, HandFits, answer_in, buffer-given, block-there}
 use Rattle.fs_machine.specs.Steps as steps
 use Rattle.fs_machine.proofs.hand.Hand.give.Goals as goal
 

@@ -1,4 +1,4 @@
-use Rattle.fs_machine.proofs.Lemmas.{◌≡◌, ℕ, Some, refl, sym, ap, ◌∙◌, subst, inl, Ran, ItWaits, Passes, part_of, State, state_of, exec, Honest, HandFits, inode_at, inode_in, number_at, with_inode, answer_in, inode-there, inode-taken, inode-in, number-there, Inode, waits}
+use Rattle.fs_machine.proofs.Lemmas.{◌≡◌, ℕ, Some, refl, sym, ap, ◌∙◌, subst, inl, Ran, ItWaits, Passes, part_of, state_of, exec, Honest, HandFits, inode_at, inode_in, number_at, with_inode, answer_in, inode-there, inode-taken, inode-in, number-there, Inode, waits}
 use Rattle.fs_machine.specs.Steps as steps
 use Rattle.fs_machine.specs.declared.op.Op.TheVariants as ops
 use Rattle.fs_machine.proofs.hand.Hand.lock.Goals as goal

@@ -1,4 +1,4 @@
-use Rattle.fs_machine.proofs.Lemmas.{◌≡◌, ℕ, drop, Some, refl, sym, ap, ◌∙◌, subst, inl, Ran, ItWaits, Passes, part_of, State, state_of, exec, Honest, HandFits, first_in, first_listed, inode_at, inode_in, with_first, with_inode, with_listed, answer_in, inode-there, inode-taken, inode-in, lists, refers, Inode, waits}
+use Rattle.fs_machine.proofs.Lemmas.{◌≡◌, ℕ, drop, Some, refl, sym, ap, ◌∙◌, subst, inl, Ran, ItWaits, Passes, part_of, state_of, exec, Honest, HandFits, first_in, first_listed, inode_at, inode_in, with_first, with_inode, with_listed, answer_in, inode-there, inode-taken, inode-in, lists, refers, Inode, waits}
 use Rattle.fs_machine.specs.Steps as steps
 use Rattle.fs_machine.specs.declared.op.Op.TheVariants as ops
 use Rattle.fs_machine.proofs.hand.Hand.lock_listed.Goals as goal

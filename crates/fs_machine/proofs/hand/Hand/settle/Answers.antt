@@ -1,4 +1,4 @@
-use Rattle.fs_machine.proofs.Lemmas.{◌≡◌, ℕ, Some, None, refl, sym, ap, ◌∙◌, subst, inl, Ran, Passes, part_of, State, state_of, exec, Honest, HandFits, number_at, reference_at, with_inode, with_reference, answer_in, inode-given, refers, reference-again, inode-in, number-there, reference-there}
+use Rattle.fs_machine.proofs.Lemmas.{◌≡◌, ℕ, Some, None, refl, sym, ap, ◌∙◌, subst, inl, Ran, Passes, part_of, state_of, exec, Honest, HandFits, number_at, reference_at, with_inode, with_reference, answer_in, inode-given, refers, reference-again, inode-in, number-there, reference-there}
 use Rattle.fs_machine.specs.Steps as steps
 use Rattle.fs_machine.proofs.hand.Hand.settle.Goals as goal
 

@@ -1,4 +1,4 @@
-use Rattle.fs_machine.proofs.Lemmas.{◌≡◌, ℕ, Some, None, refl, sym, ap, ◌∙◌, subst, inl, Ran, Passes, part_of, State, state_of, exec, Honest, HandFits, with_reference, answer_in, tables-stay, refers, reference-back, number-there}
+use Rattle.fs_machine.proofs.Lemmas.{◌≡◌, ℕ, Some, None, refl, sym, ap, ◌∙◌, subst, inl, Ran, Passes, part_of, state_of, exec, Honest, HandFits, with_reference, answer_in, tables-stay, refers, reference-back, number-there}
 use Rattle.fs_machine.specs.Steps as steps
 use Rattle.fs_machine.proofs.hand.Hand.take_descriptor.Goals as goal
 

@@ -1,4 +1,4 @@
-use Rattle.fs_machine.proofs.Lemmas.{◌≡◌, None, refl, sym, ap, ◌∙◌, subst, inl, Ran, Passes, part_of, State, state_of, exec, Honest, HandFits, answer_in, inode-given, inode-in}
+use Rattle.fs_machine.proofs.Lemmas.{◌≡◌, None, refl, sym, ap, ◌∙◌, subst, inl, Ran, Passes, part_of, state_of, exec, Honest, HandFits, answer_in, inode-given, inode-in}
 use Rattle.fs_machine.specs.Steps as steps
 use Rattle.fs_machine.proofs.hand.Hand.unlock.Goals as goal
 

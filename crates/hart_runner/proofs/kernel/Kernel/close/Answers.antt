@@ -1,4 +1,4 @@
-use Rattle.hart_runner.proofs.Lemmas.{one_seat}
+use Rattle.hart_runner.proofs.Listed.{one_seat}
 use Rattle.hart_runner.proofs.kernel.Kernel.close.Goals as goal
 
 pub returns-in-Some-clause-strange : goal.returns-in-Some-clause-strange

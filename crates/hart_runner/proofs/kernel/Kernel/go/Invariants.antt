@@ -1,4 +1,4 @@
-use Rattle.hart_runner.proofs.Lemmas.{◌≡◌}
+use Rattle.hart_runner.proofs.Vocabulary.{◌≡◌}
 use Rattle.hart_runner.proofs.kernel.Kernel.go.Given as goal
 
 abbrev pub invariant-loop : goal.invariant-loop

@@ -1,4 +1,4 @@
-use Rattle.sleep_lock.proofs.Lemmas.{rules, refl, length-append, append_assoc, ◌+◌, ◌≡◌, ap, ◌∙◌, sym, arith, ◌∷◌, [], length, ℕ, common_steps, row_of, filled, numbered_row, row_of-push, length-row_of}
+use Rattle.sleep_lock.proofs.Lemmas.{rules, refl, length-append, append_assoc, ◌+◌, ◌≡◌, ap, ◌∙◌, sym, arith, ◌∷◌, [], length, common_steps, row_of, filled, numbered_row, row_of-push, length-row_of}
 use Rattle.sleep_lock.proofs.row.Slots.new.Goals as goal
 
 pub loop-value-preserved : goal.loop-value-preserved
