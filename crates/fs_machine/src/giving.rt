@@ -6,9 +6,9 @@ ghost use Rattle.fs_machine.specs.Lists.{next_full};
 ghost use Rattle.fs_machine.specs.Files.{descriptors_of};
 
 use crate::desk::Desk;
+use crate::desks::{directory_at, place_at, set_descriptor, set_directory};
 use crate::entries::{Reference, count_up, place_of};
 use crate::limits::DESCRIPTORS;
-use crate::places::{directory_at, place_at, set_descriptor, set_directory};
 use crate::slots::Given;
 use crate::tables::Tables;
 use buffer_cache::HARTS;

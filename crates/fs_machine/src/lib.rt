@@ -11,6 +11,7 @@
 mod control;
 mod descriptors;
 mod desk;
+mod desks;
 mod entries;
 mod fetch;
 mod files;
@@ -24,7 +25,6 @@ mod limits;
 mod listed;
 mod op;
 mod perform;
-mod places;
 mod queue;
 mod retired;
 mod shared;

@@ -1,16 +1,11 @@
 -- What an inode in use holds is seen in its own blocks alone.
 use Rattle.image_tree.proofs.Vocabulary.{◌≡◌, ◌≢◌, ◌⊎◌, inl, inr, ℕ, zero, suc, ◌+◌, ◌/◌, ◌%◌, ◌<◌, ◌≤◌, ◌==◌, nat_lt, ◌&&◌, not, Bool, true, false, if◌then◌else◌, List, [], ◌∷◌, ◌++◌, slice_index, slice_index_or, take, Option, map, refl, ◌∙◌, ap, subst, All, and_parts, Super, Dinode, Dirent, numbers_in, dirent_at, dirents_per_block, dirent_len, recovered, sizes_of, inode_of, is_free, is_directory, is_live, is_node, is_live_directory, direct, numbers_of, block_number, content_block, numbers_by, front_blocks, content_of, blocks_for, slot_at, first_slots, slots_of, IsData, HasGoodNumbers, Directory, File, Device, slot_of, is_file, kind_of}
 use Rattle.image_tree.proofs.Views.{number_at, All-front, kind_used}
-pub use Rattle.image_tree.proofs.Views.{pick, ranged}
+pub use Rattle.image_tree.proofs.Views.{InRange, pick, ranged}
 
 pub not_free : (t : Bool) → not t ≡ true → t ≡ false
 not_free true e = absurd (cc e)
 not_free false e = refl
-
--- inode i can be used
-pub record InRange (s : Super) (i : ℕ) : Type 0 where
-  pub low : 1 ≤ i
-  pub high : i < s.ninodes
 
 -- the numbers of an inode in use are good
 pub Good : List (List ℕ) → Dinode → Type 0

@@ -1,8 +1,19 @@
 -- One lemma for all operations: what a step of one hart leaves to the others, and what still holds.
-use Rattle.inode_machine.proofs.Vocabulary.{◌≡◌, ◌≢◌, ◌⊎◌, inl, inr, ℕ, zero, suc, ◌+◌, ◌<◌, ◌≤◌, Bool, true, false, ◌==◌, ◌||◌, Option, Some, None, refl, sym, ◌∙◌, ap, subst, arith, if◌then◌else◌, OpenFile, hart_count, descriptor_count, Node, put, hold_names, Row, key_names, row_of, holds_raised, sum_below, IsWellFormed, either, or_left, or_right, eq_self, eq_is, eq_not, same_or, look_same, look_live, sum_part, sum_two, sort_of, Walk, Mine, Entry, Note, Desk, World, is_at, child_of, given_of, key_in, Own, Rests, left_or, Stands, shop_of, Shop, IsTied, own_names, Held, view, is_hart, if_kept, own_of, Found, IsReferredTo, IsReached, reference_limit, References, IsAlone, Has, KeepsFiles, HasType, Lends, Inv}
-pub use Rattle.atomic_programs.proofs.Maps.{put_elim, is_put}
+use Rattle.inode_machine.proofs.Vocabulary.{◌≡◌, ◌≢◌, ◌⊎◌, inl, inr, ℕ, zero, suc, ◌+◌, ◌<◌, ◌≤◌, Bool, true, false, ◌==◌, ◌||◌, Option, Some, None, refl, sym, ◌∙◌, ap, subst, arith, if◌then◌else◌, OpenFile, hart_count, descriptor_count, Node, put, hold_names, Row, key_names, row_of, holds_raised, sum_below, IsWellFormed, either, or_left, or_right, eq_self, eq_is, eq_not, same_or, put_same, put_other, look_same, look_live, sum_part, sum_two, sort_of, Walk, Mine, Entry, Note, Desk, World, is_at, child_of, given_of, key_in, Own, Rests, left_or, Stands, shop_of, Shop, IsTied, own_names, Held, view, is_hart, if_kept, own_of, Found, IsReferredTo, IsReached, reference_limit, References, IsAlone, Has, KeepsFiles, HasType, Lends, Inv}
 
 -- Functions changed at one place, and what is kept.
+
+pub put_elim : {A : Type 0} (f : ℕ → A) (k : ℕ) (x : A) (n : ℕ) (P : A → Type 0) → (n ≡ k → P x) → (n ≢ k → P (f n)) → P (put f k x n)
+put_elim f k x n P yes_ no_ = elim (same_or n k) [
+  | inl e ↦ subst (λ z. P (put f k x z)) (sym e) (subst P (sym (put_same f k x)) (yes_ e))
+  | inr ne ↦ subst P (sym (put_other f k x n ne)) (no_ ne)
+]
+
+pub is_put : {A : Type 0} (f g : ℕ → A) (k : ℕ) (x : A) → g k ≡ x → ((n : ℕ) → n ≢ k → g n ≡ f n) → g ≡ put f k x
+is_put {A} f g k x here there = λ i n. each n i
+  where
+    each : (n : ℕ) → g n ≡ put f k x n
+    each n = put_elim f k x n (λ z. g n ≡ z) (λ e. ap g e ∙ here) (λ ne. there n ne)
 
 pub Ours : ℕ → Option ℕ → Type 0
 Ours h o = (g : ℕ) → g ≢ h → o ≢ Some g

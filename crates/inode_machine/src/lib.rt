@@ -14,7 +14,7 @@ ghost use Rattle.inode_machine.specs.Histories.{covered};
 /// For every list of events of any harts, the replies of all eleven calls, with any flags, of pieces and paths of any length,
 /// are those of one list of moves on the tree, each made between its call's start and return, as long as no step found no
 /// room. A move of a call on descriptors, or of an inherit, is a tree step; those of a path are its walk's beginning, its
-/// lookups and the step that acts at the last one, as in the crate tree_moves. At every moment each hart's next operation may
+/// lookups and the step that acts at the last one, as in the crate tree_laws. At every moment each hart's next operation may
 /// be made, an operation waits only for a lock that another hart has, no call takes more steps than its bound, and a hart
 /// without a call has no lock, no transaction, and the references of its descriptors and current directory alone. A hart that
 /// gets another's descriptors starts nothing until it has them all and the directory.

@@ -6,4 +6,4 @@ pub use Rattle.mkfs.proofs.Pieces.{part-of-part}
 pub use Rattle.mkfs.proofs.Places.{block-at, count-there, disk_of, length-disk, log-empty, magic-there, recovered-there, sizes-there}
 pub use Rattle.mkfs.proofs.Ranges.{All-range, blocks-of-range, in-range, range-append, range-once}
 pub use Rattle.mkfs.proofs.RootBytes.{all_entries, entry-there, free_entries, good-entries, length-all, length-root_content, root-bytes}
-pub use Rattle.mkfs.proofs.Shown.{IsRange, Shows, free_inode}
+pub use Rattle.mkfs.proofs.ShownTrees.{IsRange, Shows, free_inode}

@@ -27,7 +27,7 @@ pub mod Ranges
 pub mod Readings
 pub mod Records
 pub mod RootBytes
-pub mod Shown
+pub mod ShownTrees
 pub mod ShownInodes
 pub mod SizeChecks
 pub mod SlotChecks

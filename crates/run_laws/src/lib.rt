@@ -19,8 +19,8 @@ ghost use Rattle.run_laws.specs.Wants.{NoRoomOnlyWhereThereIsNone};
 ghost use Rattle.run_laws.specs.Worlds.{WorldsRefineWholeInodes};
 ghost use Rattle.run_laws.specs.StepBounds.{CallsTakeFewSteps, RunsTakeFewSteps};
 
-use block_device::{Device, Device};
-use hart_core::{World, World};
+use block_device::Device;
+use hart_core::World;
 
 /// Of every list of events of any harts on a mounted disk, with a device that fails at any moment or never: whole operations on inodes,
 /// one after the other, lead from the image's tree to what the blocks show; each finished call's own are a run of its program, with the

@@ -1,6 +1,5 @@
 -- The elements of a path are names that entries can have.
-use Rattle.syscalls.proofs.Vocabulary.{◌≡◌, ◌≢◌, ◌<◌, ◌≤◌, ℕ, zero, suc, true, false, ◌==◌, not, nat_le, nat_lt, List, [], ◌∷◌, ◌++◌, inl, inr, length, take, refl, arith, nat_tests, length-take, list_all, IsName, is_name, is_name_byte, Name, elements, pieces, name_len, either, eq_isnt, eq_not, IsPath}
-use Rattle.inode_machine.proofs.Names.{names_of}
+use Rattle.syscalls.proofs.Vocabulary.{◌≡◌, ◌≢◌, ◌<◌, ◌≤◌, ℕ, zero, suc, true, false, ◌==◌, not, nat_le, nat_lt, List, [], ◌∷◌, ◌++◌, filter, inl, inr, length, map, take, refl, arith, nat_tests, length-take, list_all, IsName, is_name, is_name_byte, Name, elements, is_empty, pieces, name_len, either, eq_isnt, eq_not, IsPath}
 
 abbrev pub AllNames : List Name → Type 0
 AllNames [] = Unit {0}
@@ -53,6 +52,11 @@ is_named e long short t =
 
 name_of : (b : ℕ) (bs : List ℕ) → IsText (b ∷ bs) → is_name (take name_len (b ∷ bs)) ≡ true
 name_of b bs t = is_named (take name_len (b ∷ bs)) (omega arith) (let a = length-take name_len (b ∷ bs) in omega (arith, a)) (text_take name_len (b ∷ bs) t)
+
+names_of : (es : List (List ℕ)) → AllTexts es → AllNames (map (λ e. take name_len e) (filter (λ e. not (is_empty e)) es))
+names_of [] t = tt
+names_of ([] ∷ es) t = names_of es t.1
+names_of ((b ∷ bs) ∷ es) t = (name_of b bs t.0, names_of es t.1)
 
 pub path_names : (path : List ℕ) → IsPath path → AllNames (elements path)
 path_names path is = names_of (pieces [] path) (pieces_text [] path tt is)

@@ -2,8 +2,11 @@
 use Rattle.tree_histories.proofs.Vocabulary.{◌≡◌, ◌≢◌, ℕ, ◌+◌, ◌-◌, ◌/◌, ◌<◌, nat_lt, true, false, List, [], ◌∷◌, ◌++◌, length, ◌==◌, refl, sym, ◌∙◌, ap, subst, append_assoc, inl, inr, arith, Option, Some, None, if◌then◌else◌, cases_Bool, nat_tests, Reply, Call, Write, Link, Action, StepAnswer, Opened, Bytes, Status, NewFd, Done, Failed, NoRoom, TracedCall, is_nothing, is_full, Act, Follows, IsWhole, first_cause, had_room, last_cause, linked, next_of, piece_count, reply_of, IsWritten, Stand, after, is_told, next_from, reply_at, stand_from, stand_of, start, AgreesWith, Fits, IsOfCall, end_of, knows}
 use Rattle.plain_tree.specs.Calls.{counted}
 use Rattle.tree_histories.proofs.StandLemmas.{equal_is, equal_not, next_is, stand_cause, stand_count, stand_push}
-pub use Rattle.inode_machine.proofs.Slots.{nothing_is}
 pub use Rattle.plain_tree.proofs.ProgressLemmas.{follows_push, follows_at}
+
+pub nothing_is : {A : Type 0} (o : Option A) → is_nothing o ≡ true → o ≡ None
+nothing_is None e = refl
+nothing_is (Some x) e = absurd cc
 
 pub follows_front : (c : Call) (before acts rest : List Act) → Follows c before (acts ++ rest) → Follows c before acts
 unfolding Follows

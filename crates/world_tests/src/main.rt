@@ -54,6 +54,3 @@ mod writes;
 
 // `rt test` runs the tests, and nothing else is here to be run.
 fn main() {}
-
-// `rt test` runs the tests, and nothing else is here to be run.
-fn main() {}

@@ -1,7 +1,9 @@
 use denote.Exit.{no}
 use denote.Param.Send.{param_send, arg_send, shr_send}
 use Rattle.plain_tree.proofs.call.Call.TheSendSync as call
-use Rattle.runner_tests.proofs.Lemmas.{five_send, kernel_sync, seat_send, L-row, G-row}
+use Rattle.hart_runner.proofs.Sent.{five_send, kernel_sync}
+use Rattle.console_threads.proofs.Vocabulary.{seat_send}
+use Rattle.runner_tests.specs.contracts.meeting.met.{L-row, G-row}
 use Rattle.runner_tests.proofs.meeting.Flags.TheSendSync as flags
 use Rattle.runner_tests.proofs.meeting.met.Goals as goal
 

@@ -1,6 +1,8 @@
 use denote.RattleType.{RattleType}
 use denote.Param.SendFields.{declared_send}
-use Rattle.runner_tests.proofs.Lemmas.{crosses, Ghosts, four_send, kernel_sync, seat_send}
+use Rattle.console_threads.proofs.Vocabulary.{crosses, seat_send}
+use Rattle.std.specs.declared.sync.ledger.Ledger.{Ghosts}
+use Rattle.hart_runner.proofs.Sent.{four_send, kernel_sync}
 use Rattle.plain_tree.proofs.call.Call.TheSendSync as call
 use denote.Exit.{no}
 use denote.Param.Send.{IsSend, sendable, param_send, arg_send, shr_send}

@@ -1,0 +1,19 @@
+//! Tests of the console that no stored script can be: a device, a script or answers that fail, the bytes of an image, and
+//! short memory. What scripts print is shown by examples/rows/. They stand here, above the crate that they run.
+#![tactic(auto)]
+
+#[cfg(test)]
+mod commits;
+#[cfg(test)]
+mod faults;
+#[cfg(test)]
+mod parts;
+#[cfg(test)]
+mod prompts;
+#[cfg(test)]
+mod scripts;
+#[cfg(test)]
+mod short;
+
+// `rt test` runs the tests, and nothing else is here to be run.
+fn main() {}
