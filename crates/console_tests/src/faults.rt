@@ -3,7 +3,7 @@ use crate::scripts::{disk, is_refused_memory, run};
 use block_device::{Fused, MemoryDisk};
 use console::{ConsoleFault, Session, run_on, run_script, status};
 use hart_core::Stop;
-use image_tree::MountFault;
+use image_tree::{MountFault, tree_of};
 use plain_tree::Tree;
 use script::{Mode, Reason, Schedule};
 use std::alloc::{AllocError, Global};
@@ -63,6 +63,39 @@ fn prints_why_a_call_is_stopped(rt: HostRuntime) -> Result<(), Fail> {
         assert!(rt; out.as_slice() == lines.as_bytes(), "{script}");
     }
     let _disk = session.unmount();
+    Ok(())
+}
+
+// The tree of the image of `mounted_at_last`.
+fn tree_at_first(alloc: Global) -> Result<Tree, Fail> {
+    match tree_of(alloc, &mut disk(alloc, 60, 16)?) {
+        Ok(tree) => Ok(tree),
+        Err(MountFault::NoMemory) => Err(Fail::from(AllocError)),
+        Err(_) => Err(Fail::new("it has no tree")),
+    }
+}
+
+/// Where a call is stopped, the history up to there is printed behind the answers.
+#[test]
+fn tells_the_history_before_a_stop(rt: HostRuntime) -> Result<(), Fail> {
+    let base = tree_at_first(rt.alloc())?;
+    let mut session = mounted_at_last(rt.alloc())?;
+    let mut out = Vec::new(rt.alloc());
+    let ran = run_on(
+        rt.alloc(),
+        &mut session,
+        EXPLAIN,
+        &base,
+        STOPPED.as_bytes(),
+        &mut out,
+    );
+    let _disk = session.unmount();
+    match ran {
+        Err(ConsoleFault::Stopped(Stop::DeviceFault)) => {}
+        Err(ConsoleFault::Memory) => return Err(Fail::from(AllocError)),
+        _ => return Err(Fail::new("it isn't stopped")),
+    }
+    assert!(rt; out.as_slice() == STOPPED_ANSWERS.as_bytes());
     Ok(())
 }
 
@@ -195,6 +228,14 @@ const EXPLAIN: Mode = Mode {
     explain: true,
     check: false,
 };
+
+// The first two calls ask nothing of the device, the third is stopped at its first block.
+const STOPPED: &str = "do 0 fstat 0\ndo 1 dup 3\ndo 0 open / 0\ndo 1 fstat 0\n";
+
+// The third call has acted where its walk began, as one does whose path has no element: at its second step, behind start and join.
+const STOPPED_ANSWERS: &str =
+    "0 fstat failed 6 BadDescriptor\n1 dup failed 6 BadDescriptor\n0 open stopped 31 DeviceFault\n\
+     event 1: 0 fstat 0: failed 6 BadDescriptor\nevent 3: 1 dup 3: failed 6 BadDescriptor\nevent 6: 0 open / 0: fd 0\n";
 
 // Calls without a path, each answered by its second event.
 const SHORT: &str = "0 fstat 0\n1 dup 0\n0 dup 1\nall\n9 dup 0\n";
